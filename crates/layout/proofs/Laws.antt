@@ -1,0 +1,19 @@
+-- The laws of the definitions, from the bottom.
+pub mod Basics
+pub mod Lag
+pub mod Order
+pub mod Closed
+pub mod Source
+pub mod Apart
+pub mod Sum
+pub mod Blanks
+pub mod NewBlocks
+pub mod OneMove
+pub mod Zones
+pub mod Bounds
+pub mod Numbers
+pub mod Home
+pub mod Grown
+pub mod Finish
+pub mod Layout
+pub mod Moving

@@ -1,0 +1,77 @@
+-- The numbers of an array: its zones and their moves, its open stripes, its capacity. Assumes nothing.
+use Prim.Native.Nat.{ℕ, _+_, _-_, _*_, _≤_, _<_}
+use mathlib.Core.Path.{_≡_, sym, ap, _∙_}
+use mathlib.Core.Logic.{inl, inr, _≢_}
+use native.Mathlib.Decide.{ℕ-discrete}
+use native.Mathlib.Omega.{arith}
+use borrow.Author.Tests.{eq-eqb, ne-eqb}
+use Rattle.layout.specs.declared.Geometry.{Geometry}
+use Rattle.layout.specs.Moves.{zones, moveIndex, moveZone, moveStripe}
+use Rattle.layout.specs.Layout.{totalOf, disks, oldBlocks, openStripes, capacity}
+use Rattle.layout.specs.Limits.{Good}
+use Rattle.layout.specs.Theorem.{Numbers}
+use Rattle.layout.proofs.Laws.Basics.{le-or-lt}
+use Rattle.layout.proofs.Laws.Zones.{zone-in, stripe-in, index-in, zones-all, total-zones, total-none}
+
+module _ (g : Geometry) where
+  pub open-all : g .moves ≡ totalOf g → g .stripes ≡ openStripes g
+  unfolding openStripes
+  open-all q = simp (eq-eqb _ _ q)
+
+  pub open-none : g .moves ≢ totalOf g → 0 ≡ openStripes g
+  unfolding openStripes
+  open-none q = simp (ne-eqb _ _ q)
+
+  pub open-le : openStripes g ≤ g .stripes
+  open-le = elim (ℕ-discrete (g .moves) (totalOf g)) [ yes q ↦ omega (arith, open-all q) | no q ↦ omega (arith, open-none q) ]
+
+  capacity-before : g .moves < totalOf g → capacity g ≡ oldBlocks g
+  unfolding capacity
+  capacity-before h = omega (arith, ap (λ x. x * g .new) (open-none (λ q. omega arith)))
+
+  pub capacity-after : 1 ≤ g .old → g .moves ≡ totalOf g → capacity g ≡ g .stripes * (g .old + g .new - 1)
+  unfolding capacity
+  capacity-after p q =
+      let e : g .old - 1 + g .new ≡ g .old + g .new - 1 = omega arith in
+      rw (← open-all q, ← e) (omega arith)
+
+module _ (g : Geometry) (good : Good g) where
+  pub whole-zones : 0 < g .new → zones (g .old) (g .new) (g .stripes) * disks g ≡ g .stripes
+  whole-zones pm = zones-all (g .old) (g .new) (g .stripes) (omega (arith, good .disks .n-low)) (good .groups pm)
+
+  pub total-is : totalOf g ≡ zones (g .old) (g .new) (g .stripes) * g .new * g .old
+  total-is = elim (le-or-lt (g .new) 0) [
+    | inr pm ↦ total-zones (g .old) (g .new) (g .stripes) (omega (arith, good .disks .n-low)) (good .groups pm)
+    | inl z ↦ none (omega arith)
+  ]
+    where
+      none : g .new ≡ 0 → totalOf g ≡ zones (g .old) (g .new) (g .stripes) * g .new * g .old
+      none z = total-none (g .old) (g .new) (g .stripes) z ∙ sym (ap (λ x. zones (g .old) (g .new) (g .stripes) * x * g .old) z ∙ omega arith)
+
+  -- a growth with moves has new disks
+  pub has-new : (k : ℕ) → k < totalOf g → 0 < g .new
+  has-new k h = elim (le-or-lt (g .new) 0) [ inr pm ↦ pm | inl z ↦ absurd (omega (arith, total-none (g .old) (g .new) (g .stripes) (omega arith))) ]
+
+  p0 : 0 < g .old
+  p0 = omega (arith, good .disks .n-low)
+
+  counted : 0 < g .new → (Z p i : ℕ) → Z < zones (g .old) (g .new) (g .stripes) → p < disks g → i < g .old → moveIndex (g .old) (g .new) Z p i < totalOf g
+  counted pm Z p i h hi hl = rw total-is (index-in (g .old) (g .new) p0 pm _ Z p i h hi hl)
+
+  no-more : 0 < g .new → (k : ℕ) → k < totalOf g → moveZone (g .old) (g .new) k < zones (g .old) (g .new) (g .stripes)
+  no-more pm k h = zone-in (g .old) (g .new) p0 pm _ k (rw total-is at h)
+
+  pub inside : 0 < g .new → (k : ℕ) → k < totalOf g → moveStripe (g .old) (g .new) k < g .stripes
+  inside pm k h =
+      rw (whole-zones pm) at (stripe-in (g .old) (g .new) p0 pm (zones (g .old) (g .new) (g .stripes)) k (rw total-is at h))
+
+  pub numbers : Numbers g
+  numbers = record {
+    whole-zones = whole-zones;
+    total-is = total-is;
+    counted = counted;
+    no-more = no-more;
+    inside = inside;
+    capacity-before = capacity-before g;
+    capacity-after = capacity-after g (omega (arith, good .disks .n-low));
+  }

@@ -1,0 +1,176 @@
+-- Demand 2, proved: `theorem`, for every array in the limits. Assumes nothing.
+use Prim.Native.Nat.{ℕ, _+_, _*_, _≤_, _<_}
+use mathlib.Core.Path.{_≡_, refl, sym, ap, ap₂, _∙_}
+use mathlib.Core.Bool.{Bool, true, false, true≢false}
+use mathlib.Core.Logic.{inl, inr, _≢_}
+use native.Mathlib.Omega.{arith}
+use lib.ListN.{length}
+use Rattle.layout.specs.declared.Geometry.{Geometry}
+use Rattle.layout.specs.declared.Role.the-variants.{Data, Parity, Blank}
+use Rattle.layout.specs.declared.Role.{Role}
+use Rattle.layout.specs.Home.{homeStripe}
+use Rattle.layout.specs.Moves.{stands}
+use Rattle.layout.specs.Closed.{diskAt, source, taken}
+use Rattle.layout.specs.Blanks.{blanks, blanksBelow, newBlock}
+use Rattle.layout.specs.Layout.Held.{a-block, the-parity}
+use Rattle.layout.specs.Layout.{Held, disks, totalOf, oldBlocks, capacity, home, layout, grownParity}
+use Rattle.layout.specs.Limits.{Good}
+use Rattle.layout.specs.Theorem.{Placed, Blanked, NextMove, Theorem, blank}
+use Rattle.layout.proofs.Laws.Basics.{le-or-lt}
+use Rattle.layout.proofs.Laws.Order.{ordered}
+use Rattle.layout.proofs.Laws.Closed.{stands-closed, replayed, disk-stays}
+use Rattle.layout.proofs.Laws.Source.{source-lt, taken-disk, stands-there}
+use Rattle.layout.proofs.Laws.Blanks.{blanks-length}
+use Rattle.layout.proofs.Laws.NewBlocks.{Listed, blank-of, blank-at, count-mono}
+use Rattle.layout.proofs.Laws.Zones.{total-none}
+use Rattle.layout.proofs.Laws.Numbers.{open-all, open-none, has-new, inside, numbers}
+use Rattle.layout.proofs.Laws.Home.{ranked}
+use Rattle.layout.proofs.Laws.Grown.{low, owner-old, owner-new, owner-none}
+use Rattle.layout.proofs.Laws.Finish.{none-left}
+use Rattle.layout.proofs.Laws.Layout.{home-full, lawful}
+use Rattle.layout.proofs.Laws.Moving as moving
+
+module _ (g : Geometry) (good : Good g) where
+  pn : 2 ≤ g .old
+  pn = omega (arith, good .disks .n-low)
+
+  -- ---- places and owners
+
+  -- with no new disk no move is done, and the replay is empty
+  replay : (S d : ℕ) → d < g .old → diskAt (g .old) (g .new) (g .moves) S d ≡ stands (g .old) (g .new) (g .moves) S d
+  unfolding stands
+  replay S d l = elim (le-or-lt (g .new) 0) [
+    | inr pm ↦ sym (stands-closed (g .old) (g .new) (omega (arith, pn)) pm (g .moves) S d l)
+    | inl z ↦ (let q : g .moves ≡ 0 = omega (arith, good .moves, total-none (g .old) (g .new) (g .stripes) (omega arith)) in
+        rw q (disk-stays (g .old) (g .new) 0 S d (λ a b. omega arith)))
+  ]
+
+  module _ (S e : ℕ) (hS : S < g .stripes) (he : e < disks g) where
+    by-owner : (r : Role) → layout g .owner S e ≡ r → Held (capacity g) (layout g) S e r
+    by-owner r q = rw q at (lawful g good .held S e hS he)
+
+    owned : (b : ℕ) → layout g .owner S e ≡ Data b → (b < capacity g) × (layout g .place b ≡ record { stripe = S; disk = e })
+    owned b q = go (by-owner (Data b) q)
+      where
+        go : Held (capacity g) (layout g) S e (Data b) → (b < capacity g) × (layout g .place b ≡ record { stripe = S; disk = e })
+        go (a-block b l es ed) = (l, ap₂ (λ s d. record { stripe = s; disk = d }) es ed)
+
+    parity-owned : layout g .owner S e ≡ Parity → layout g .parity S ≡ e
+    parity-owned q = go (by-owner Parity q)
+      where
+        go : Held (capacity g) (layout g) S e Parity → layout g .parity S ≡ e
+        go (the-parity p) = p
+
+  never-shared : (b c : ℕ) → b < capacity g → c < capacity g → layout g .place b ≡ layout g .place c → b ≡ c
+  never-shared b c hb hc q =
+      cc (lawful g good .owner-block b hb, lawful g good .owner-block c hc, ap (λ p. layout g .owner (p .stripe) (p .disk)) q)
+
+  placed : Placed g
+  unfolding grownParity
+  placed = record {
+    replayed = λ b l. low (home g) g b l ∙ ap (λ x. record { stripe = homeStripe (g .old) b; disk = x }) (replay _ _ (home-full g good .lawful .disk-lt b l));
+    parity-replayed = λ S l. replay S _ (home-full g good .lawful .parity-lt S l);
+    stripe-lt = lawful g good .stripe-lt;
+    disk-lt = lawful g good .disk-lt;
+    owner-of-place = lawful g good .owner-block;
+    owned = λ S e b hS he q. owned S e hS he b q .0;
+    place-of-owner = λ S e b hS he q. owned S e hS he b q .1;
+    never-shared = never-shared;
+    parity-lt = lawful g good .parity-lt;
+    owner-of-parity = lawful g good .owner-parity;
+    parity-of-owner = parity-owned;
+  }
+
+  -- ---- blanks
+
+  listed : (S j : ℕ) → j < g .new → Listed (g .old) (g .new) (g .moves) S (disks g) j (blank g S j)
+  unfolding blanks
+  listed S j h = blank-of (g .old) (g .new) (g .moves) S (disks g) j (rw (length-is S) h)
+    where
+      length-is : (S : ℕ) → length (blanksBelow (g .old) (g .new) (g .moves) S (disks g)) ≡ g .new
+      length-is S = unfold blanks in blanks-length (g .old) (g .new) pn (g .moves) S
+
+  rising : (S i j : ℕ) → i < j → j < g .new → blank g S i < blank g S j
+  rising S i j l h = elim (le-or-lt (blank g S j) (blank g S i)) [
+    | inr k ↦ k
+    | inl k ↦ absurd (omega (arith, count-mono (g .old) (g .new) (g .moves) S _ _ k, listed S j h .rank, listed S i (omega arith) .rank))
+  ]
+
+  empty : (S j d : ℕ) → j < g .new → d < g .old → stands (g .old) (g .new) (g .moves) S d ≢ blank g S j
+  empty S j d h l q =
+      let t : taken (g .old) (g .new) (g .moves) S (blank g S j) ≡ true = rw (replay S d l ∙ q) at (taken-disk (g .old) (g .new) pn (g .moves) S d l) in
+      true≢false (sym t ∙ listed S j h .free)
+
+  -- a place that nothing old takes is one of them
+  found : (S e : ℕ) → e < disks g → taken (g .old) (g .new) (g .moves) S e ≡ false → (j : ℕ) × (j < g .new) × (blank g S j ≡ e)
+  unfolding blanks
+  found S e he f =
+      let s = blank-at (g .old) (g .new) (g .moves) S (disks g) e he f in
+      (length (blanksBelow (g .old) (g .new) (g .moves) S e), omega (arith, s .room, blanks-length (g .old) (g .new) pn (g .moves) S), s .there)
+
+  filled : (S e : ℕ) → e < disks g → ((j : ℕ) → j < g .new → blank g S j ≢ e) → (d : ℕ) × (d < g .old) × (stands (g .old) (g .new) (g .moves) S d ≡ e)
+  filled S e he none = go (taken (g .old) (g .new) (g .moves) S e) refl
+    where
+      go : (b : Bool) → taken (g .old) (g .new) (g .moves) S e ≡ b → (d : ℕ) × (d < g .old) × (stands (g .old) (g .new) (g .moves) S d ≡ e)
+      go true q =
+          let l = source-lt (g .old) (g .new) pn S e in
+          (source (g .old) (g .new) S e, l, sym (replay S _ l) ∙ stands-there (g .old) (g .new) pn (g .moves) S e q)
+      go false q = let f = found S e he q in absurd (none (f .0) (f .1) (f .2))
+
+  -- a blank owner is one that nothing old takes
+  free : (S e : ℕ) → S < g .stripes → layout g .owner S e ≡ Blank → taken (g .old) (g .new) (g .moves) S e ≡ false
+  free S e l q = go (taken (g .old) (g .new) (g .moves) S e) refl
+    where
+      go : (b : Bool) → taken (g .old) (g .new) (g .moves) S e ≡ b → taken (g .old) (g .new) (g .moves) S e ≡ false
+      go false p = p
+      go true p = absurd (home-full g good .no-blank S _ l (source-lt _ _ pn S e) (sym (owner-old (home g) g S e p) ∙ q))
+
+  new-block : g .moves ≡ totalOf g → (S j : ℕ) → S < g .stripes → j < g .new → layout g .owner S (blank g S j) ≡ Data (oldBlocks g + (S * g .new + j))
+  unfolding newBlock
+  new-block over S j l h =
+      owner-new (home g) g S (blank g S j) (listed S j h .free) (rw (open-all g over) at l)
+      ∙ ap (λ x. Data (oldBlocks g + (S * g .new + x))) (listed S j h .rank)
+
+  blanked : Blanked g
+  blanked = record {
+    count = blanks-length (g .old) (g .new) pn (g .moves);
+    disk-lt = λ S j h. listed S j h .under;
+    rising = rising;
+    empty = empty;
+    filled = filled;
+    are-blank = λ more S j h. owner-none (home g) g S (blank g S j) (listed S j h .free) (omega (arith, open-none g (λ q. omega arith)));
+    no-other = λ more S e l he q. found S e he (free S e l q);
+    new-block = new-block;
+    none-left = λ over S e l he. none-left (home g) g pn over (home-full g good .no-blank) S e l;
+  }
+
+  -- ---- one move
+
+  next-move : g .moves < totalOf g → NextMove g
+  next-move more =
+      let pm : 0 < g .new = has-new g good (g .moves) more in
+      let i = inside g good pm (g .moves) more in
+      let f = home-full g good in
+      record {
+        block-goes = moving.place-moves (home g) g pn pm f more i;
+        parity-goes = moving.parity-moves (home g) g pn pm f more i;
+        takes = moving.takes (home g) g pn pm f more i;
+        onto-blank = moving.onto-blank (home g) g pn pm f more i;
+        arrives = moving.arrives (home g) g pn pm f more i;
+        kept = λ S e l he other. moving.kept (home g) g pn pm f more i S e other;
+        leaves-blank = moving.leaves-blank (home g) g pn pm f more i;
+        others = λ left S e l he other. moving.others (home g) g pn pm f more i left S e other;
+      }
+
+  -- ---- all of it
+
+  pub theorem : Theorem g
+  theorem = record {
+    ranks = ranked (g .old) pn;
+    order = λ pm. ordered (g .old) (g .new) (omega (arith, pn)) pm;
+    replay = λ pm. replayed (g .old) (g .new) (g .moves) (omega (arith, pn)) pm;
+    numbers = numbers g good;
+    placed = placed;
+    blanked = blanked;
+    next-move = next-move;
+  }

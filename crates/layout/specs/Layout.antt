@@ -1,0 +1,105 @@
+-- The layout of an array: where each block stands, where each stripe's parity stands, and who owns each place.
+use Prim.Native.Nat.{ℕ, _+_, _-_, _*_, _<_}
+use mathlib.Core.Path.{_≡_}
+use mathlib.Core.Bool.{cond}
+use mathlib.Core.Logic.{_≢_}
+use lib.Dec.{ltb, eqb}
+use Rattle.layout.specs.declared.Geometry.{Geometry}
+use Rattle.layout.specs.declared.Place.{Place}
+use Rattle.layout.specs.declared.Role.the-variants.{Data, Parity, Blank}
+use Rattle.layout.specs.declared.Role.{Role}
+use Rattle.layout.specs.Home.{placeAt, homePlace, parityDisk, homeOwner}
+use Rattle.layout.specs.Moves.{total}
+use Rattle.layout.specs.Closed.{diskAt, source, taken}
+use Rattle.layout.specs.Blanks.{newStripe, newDisk, newBlock}
+
+pub record Layout : Type 0 where
+  pub place : ℕ → Place
+  pub parity : ℕ → ℕ
+  pub owner : ℕ → ℕ → Role
+
+-- ---- the numbers of an array
+
+-- N, all its disks
+abbrev pub disks : Geometry → ℕ
+disks g = g .old + g .new
+
+-- the moves of its growth, all of them
+abbrev pub totalOf : Geometry → ℕ
+totalOf g = total (g .old) (g .new) (g .stripes)
+
+-- the same array with t moves done
+abbrev pub at : Geometry → ℕ → Geometry
+at g t = record { old = g .old; new = g .new; stripes = g .stripes; moves = t }
+
+-- the blocks of before the growth: "Capacity T × (n − 1)"
+abbrev pub oldBlocks : Geometry → ℕ
+oldBlocks g = g .stripes * (g .old - 1)
+
+-- the first stripes, whose blanks are new blocks: "Once t is the total", all; before, none
+unfoldable pub openStripes : Geometry → ℕ
+openStripes g = cond (eqb (g .moves) (totalOf g)) (g .stripes) 0
+
+-- "Capacity becomes T × (n + m − 1); before, it stays the old one"
+unfoldable pub capacity : Geometry → ℕ
+capacity g = oldBlocks g + openStripes g * g .new
+
+-- ---- a layout h of the old disks, grown as far as g says
+
+-- what stood at place q of the old disks stands here
+abbrev pub carried : Geometry → Place → Place
+carried g q = placeAt (q .stripe) (diskAt (g .old) (g .new) (g .moves) (q .stripe) (q .disk))
+
+-- new block k, counted from 0
+abbrev pub newPlace : Geometry → ℕ → Place
+newPlace g k = placeAt (newStripe (g .new) k) (newDisk (g .old) (g .new) (g .moves) k)
+
+unfoldable pub grownPlace : Layout → Geometry → ℕ → Place
+grownPlace h g b = cond (ltb b (oldBlocks g)) (carried g (h .place b)) (newPlace g (b - oldBlocks g))
+
+unfoldable pub grownParity : Layout → Geometry → ℕ → ℕ
+grownParity h g S = diskAt (g .old) (g .new) (g .moves) S (h .parity S)
+
+-- a place where nothing of before the growth stands: a new block, or nothing
+unfoldable pub newOwner : Geometry → ℕ → ℕ → Role
+newOwner g S e = cond (ltb S (openStripes g)) (Data (oldBlocks g + newBlock (g .old) (g .new) (g .moves) S e)) Blank
+
+unfoldable pub grownOwner : Layout → Geometry → ℕ → ℕ → Role
+grownOwner h g S e = cond (taken (g .old) (g .new) (g .moves) S e) (h .owner S (source (g .old) (g .new) S e)) (newOwner g S e)
+
+abbrev pub grown : Layout → Geometry → Layout
+grown h g = record { place = grownPlace h g; parity = grownParity h g; owner = grownOwner h g }
+
+-- ---- the array's own
+
+abbrev pub homeLayout : ℕ → Layout
+homeLayout n = record { place = homePlace n; parity = parityDisk n; owner = homeOwner n }
+
+-- before the growth
+abbrev pub home : Geometry → Layout
+home g = homeLayout (g .old)
+
+-- now
+abbrev pub layout : Geometry → Layout
+layout g = grown (home g) g
+
+-- ---- the laws of a layout of N disks and T stripes that has cap blocks
+
+-- what the owner of place (S, e) says stands there
+pub data Held (cap : ℕ) (l : Layout) (S e : ℕ) : Role → Type 0 where
+  a-block : (b : ℕ) → b < cap → l .place b .stripe ≡ S → l .place b .disk ≡ e → Held cap l S e (Data b)
+  the-parity : l .parity S ≡ e → Held cap l S e Parity
+  nothing : Held cap l S e Blank
+
+pub record Lawful (N T cap : ℕ) (l : Layout) : Type 0 where
+  pub stripe-lt : (b : ℕ) → b < cap → l .place b .stripe < T
+  pub disk-lt : (b : ℕ) → b < cap → l .place b .disk < N
+  pub parity-lt : (S : ℕ) → S < T → l .parity S < N
+  pub owner-block : (b : ℕ) → b < cap → l .owner (l .place b .stripe) (l .place b .disk) ≡ Data b
+  pub owner-parity : (S : ℕ) → S < T → l .owner S (l .parity S) ≡ Parity
+  pub held : (S e : ℕ) → S < T → e < N → Held cap l S e (l .owner S e)
+
+-- a layout to grow from: no place of it is blank
+pub record Full (N T : ℕ) (l : Layout) : Type 0 where
+  pub lawful : Lawful N T (T * (N - 1)) l
+  pub no-blank : (S e : ℕ) → S < T → e < N → l .owner S e ≢ Blank

@@ -1,0 +1,149 @@
+-- DEMAND 2: "Every data and parity block stands, after each count of moves from none to all, where the parity-based
+-- migration paper puts it, moves taken in document 01's order, from number to place and from place to number."
+-- `theorem : (g : Geometry) → Good g → Theorem g` of proofs/Theorem.antt proves all of it, for every n, m, T and t in the
+-- limits together, and assumes nothing.
+use Prim.Native.Nat.{ℕ, suc, _+_, _-_, _*_, _%_, _≤_, _<_}
+use mathlib.Core.Path.{_≡_}
+use mathlib.Core.Logic.{_≢_}
+use lib.ListN.{length, getD}
+use Rattle.layout.specs.declared.Geometry.{Geometry}
+use Rattle.layout.specs.declared.Role.the-variants.{Data, Parity, Blank}
+use Rattle.layout.specs.Home.{placeAt, homeStripe, homeDisk, dataDisk, rankOf, parityDisk}
+use Rattle.layout.specs.Moves.{zoneOf, withinZone, zones, moveIndex, moveZone, moveTo, moveLag, moveStripe, moveFrom, carry, stands}
+use Rattle.layout.specs.Closed.{diskAt}
+use Rattle.layout.specs.Blanks.{blanks}
+use Rattle.layout.specs.Layout.{disks, totalOf, at, oldBlocks, capacity, layout}
+
+-- ---- before growth: ranks count the data disks of a stripe from the highest down, skipping parity
+
+pub record Ranks (n : ℕ) : Type 0 where
+  pub disk-lt : (S r : ℕ) → r < n - 1 → dataDisk n S r < n
+  pub skips-parity : (S r : ℕ) → r < n - 1 → dataDisk n S r ≢ parityDisk n S
+  pub falling : (S q r : ℕ) → q < r → r < n - 1 → dataDisk n S r < dataDisk n S q
+  pub none-missed : (S d : ℕ) → d < n → d ≢ parityDisk n S → (rankOf n S d < n - 1) × (dataDisk n S (rankOf n S d) ≡ d)
+
+-- ---- the moves: one for each zone, each p from n to n + m − 1 and each i from 0 to n − 1; zone, then p, then i, rising
+
+pub record Order (n m : ℕ) : Type 0 where
+  -- every index is that of one zone, one p and one i ..
+  pub to-low : (k : ℕ) → n ≤ moveTo n m k
+  pub to-high : (k : ℕ) → moveTo n m k < n + m
+  pub lag-high : (k : ℕ) → moveLag n k < n
+  pub index-of : (k : ℕ) → moveIndex n m (moveZone n m k) (moveTo n m k) (moveLag n k) ≡ k
+  -- .. and every zone, p and i have their index
+  pub zone-of : (Z p i : ℕ) → n ≤ p → p < n + m → i < n → moveZone n m (moveIndex n m Z p i) ≡ Z
+  pub to-of : (Z p i : ℕ) → n ≤ p → p < n + m → i < n → moveTo n m (moveIndex n m Z p i) ≡ p
+  pub lag-of : (Z p i : ℕ) → n ≤ p → p < n + m → i < n → moveLag n (moveIndex n m Z p i) ≡ i
+  -- rising by zone, within a zone by p, with one p by i
+  pub by-zone : (Z Z′ p p′ i i′ : ℕ) → Z < Z′ → p < n + m → n ≤ p′ → i < n → moveIndex n m Z p i < moveIndex n m Z′ p′ i′
+  pub by-to : (Z p p′ i i′ : ℕ) → n ≤ p → p < p′ → i < n → moveIndex n m Z p i < moveIndex n m Z p′ i′
+  pub by-lag : (Z p i i′ : ℕ) → i < i′ → moveIndex n m Z p i < moveIndex n m Z p i′
+  -- a move's stripe is p − i of its zone
+  pub stripe-zone : (k : ℕ) → zoneOf n m (moveStripe n m k) ≡ moveZone n m k
+  pub stripe-within : (k : ℕ) → withinZone n m (moveStripe n m k) + moveLag n k ≡ moveTo n m k
+  -- its old disk is p + Z × m − 2i modulo n, not negative: the number below n that with 2i added is p + Z × m modulo n
+  pub from-lt : (k : ℕ) → moveFrom n m k < n
+  pub from-rule : (k : ℕ) → (moveFrom n m k + 2 * moveLag n k) % n ≡ (moveTo n m k + moveZone n m k * m) % n
+  -- "i = 0 is the parity block", and no other i
+  pub parity-first : (k : ℕ) → moveLag n k ≡ 0 → moveFrom n m k ≡ parityDisk n (moveStripe n m k)
+  pub parity-only : (k : ℕ) → moveFrom n m k ≡ parityDisk n (moveStripe n m k) → moveLag n k ≡ 0
+
+-- ---- the replay of t moves, one by one, is the closed form; a move is done exactly if its index is below t
+
+pub record Replay (n m t : ℕ) : Type 0 where
+  pub closed : (S d : ℕ) → d < n → stands n m t S d ≡ diskAt n m t S d
+  pub done : (k : ℕ) → k < t → stands n m t (moveStripe n m k) (moveFrom n m k) ≡ moveTo n m k
+  pub waiting : (k : ℕ) → t ≤ k → stands n m t (moveStripe n m k) (moveFrom n m k) ≡ moveFrom n m k
+  -- what no move below t leaves stands where it stood
+  pub only : (S d : ℕ) → d < n → ((k : ℕ) → k < t → moveStripe n m k ≡ S → moveFrom n m k ≢ d) → stands n m t S d ≡ d
+
+-- ---- the numbers of an array
+
+pub record Numbers (g : Geometry) : Type 0 where
+  -- the moves below the total are those of the array's zones, n × m each, and stay inside its stripes
+  pub counted : 0 < g .new → (Z p i : ℕ) → Z < zones (g .old) (g .new) (g .stripes) → p < disks g → i < g .old → moveIndex (g .old) (g .new) Z p i < totalOf g
+  pub no-more : 0 < g .new → (k : ℕ) → k < totalOf g → moveZone (g .old) (g .new) k < zones (g .old) (g .new) (g .stripes)
+  pub whole-zones : 0 < g .new → zones (g .old) (g .new) (g .stripes) * disks g ≡ g .stripes
+  pub total-is : totalOf g ≡ zones (g .old) (g .new) (g .stripes) * g .new * g .old
+  pub inside : 0 < g .new → (k : ℕ) → k < totalOf g → moveStripe (g .old) (g .new) k < g .stripes
+  -- "Capacity becomes T × (n + m − 1); before, it stays the old one"
+  pub capacity-before : g .moves < totalOf g → capacity g ≡ g .stripes * (g .old - 1)
+  pub capacity-after : g .moves ≡ totalOf g → capacity g ≡ g .stripes * (g .old + g .new - 1)
+
+-- ---- number to place and place to number, after any count of moves
+
+pub record Placed (g : Geometry) : Type 0 where
+  -- a block of before the growth, and each stripe's parity, stand where the replay of the moves puts them
+  pub replayed : (b : ℕ) → b < oldBlocks g → layout g .place b ≡ placeAt (homeStripe (g .old) b) (stands (g .old) (g .new) (g .moves) (homeStripe (g .old) b) (homeDisk (g .old) b))
+  pub parity-replayed : (S : ℕ) → S < g .stripes → layout g .parity S ≡ stands (g .old) (g .new) (g .moves) S (parityDisk (g .old) S)
+  -- every block has its place ..
+  pub stripe-lt : (b : ℕ) → b < capacity g → layout g .place b .stripe < g .stripes
+  pub disk-lt : (b : ℕ) → b < capacity g → layout g .place b .disk < disks g
+  pub owner-of-place : (b : ℕ) → b < capacity g → layout g .owner (layout g .place b .stripe) (layout g .place b .disk) ≡ Data b
+  -- .. and a place that a block owns is that block's
+  pub owned : (S e b : ℕ) → S < g .stripes → e < disks g → layout g .owner S e ≡ Data b → b < capacity g
+  pub place-of-owner : (S e b : ℕ) → S < g .stripes → e < disks g → layout g .owner S e ≡ Data b → layout g .place b ≡ placeAt S e
+  pub never-shared : (b c : ℕ) → b < capacity g → c < capacity g → layout g .place b ≡ layout g .place c → b ≡ c
+  -- the parity of a stripe stands on exactly one disk
+  pub parity-lt : (S : ℕ) → S < g .stripes → layout g .parity S < disks g
+  pub owner-of-parity : (S : ℕ) → S < g .stripes → layout g .owner S (layout g .parity S) ≡ Parity
+  pub parity-of-owner : (S e : ℕ) → S < g .stripes → e < disks g → layout g .owner S e ≡ Parity → layout g .parity S ≡ e
+
+-- ---- the blanks of a stripe: m at every count of moves; at the total they are the new blocks, in order
+
+abbrev pub blank : Geometry → ℕ → ℕ → ℕ
+blank g S j = getD (blanks (g .old) (g .new) (g .moves) S) j 0
+
+pub record Blanked (g : Geometry) : Type 0 where
+  pub count : (S : ℕ) → length (blanks (g .old) (g .new) (g .moves) S) ≡ g .new
+  pub disk-lt : (S j : ℕ) → j < g .new → blank g S j < disks g
+  -- counted from the lowest disk
+  pub rising : (S i j : ℕ) → i < j → j < g .new → blank g S i < blank g S j
+  -- "A place with no block is blank": nothing of before the growth stands on them, and on every other disk something does
+  pub empty : (S j d : ℕ) → j < g .new → d < g .old → stands (g .old) (g .new) (g .moves) S d ≢ blank g S j
+  pub filled : (S e : ℕ) → e < disks g → ((j : ℕ) → j < g .new → blank g S j ≢ e) → (d : ℕ) × (d < g .old) × (stands (g .old) (g .new) (g .moves) S d ≡ e)
+  -- while moves are left their owner is nobody, and no other place has that owner
+  pub are-blank : g .moves < totalOf g → (S j : ℕ) → j < g .new → layout g .owner S (blank g S j) ≡ Blank
+  pub no-other : g .moves < totalOf g → (S e : ℕ) → S < g .stripes → e < disks g → layout g .owner S e ≡ Blank → (j : ℕ) × (j < g .new) × (blank g S j ≡ e)
+  -- at the total they are the new blocks, in order, and no place is blank
+  pub new-block : g .moves ≡ totalOf g → (S j : ℕ) → S < g .stripes → j < g .new → layout g .owner S (blank g S j) ≡ Data (g .stripes * (g .old - 1) + (S * g .new + j))
+  pub none-left : g .moves ≡ totalOf g → (S e : ℕ) → S < g .stripes → e < disks g → layout g .owner S e ≢ Blank
+
+-- ---- one move: a block or parity, never a blank, to a place that was blank, in its stripe; no other owner changes
+
+module _ (g : Geometry) where
+  abbrev pub stripe : ℕ
+  stripe = moveStripe (g .old) (g .new) (g .moves)
+
+  abbrev pub from : ℕ
+  from = moveFrom (g .old) (g .new) (g .moves)
+
+  abbrev pub to : ℕ
+  to = moveTo (g .old) (g .new) (g .moves)
+
+  abbrev pub after : Geometry
+  after = at g (suc (g .moves))
+
+pub record NextMove (g : Geometry) : Type 0 where
+  -- a block stays in its stripe; it and the parity go just as the move carries them
+  pub block-goes : (b : ℕ) → b < capacity g → layout (after g) .place b ≡ placeAt (layout g .place b .stripe) (carry (g .old) (g .new) (g .moves) (layout g .place b .stripe) (layout g .place b .disk))
+  pub parity-goes : (S : ℕ) → S < g .stripes → layout (after g) .parity S ≡ carry (g .old) (g .new) (g .moves) S (layout g .parity S)
+  pub takes : layout g .owner (stripe g) (from g) ≢ Blank
+  pub onto-blank : layout g .owner (stripe g) (to g) ≡ Blank
+  pub arrives : layout (after g) .owner (stripe g) (to g) ≡ layout g .owner (stripe g) (from g)
+  -- every other place that is not blank keeps its owner, at the last move too
+  pub kept : (S e : ℕ) → S < g .stripes → e < disks g → (stripe g ≡ S → (e ≢ from g) × (e ≢ to g)) → layout g .owner S e ≢ Blank → layout (after g) .owner S e ≡ layout g .owner S e
+  -- and unless it is the last one (then the blanks are the new blocks) the place left is blank, and so is what was
+  pub leaves-blank : suc (g .moves) < totalOf g → layout (after g) .owner (stripe g) (from g) ≡ Blank
+  pub others : suc (g .moves) < totalOf g → (S e : ℕ) → S < g .stripes → e < disks g → (stripe g ≡ S → (e ≢ from g) × (e ≢ to g)) → layout (after g) .owner S e ≡ layout g .owner S e
+
+-- ---- all of it
+
+pub record Theorem (g : Geometry) : Type 0 where
+  pub ranks : Ranks (g .old)
+  pub order : 0 < g .new → Order (g .old) (g .new)
+  pub replay : 0 < g .new → Replay (g .old) (g .new) (g .moves)
+  pub numbers : Numbers g
+  pub placed : Placed g
+  pub blanked : Blanked g
+  pub next-move : g .moves < totalOf g → NextMove g

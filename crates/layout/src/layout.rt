@@ -1,0 +1,123 @@
+// The layout of the whole array: its numbers, places and owners.
+ghost use Prim.Native.Nat.{_<_, _*_};
+ghost use mathlib.Core.Path.{_≡_};
+ghost use Rattle.layout.specs.Layout.{disks, totalOf, oldBlocks, openStripes, capacity, carried, newPlace, newOwner, layout};
+ghost use Rattle.layout.specs.Limits.{Apart, Good};
+use crate::Geometry;
+use crate::Place;
+use crate::Role;
+use crate::Stripe;
+use crate::blanks::blanks_below;
+use crate::blanks::is_blank;
+use crate::blanks::nth_blank;
+use crate::closed::disk_at;
+use crate::closed::source_of;
+use crate::closed::stripe_of;
+use crate::home::home_owner;
+use crate::home::home_place;
+
+// The moves of the growth.
+pub fn total_of(g: Geometry) -> u64
+    requires { ⌜ Good g ⌝ }
+    ensures { λ r. ⌜ r ≡ totalOf g ⌝ }
+{
+    let n = g.old;
+    let m = g.new;
+    g.stripes * n * m / (n + m)
+}
+
+fn old_blocks(g: Geometry) -> u64
+    requires { ⌜ Good g ⌝ }
+    ensures { λ r. ⌜ r ≡ oldBlocks g ⌝ }
+{
+    g.stripes * (g.old - 1)
+}
+
+// The stripes whose blanks are new blocks.
+fn open_stripes(g: Geometry) -> u64
+    requires { ⌜ Good g ⌝ }
+    ensures { λ r. ⌜ r ≡ openStripes g ⌝ }
+{
+    if g.moves == total_of(g) { g.stripes } else { 0 }
+}
+
+// The number of blocks.
+pub fn capacity_of(g: Geometry) -> u64
+    requires { ⌜ Good g ⌝ }
+    ensures { λ r. ⌜ r ≡ capacity g ⌝ }
+{
+    old_blocks(g) + open_stripes(g) * g.new
+}
+
+// Where what stood at place q of the old disks stands now.
+fn carried_place(g: Geometry, q: Place) -> Place
+    requires { ⌜ Good g × (q .stripe < g .stripes) × (q .disk < g .old) ⌝ }
+    ensures { λ r. ⌜ r ≡ carried g q ⌝ }
+{
+    let x = stripe_of(g.old, g.new, q.stripe);
+    Place {
+        stripe: q.stripe,
+        disk: disk_at(g.old, g.new, g.moves, x, q.disk),
+    }
+}
+
+// Where new block k stands, counted from 0.
+fn new_place(g: Geometry, k: u64) -> Place
+    requires { ⌜ Good g × (k < openStripes g * g .new) ⌝ }
+    ensures { λ r. ⌜ r ≡ newPlace g k ⌝ }
+{
+    let m = g.new;
+    let s = k / m;
+    let x = stripe_of(g.old, m, s);
+    Place {
+        stripe: s,
+        disk: nth_blank(g.old, m, g.moves, x, k % m),
+    }
+}
+
+// Where block b stands.
+pub fn place_of(g: Geometry, b: u64) -> Place
+    requires { ⌜ Good g × (b < capacity g) ⌝ }
+    ensures { λ r. ⌜ r ≡ layout g .place b ⌝ }
+{
+    let old = old_blocks(g);
+    if b < old {
+        carried_place(g, home_place(g.old, b))
+    } else {
+        new_place(g, b - old)
+    }
+}
+
+// The disk on which the parity of stripe s stands.
+pub fn parity_of(g: Geometry, s: u64) -> u64
+    requires { ⌜ Good g × (s < g .stripes) ⌝ }
+    ensures { λ r. ⌜ r ≡ layout g .parity s ⌝ }
+{
+    let x = stripe_of(g.old, g.new, s);
+    disk_at(g.old, g.new, g.moves, x, x.parity)
+}
+
+// What disk e of stripe x holds if nothing of before the growth stands there.
+fn new_owner(g: Geometry, x: Stripe, e: u64) -> Role
+    requires { ⌜ Good g × Apart (g .old) (g .new) x × (x .number < g .stripes) × (e < disks g) ⌝ }
+    ensures { λ r. ⌜ r ≡ newOwner g (x .number) e ⌝ }
+{
+    let s = x.number;
+    if s < open_stripes(g) {
+        Role::Data(old_blocks(g) + (s * g.new + blanks_below(g.old, g.new, g.moves, x, e)))
+    } else {
+        Role::Blank
+    }
+}
+
+// What disk e of stripe s holds.
+pub fn owner_of(g: Geometry, s: u64, e: u64) -> Role
+    requires { ⌜ Good g × (s < g .stripes) × (e < disks g) ⌝ }
+    ensures { λ r. ⌜ r ≡ layout g .owner s e ⌝ }
+{
+    let x = stripe_of(g.old, g.new, s);
+    if is_blank(g.old, g.new, g.moves, x, e) {
+        return new_owner(g, x, e);
+    }
+    home_owner(g.old, x.parity, s, source_of(g.old, g.new, x, e))
+}

@@ -1,0 +1,54 @@
+// The layout of a growing RAID-5 array: who stands where after t moves, and which move comes next.
+// Numbers only. Letters: n old disks, m new disks, t moves done, s a stripe, d and e disks, b a
+// block, k a move's index. Contracts cite the definitions of specs/, which follow document 01.
+mod blanks;
+mod closed;
+mod home;
+mod layout;
+mod moves;
+
+pub use home::home_place;
+pub use layout::capacity_of;
+pub use layout::owner_of;
+pub use layout::parity_of;
+pub use layout::place_of;
+pub use layout::total_of;
+pub use moves::move_of;
+
+// Block `stripe` of disk `disk`.
+pub struct Place {
+    pub stripe: u64,
+    pub disk: u64,
+}
+
+// What a place holds: a block by its number, its stripe's parity, or nothing.
+pub enum Role {
+    Data(u64),
+    Parity,
+    Blank,
+}
+
+// An array: n disks before this growth, m new ones (0: none yet), T stripes, t moves done.
+pub struct Geometry {
+    pub old: u64,
+    pub new: u64,
+    pub stripes: u64,
+    pub moves: u64,
+}
+
+// A move: its zone, its stripe in the zone and in the array, the disk it leaves, the disk it goes to.
+pub struct Move {
+    pub zone: u64,
+    pub within: u64,
+    pub stripe: u64,
+    pub from: u64,
+    pub to: u64,
+}
+
+// A stripe taken apart once, so that no question about one of its disks divides again.
+pub struct Stripe {
+    pub number: u64,
+    pub zone: u64,
+    pub within: u64,
+    pub parity: u64,
+}

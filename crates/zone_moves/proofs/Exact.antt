@@ -1,0 +1,158 @@
+-- The theorem of `specs/Exact.antt`. Assumes nothing.
+use Prim.Native.Nat.{ℕ, _+_, _≤_, _<_}
+use mathlib.Core.Path.{_≡_, refl, sym, ap, _∙_}
+use mathlib.Core.Bool.{and-false}
+use mathlib.Core.List.{List, _++_, append-assoc}
+use mathlib.Core.Logic.{inl, inr}
+use native.Mathlib.Omega.{arith}
+use lib.ListN.{length, getD, take, drop}
+use lib.Seq.{drop-append-seam, getD-take}
+use Rattle.layout.specs.Moves.{moveZone, moveWithin, moveFrom, moveTo, moveLag}
+use Rattle.zone_moves.specs.declared.parse.Field.the-variants.{Bad}
+use Rattle.zone_moves.specs.declared.parse.Field.{Field}
+use Rattle.zone_moves.specs.declared.parse.Request.the-variants.{Zone}
+use Rattle.zone_moves.specs.declared.parse.Request.{Request}
+use Rattle.zone_moves.specs.Decimal.{spell, decimal}
+use Rattle.zone_moves.specs.Request.{Limited, isDigit, inLimits, fieldOf, fieldAt, askZone, askNew, askOld, requestOf}
+use Rattle.zone_moves.specs.Listing.{column, moveLine, linesOf, answered, answer}
+use Rattle.zone_moves.specs.Exact.{line, asked, listed, Exact}
+use Rattle.zone_moves.proofs.Laws.Fields.{limited, limits-pass, zone-asked, Seen, one, two, none, look, Ends, ends, nowhere, field-ends, Line, asks, other, look-line}
+use Rattle.zone_moves.proofs.Laws.Reading.{field-text, field-reads, drop-more}
+use Rattle.layout.proofs.Laws.Basics.{le-or-lt}
+
+-- ---- what is meant is read
+
+line-reads : (n m z : ℕ) (rest : List ℕ) → Limited n m z → requestOf (line n m z ++ rest) ≡ Zone n m z
+unfolding line
+line-reads n m z rest l =
+    let s : List ℕ = column n 32 ++ column m 32 ++ column z 10 ++ rest in
+    let e : drop 0 s ≡ column n 32 ++ (column m 32 ++ (column z 10 ++ rest)) = simp append-assoc in
+    let f = drop-more s 0 (column n 32) (column m 32 ++ (column z 10 ++ rest)) e in
+    let g = drop-more s (0 + length (column n 32)) (column m 32) (column z 10 ++ rest) f in
+    zone-asked s
+    (field-reads s 0 n 32 _ (omega arith) (omega arith) e)
+    (field-reads s (0 + length (column n 32)) m 32 _ (omega arith) (omega arith) f)
+    (field-reads s (0 + length (column n 32) + length (column m 32)) z 10 rest (omega arith) (omega arith) g)
+    (limits-pass l)
+
+-- ---- what is read is meant
+
+-- a text and a rest are the text and what stands behind it
+behind : (s t rest : List ℕ) → s ≡ t ++ rest → s ≡ t ++ drop (length t) s
+behind s t rest e = e ∙ ap (λ (l : List ℕ). t ++ l) (sym (ap (drop (length t)) e ∙ drop-append-seam t rest))
+
+line-only : {s : List ℕ} {n m z : ℕ} {r : Request} → Line s r → r ≡ Zone n m z → Limited n m z × (s ≡ line n m z ++ drop (length (line n m z)) s)
+unfolding line
+line-only {s} {n} {m} {z} (asks n′ a m′ b z′ c e h k l) q =
+    let x : n ≡ n′ = cc in
+    let y : m ≡ m′ = cc in
+    let w : z ≡ z′ = cc in
+    let t : List ℕ = column n′ 32 ++ column m′ 32 ++ column z′ 10 in
+    let f : s ≡ t ++ drop c s =
+    field-text s 0 32 (omega arith) e
+    ∙ ap (λ (i : List ℕ). column n′ 32 ++ i) (field-text s a 32 (omega arith) h ∙ ap (λ (i : List ℕ). column m′ 32 ++ i) (field-text s b 10 (omega arith) k))
+    ∙ simp append-assoc in
+    rw (x, y, w) (limited n′ m′ z′ l, behind s t (drop c s) f)
+line-only other q = let i : _≡_ {A = ℕ} 0 1 = cc in absurd (omega arith)
+
+-- ---- what is not read does not matter
+
+-- t has the same fields as s up to k, and the first two end at j and at k or before them
+module _ (t s : List ℕ) (j k : ℕ) (low : j ≤ k) (same : (at stop : ℕ) → at ≤ k → fieldAt t at stop ≡ fieldAt s at stop) (second : (at : ℕ) → at ≤ j → Ends k (fieldAt s at 32)) where
+  new-same : (n : ℕ) {f : Field} → Ends k f → askNew t n f ≡ askNew s n f
+  unfolding askNew
+  new-same n (ends {v = m} next h) = ap (askZone n m) (same next 10 h)
+  new-same n nowhere = refl
+
+  old-same : {f : Field} → Ends j f → askOld t f ≡ askOld s f
+  unfolding askOld
+  old-same (ends {v = n} next h) = ap (askNew t n) (same next 32 (omega arith)) ∙ new-same n (second next h)
+  old-same nowhere = refl
+
+  request-same : Ends j (fieldAt s 0 32) → requestOf t ≡ requestOf s
+  unfolding requestOf
+  request-same e = ap (askOld t) (same 0 32 (omega arith)) ∙ old-same e
+
+answer-of : (t s : List ℕ) → requestOf t ≡ requestOf s → answer t ≡ answer s
+unfolding answer
+answer-of t s e = ap answered e
+
+-- a field that ends within the first k bytes is in them
+take-field : (s : List ℕ) (k at stop : ℕ) → at + 2 < k → fieldAt (take k s) at stop ≡ fieldAt s at stop
+unfolding fieldAt
+take-field s k at stop h = rw (getD-take k s at 0 (omega arith), getD-take k s (at + 1) 0 (omega arith), getD-take k s (at + 2) 0 (omega arith))
+
+-- nine bytes are enough
+nine : (s : List ℕ) → requestOf (take 9 s) ≡ requestOf s
+nine s =
+    request-same (take 9 s) s 3 6 (omega arith) (λ at stop h. take-field s 9 at stop (omega arith)) (λ at h. field-ends s at 32 6 (omega arith))
+    (field-ends s 0 32 3 (omega arith))
+
+-- no field goes past a line feed: it is no digit, and ends a field only as the byte that it is to end with
+at-feed : (b c at stop : ℕ) → fieldOf 10 b c at stop ≡ Bad
+unfolding fieldOf isDigit
+at-feed b c at stop = refl
+
+before-feed : (a c c′ at stop : ℕ) → fieldOf a 10 c at stop ≡ fieldOf a 10 c′ at stop
+unfolding fieldOf isDigit
+before-feed a c c′ at stop = simp and-false
+
+module _ (s : List ℕ) (k : ℕ) (feed : getD s k 0 ≡ 10) where
+  there : (i : ℕ) → i ≡ k → getD s i 0 ≡ 10
+  there i e = ap (λ (x : ℕ). getD s x 0) e ∙ feed
+
+  kept : (i : ℕ) → i ≤ k → getD (take (k + 1) s) i 0 ≡ getD s i 0
+  kept i h = getD-take (k + 1) s i 0 (omega arith)
+
+  feed-field : (at stop : ℕ) → at ≤ k → fieldAt (take (k + 1) s) at stop ≡ fieldAt s at stop
+  unfolding fieldAt
+  feed-field at stop h =
+      elim (le-or-lt (at + 2) k) [
+        | inl g ↦ take-field s (k + 1) at stop (omega arith)
+        | inr g ↦
+            elim (le-or-lt (at + 1) k) [
+              | inl f ↦
+                  rw (kept at h, kept (at + 1) f, there (at + 1) (omega arith))
+                  (before-feed (getD s at 0) (getD (take (k + 1) s) (at + 2) 0) (getD s (at + 2) 0) at stop)
+              | inr f ↦ rw (kept at h, there at (omega arith)) (at-feed _ _ at stop ∙ sym (at-feed _ _ at stop))
+            ]
+      ]
+
+  short : (i : ℕ) → i ≤ k → (getD s i 0 ≡ 10 → ⊥) → i < k
+  short i h n = elim (le-or-lt k i) [ inl g ↦ absurd (n (there i (omega arith))) | inr g ↦ g ]
+
+  -- a field that ends with a space ends before the line feed
+  seen-before : {at : ℕ} {f : Field} → at ≤ k → Seen (getD s at 0) (getD s (at + 1) 0) (getD s (at + 2) 0) at 32 f → Ends k f
+  seen-before {at} h (one d e) =
+      let x : at < k = short at h (λ i. omega arith) in
+      let y : at + 1 < k = short (at + 1) (omega arith) (λ i. omega arith) in
+      ends (at + 2) (omega arith)
+  seen-before {at} h (two d nz d′ e) =
+      let x : at < k = short at h (λ i. omega arith) in
+      let y : at + 1 < k = short (at + 1) (omega arith) (λ i. omega arith) in
+      let z : at + 2 < k = short (at + 2) (omega arith) (λ i. omega arith) in
+      ends (at + 3) (omega arith)
+  seen-before h none = nowhere
+
+  feed-ends : (at : ℕ) → at ≤ k → Ends k (fieldAt s at 32)
+  unfolding fieldAt
+  feed-ends at h = seen-before h (look (getD s at 0) (getD s (at + 1) 0) (getD s (at + 2) 0) at 32)
+
+  line-enough : requestOf (take (k + 1) s) ≡ requestOf s
+  line-enough = request-same (take (k + 1) s) s k k (omega arith) feed-field feed-ends (feed-ends 0 (omega arith))
+
+-- ---- the example
+
+computed : answer asked ≡ listed
+unfolding answer answered requestOf askOld askNew askZone fieldAt fieldOf isDigit inLimits linesOf moveLine column decimal spell moveZone moveWithin moveFrom moveTo moveLag
+computed = refl
+
+pub exact : Exact
+exact =
+    record {
+      reads = line-reads;
+      only = λ s n m z e. line-only (look-line s) e;
+      first-nine = λ s. answer-of (take 9 s) s (nine s);
+      first-line = λ s k e. answer-of (take (k + 1) s) s (line-enough s k e);
+      example = computed;
+    }

@@ -1,0 +1,70 @@
+//! Every function that another module can call says what it answers, and entry points require nothing: they refuse.
+
+use std::fs;
+use std::path::{Path, PathBuf};
+use yuzkamide_tests::program::target;
+
+/// The functions that are handed bytes from outside.
+const ENTRY_POINTS: &[&str] = &["answer_to"];
+
+struct Function {
+    name: String,
+    file: PathBuf,
+    clauses: Vec<String>,
+}
+
+fn sources(folder: &Path, found: &mut Vec<PathBuf>) {
+    for entry in fs::read_dir(folder).unwrap() {
+        let path = entry.unwrap().path();
+        if path.is_dir() {
+            sources(&path, found);
+        } else if path.extension().is_some_and(|e| e == "rt") {
+            found.push(path);
+        }
+    }
+}
+
+/// The functions that are `pub` in some way, with the lines between signature and body, as `rt fmt` lays them out.
+fn public_functions() -> Vec<Function> {
+    let mut files = Vec::new();
+    for name in fs::read_dir(target().join("../crates")).unwrap() {
+        sources(&name.unwrap().path().join("src"), &mut files);
+    }
+    let mut all = Vec::new();
+    for file in files {
+        let text = fs::read_to_string(&file).unwrap();
+        let mut lines = text.lines();
+        while let Some(line) = lines.next() {
+            let Some((head, rest)) = line.trim_start().split_once("fn ") else { continue };
+            if !head.starts_with("pub") {
+                continue;
+            }
+            let name = rest.split('(').next().unwrap().to_string();
+            let mut clauses = Vec::new();
+            if !line.ends_with('{') {
+                clauses.extend(lines.by_ref().take_while(|l| l.trim() != "{").map(|l| l.trim().to_string()));
+            }
+            all.push(Function { name, file: file.clone(), clauses });
+        }
+    }
+    all
+}
+
+#[test]
+fn every_public_function_says_what_it_answers() {
+    let functions = public_functions();
+    assert!(functions.iter().any(|f| f.name == "place_of"), "the search finds the public functions");
+    for f in functions {
+        let says = f.clauses.iter().any(|c| c.starts_with("ensures {") && (c.contains('≡') || c.contains("Stored")));
+        assert!(says, "{} in {} has no ensures clause that gives its answer", f.name, f.file.display());
+    }
+}
+
+#[test]
+fn entry_points_require_nothing() {
+    for entry in ENTRY_POINTS {
+        let functions = public_functions();
+        let f = functions.iter().find(|f| f.name == *entry).unwrap_or_else(|| panic!("no function {entry}"));
+        assert!(f.clauses.iter().all(|c| !c.starts_with("requires")), "{entry} requires something");
+    }
+}
