@@ -11,7 +11,7 @@ use Rattle.layout.specs.declared.Role.{Role}
 use Rattle.layout.specs.Home.{homeStripe}
 use Rattle.layout.specs.Moves.{stands}
 use Rattle.layout.specs.Closed.{diskAt, source, taken}
-use Rattle.layout.specs.Blanks.{blanks, blanksBelow, newBlock}
+use Rattle.layout.specs.Blanks.{blanksBelow, newBlock}
 use Rattle.layout.specs.Layout.Held.{a-block, the-parity}
 use Rattle.layout.specs.Layout.{Held, disks, totalOf, oldBlocks, capacity, home, layout, grownParity}
 use Rattle.layout.specs.Limits.{Good}
@@ -21,7 +21,7 @@ use Rattle.layout.proofs.Laws.Order.{ordered}
 use Rattle.layout.proofs.Laws.Closed.{stands-closed, replayed, disk-stays}
 use Rattle.layout.proofs.Laws.Source.{source-lt, taken-disk, stands-there}
 use Rattle.layout.proofs.Laws.Blanks.{blanks-length}
-use Rattle.layout.proofs.Laws.NewBlocks.{Listed, blank-of, blank-at, count-mono}
+use Rattle.layout.proofs.Laws.NewBlocks.{Listed, nth-listed, count-mono, count-lt, found as found-at}
 use Rattle.layout.proofs.Laws.Zones.{total-none}
 use Rattle.layout.proofs.Laws.Numbers.{open-all, open-none, has-new, inside, numbers}
 use Rattle.layout.proofs.Laws.Home.{ranked}
@@ -84,11 +84,7 @@ module _ (g : Geometry) (good : Good g) where
   -- ---- blanks
 
   listed : (S j : ℕ) → j < g .new → Listed (g .old) (g .new) (g .moves) S (disks g) j (blank g S j)
-  unfolding blanks
-  listed S j h = blank-of (g .old) (g .new) (g .moves) S (disks g) j (rw (length-is S) h)
-    where
-      length-is : (S : ℕ) → length (blanksBelow (g .old) (g .new) (g .moves) S (disks g)) ≡ g .new
-      length-is S = unfold blanks in blanks-length (g .old) (g .new) pn (g .moves) S
+  listed = nth-listed (g .old) (g .new) pn (g .moves)
 
   rising : (S i j : ℕ) → i < j → j < g .new → blank g S i < blank g S j
   rising S i j l h = elim (le-or-lt (blank g S j) (blank g S i)) [
@@ -103,10 +99,8 @@ module _ (g : Geometry) (good : Good g) where
 
   -- a place that nothing old takes is one of them
   found : (S e : ℕ) → e < disks g → taken (g .old) (g .new) (g .moves) S e ≡ false → (j : ℕ) × (j < g .new) × (blank g S j ≡ e)
-  unfolding blanks
   found S e he f =
-      let s = blank-at (g .old) (g .new) (g .moves) S (disks g) e he f in
-      (length (blanksBelow (g .old) (g .new) (g .moves) S e), omega (arith, s .room, blanks-length (g .old) (g .new) pn (g .moves) S), s .there)
+      (length (blanksBelow (g .old) (g .new) (g .moves) S e), count-lt (g .old) (g .new) pn (g .moves) S e he f, sym (found-at (g .old) (g .new) (g .moves) S e _ he f refl))
 
   filled : (S e : ℕ) → e < disks g → ((j : ℕ) → j < g .new → blank g S j ≢ e) → (d : ℕ) × (d < g .old) × (stands (g .old) (g .new) (g .moves) S d ≡ e)
   filled S e he none = go (taken (g .old) (g .new) (g .moves) S e) refl

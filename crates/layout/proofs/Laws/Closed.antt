@@ -11,7 +11,7 @@ use Rattle.layout.specs.Moves.{moveTo, moveStripe, moveFrom, carry, stan
 use Rattle.layout.specs.Closed.{target, turn, isMoved, diskAt}
 use Rattle.layout.specs.Theorem.{Replay}
 use Rattle.layout.proofs.Laws.Basics.{le-or-lt}
-use Rattle.layout.proofs.Laws.Lag.{from-below, new-of-move, turn-of-move, turn-to, turn-stripe, turn-from, to-above, to-below}
+use Rattle.layout.proofs.Laws.Lag.{from-below, target-of-move, turn-of-move, turn-to, turn-stripe, turn-from, to-above, to-below}
 
 -- ---- what diskAt says, by cases
 
@@ -50,7 +50,7 @@ module _ (n m : ℕ) (pn : 0 < n) (pm : 0 < m) where
   -- a move of stripe S from disk d is the only one: it goes to target, at turn
   only : (k S d : ℕ) → moveStripe n m k ≡ S → moveFrom n m k ≡ d → (n ≤ target n m S d) × (target n m S d < n + m) × (turn n m S d ≡ k) × (moveTo n m k ≡ target n m S d)
   only k S d e f =
-      let a : target n m S d ≡ moveTo n m k = rw (← e, ← f) (new-of-move n m pn pm k) in
+      let a : target n m S d ≡ moveTo n m k = rw (← e, ← f) (target-of-move n m pn pm k) in
       let b : turn n m S d ≡ k = rw (← e, ← f) (turn-of-move n m pn pm k) in
       (omega (arith, to-above n m pn pm k), omega (arith, to-below n m pn pm k), b, sym a)
 
@@ -89,7 +89,7 @@ module _ (n m : ℕ) (pn : 0 < n) (pm : 0 < m) where
 module _ (n m t : ℕ) (pn : 0 < n) (pm : 0 < m) where
   done : (k : ℕ) → k < t → stands n m t (moveStripe n m k) (moveFrom n m k) ≡ moveTo n m k
   done k h =
-      let a = new-of-move n m pn pm k in
+      let a = target-of-move n m pn pm k in
       stands-closed n m pn pm t _ _ (from-below n m pn pm k)
       ∙ disk-moved n m t _ _ (omega (arith, to-above n m pn pm k)) (omega (arith, to-below n m pn pm k)) (omega (arith, turn-of-move n m pn pm k))
       ∙ a

@@ -16,7 +16,7 @@ use Rattle.layout.specs.Layout.Held.{a-block, the-parity, nothing}
 use Rattle.layout.specs.Layout.{Layout, oldBlocks, openStripes, capacity, grown, carried, newPlace, grownPlace, grownParity, newOwner, grownOwner, Held, Lawful}
 use Rattle.layout.proofs.Laws.Basics.{le-or-lt}
 use Rattle.layout.proofs.Laws.Source.{source-lt, source-of-disk, taken-disk, disk-below, stands-there}
-use Rattle.layout.proofs.Laws.NewBlocks.{new-home, block-of-new, count-lt, stripe-of-new, home-of-new}
+use Rattle.layout.proofs.Laws.NewBlocks.{new-on-blank, block-of-new, count-lt, stripe-of-new, disk-of-new}
 
 module _ (h : Layout) (g : Geometry) where
   -- ---- by cases: a block of before the growth, or a new one
@@ -77,7 +77,7 @@ module _ (h : Layout) (g : Geometry) (pn : 2 ≤ g .old) (short : openStripes g 
 
   disk-of : (b : ℕ) → Below g b → grownPlace h g b .disk < g .old + g .new
   disk-of b (an-old l) = rw (low h g b l) (disk-below _ _ pn (g .moves) _ _ (law .disk-lt b l))
-  disk-of b (a-new k l) = rw (high h g k) (new-home _ _ pn (g .moves) (positive (openStripes g) (g .new) k l) k .under)
+  disk-of b (a-new k l) = rw (high h g k) (new-on-blank _ _ pn (g .moves) (positive (openStripes g) (g .new) k l) k .under)
 
   owner-of : (b : ℕ) → Below g b → grownOwner h g (grownPlace h g b .stripe) (grownPlace h g b .disk) ≡ Data b
   owner-of b (an-old l) = rw (low h g b l) (owner-disk _ _ (law .disk-lt b l) ∙ law .owner-block b l)
@@ -85,7 +85,7 @@ module _ (h : Layout) (g : Geometry) (pn : 2 ≤ g .old) (short : openStripes g 
       let pm : 0 < g .new = positive (openStripes g) (g .new) k l in
       let in-open : newStripe (g .new) k < openStripes g = unfold newStripe in (div-lt-iff-lt-mul pm .1 l) in
       rw (high h g k)
-      (owner-new h g _ _ (new-home _ _ pn (g .moves) pm k .free) in-open ∙ ap (λ x. Data (oldBlocks g + x)) (block-of-new _ _ pn (g .moves) pm k))
+      (owner-new h g _ _ (new-on-blank _ _ pn (g .moves) pm k .free) in-open ∙ ap (λ x. Data (oldBlocks g + x)) (block-of-new _ _ pn (g .moves) pm k))
 
   module _ (S e : ℕ) (hS : S < g .stripes) (he : e < g .old + g .new) where
     held-old : (d : ℕ) → d < g .old → diskAt (g .old) (g .new) (g .moves) S d ≡ e → {r : Role} → Held (oldBlocks g) h S d r → Held (capacity g) (grown h g) S e r
@@ -100,7 +100,7 @@ module _ (h : Layout) (g : Geometry) (pn : 2 ≤ g .old) (short : openStripes g 
         let z : newBlock (g .old) (g .new) (g .moves) S e < openStripes g * g .new = unfold newBlock in digits-lt l (count-lt _ _ pn (g .moves) S e he f) in
         a-block (oldBlocks g + newBlock (g .old) (g .new) (g .moves) S e) (omega arith)
         (ap (λ p. p .stripe) (high h g _) ∙ stripe-of-new _ _ pn (g .moves) S e he f)
-        (ap (λ p. p .disk) (high h g _) ∙ home-of-new _ _ pn (g .moves) S e he f)
+        (ap (λ p. p .disk) (high h g _) ∙ disk-of-new _ _ pn (g .moves) S e he f)
 
     held-by : (b : Bool) → taken (g .old) (g .new) (g .moves) S e ≡ b → Held (capacity g) (grown h g) S e (grownOwner h g S e)
     held-by true q =

@@ -95,34 +95,34 @@ module _ (n : ℕ) (pn : 2 ≤ n) where
 -- ---- the layout of an array that never grew is lawful, and full
 
 module _ (n T : ℕ) (pn : 2 ≤ n) where
-  pub role-parity : (S d : ℕ) → d ≡ parityDisk n S → homeOwner n S d ≡ Parity
+  pub owner-parity : (S d : ℕ) → d ≡ parityDisk n S → homeOwner n S d ≡ Parity
   unfolding homeOwner
-  role-parity S d e = simp (eq-eqb _ _ e)
+  owner-parity S d e = simp (eq-eqb _ _ e)
 
-  pub role-data : (S d : ℕ) → d ≢ parityDisk n S → homeOwner n S d ≡ Data (homeBlock n S d)
+  pub owner-data : (S d : ℕ) → d ≢ parityDisk n S → homeOwner n S d ≡ Data (homeBlock n S d)
   unfolding homeOwner
-  role-data S d e = simp (ne-eqb _ _ e)
+  owner-data S d e = simp (ne-eqb _ _ e)
 
   held : (S d : ℕ) → S < T → d < n → Held (T * (n - 1)) (homeLayout n) S d (homeOwner n S d)
   held S d hS h = elim (ℕ-discrete d (parityDisk n S)) [
-    | yes z ↦ rw (role-parity S d z) (the-parity (sym z))
-    | no z ↦ rw (role-data S d z) (a-block (homeBlock n S d) (unfold homeBlock in digits-lt hS (rank-lt n pn S d h z)) (stripe-block n pn S d h z) (disk-block n pn S d h z))
+    | yes z ↦ rw (owner-parity S d z) (the-parity (sym z))
+    | no z ↦ rw (owner-data S d z) (a-block (homeBlock n S d) (unfold homeBlock in digits-lt hS (rank-lt n pn S d h z)) (stripe-block n pn S d h z) (disk-block n pn S d h z))
   ]
 
   no-blank : (S d : ℕ) → homeOwner n S d ≢ Blank
   no-blank S d q = elim (ℕ-discrete d (parityDisk n S)) [
-    | yes z ↦ let w : _≡_ {A = ℕ} 0 1 = cc (role-parity S d z) in omega arith
-    | no z ↦ let w : _≡_ {A = ℕ} 0 1 = cc (role-data S d z) in omega arith
+    | yes z ↦ let w : _≡_ {A = ℕ} 0 1 = cc (owner-parity S d z) in omega arith
+    | no z ↦ let w : _≡_ {A = ℕ} 0 1 = cc (owner-data S d z) in omega arith
   ]
 
-  pub base-full : Full n T (homeLayout n)
-  base-full = record {
+  pub home-layout-full : Full n T (homeLayout n)
+  home-layout-full = record {
     lawful = record {
       stripe-lt = λ b l. let q : 0 < n - 1 = omega arith in unfold homeStripe in div-lt-iff-lt-mul q .1 l;
       disk-lt = λ b l. home-lt n pn b;
       parity-lt = λ S l. parity-lt n pn S;
-      owner-block = λ b l. role-data _ _ (home-data n pn b) ∙ ap Data (block-home n pn b);
-      owner-parity = λ S l. role-parity S _ refl;
+      owner-block = λ b l. owner-data _ _ (home-data n pn b) ∙ ap Data (block-home n pn b);
+      owner-parity = λ S l. owner-parity S _ refl;
       held = held;
     };
     no-blank = λ S d a b. no-blank S d;

@@ -89,13 +89,13 @@ module _ (n m : ℕ) (pn : 0 < n) (pm : 0 < m) where
     pub lag-of-move : lag n (moveStripe n m k) (moveFrom n m k) ≡ moveLag n k
     lag-of-move = rw from-lag (lag-lag n (moveStripe n m k) (moveLag n k) lag-below)
 
-    pub new-of-move : target n m (moveStripe n m k) (moveFrom n m k) ≡ moveTo n m k
+    pub target-of-move : target n m (moveStripe n m k) (moveFrom n m k) ≡ moveTo n m k
     unfolding target
-    new-of-move = rw (lag-of-move, stripe-rest) (omega (arith, to-above, lag-below))
+    target-of-move = rw (lag-of-move, stripe-rest) (omega (arith, to-above, lag-below))
 
     pub turn-of-move : turn n m (moveStripe n m k) (moveFrom n m k) ≡ k
     unfolding turn
-    turn-of-move = rw (lag-of-move, new-of-move, stripe-zone) (sym index)
+    turn-of-move = rw (lag-of-move, target-of-move, stripe-zone) (sym index)
 
   -- and the one move that lag, target and turn give is made
   module _ (S d : ℕ) (hd : d < n) (lo : n ≤ target n m S d) (hi : target n m S d < n + m) where

@@ -18,12 +18,12 @@ use Rattle.layout.specs.Limits.{Good}
 use Rattle.layout.proofs.Laws.Basics.{times}
 use Rattle.layout.proofs.Laws.Blanks.{blanks-le}
 use Rattle.layout.proofs.Laws.Numbers.{open-le}
-use Rattle.layout.proofs.Laws.Home.{base-full}
+use Rattle.layout.proofs.Laws.Home.{home-layout-full}
 use Rattle.layout.proofs.Laws.Grown.{low, owner-old, grown-lawful, positive}
 
 module _ (g : Geometry) (good : Good g) where
   pub home-full : Full (g .old) (g .stripes) (home g)
-  home-full = base-full (g .old) (g .stripes) (omega (arith, good .disks .n-low))
+  home-full = home-layout-full (g .old) (g .stripes) (omega (arith, good .disks .n-low))
 
   pub lawful : Lawful (g .old + g .new) (g .stripes) (capacity g) (layout g)
   lawful = grown-lawful (home g) g (omega (arith, good .disks .n-low)) (open-le g) (home-full .lawful)

@@ -12,7 +12,7 @@ use Rattle.layout.specs.Layout.{Layout, totalOf, openStripes, capacity, 
 use Rattle.layout.specs.Theorem.{stripe, from, to, after}
 use Rattle.layout.proofs.Laws.Lag.{from-below}
 use Rattle.layout.proofs.Laws.Closed.{step}
-use Rattle.layout.proofs.Laws.OneMove.{old-from, old-to, from-held, to-blank, from-blank, to-held, other-same}
+use Rattle.layout.proofs.Laws.OneMove.{source-from, source-to, from-taken, to-blank, from-blank, to-taken, other-same}
 use Rattle.layout.proofs.Laws.Numbers.{open-none}
 use Rattle.layout.proofs.Laws.Grown.Below.{an-old, a-new}
 use Rattle.layout.proofs.Laws.Grown.{Below, below, low, owner-old, owner-none}
@@ -46,7 +46,7 @@ module _ (h : Layout) (g : Geometry) (pn : 2 ≤ g .old) (pm : 0 < g .new) (full
   closed S = omega (arith, open-none g (λ q. omega arith))
 
   owner-from : grownOwner h g (stripe g) (from g) ≡ h .owner (stripe g) (from g)
-  owner-from = owner-old h g _ _ (from-held _ _ pn pm (g .moves)) ∙ ap (h .owner (stripe g)) (old-from _ _ pn pm (g .moves))
+  owner-from = owner-old h g _ _ (from-taken _ _ pn pm (g .moves)) ∙ ap (h .owner (stripe g)) (source-from _ _ pn pm (g .moves))
 
   pub takes : grownOwner h g (stripe g) (from g) ≢ Blank
   takes q = full .no-blank _ _ inside from-lt (sym owner-from ∙ q)
@@ -55,7 +55,7 @@ module _ (h : Layout) (g : Geometry) (pn : 2 ≤ g .old) (pm : 0 < g .new) (full
   onto-blank = owner-none h g _ _ (to-blank _ _ pn pm (g .moves)) (closed _)
 
   pub arrives : grownOwner h (after g) (stripe g) (to g) ≡ grownOwner h g (stripe g) (from g)
-  arrives = owner-old h (after g) _ _ (to-held _ _ pn pm (g .moves)) ∙ ap (h .owner (stripe g)) (old-to _ _ pn pm (g .moves)) ∙ sym owner-from
+  arrives = owner-old h (after g) _ _ (to-taken _ _ pn pm (g .moves)) ∙ ap (h .owner (stripe g)) (source-to _ _ pn pm (g .moves)) ∙ sym owner-from
 
   module _ (S e : ℕ) (other : stripe g ≡ S → (e ≢ from g) × (e ≢ to g)) where
     same : taken (g .old) (g .new) (suc (g .moves)) S e ≡ taken (g .old) (g .new) (g .moves) S e

@@ -91,17 +91,21 @@ module _ (n m t S : ℕ) where
 -- ---- the new blocks
 
 module _ (n m : ℕ) (pn : 2 ≤ n) (t : ℕ) where
-  -- new block k stands on a blank place of its stripe, and the blank's number is k
-  pub new-home : 0 < m → (k : ℕ) → Listed n m t (newStripe m k) (n + m) (k % m) (newDisk n m t k)
-  unfolding newDisk blanks
-  new-home pm k = blank-of n m t (newStripe m k) (n + m) (k % m) (rw (length-is (newStripe m k)) (mod-lt k pm))
+  pub nth-listed : (S j : ℕ) → j < m → Listed n m t S (n + m) j (getD (blanks n m t S) j 0)
+  unfolding blanks
+  nth-listed S j h = blank-of n m t S (n + m) j (rw length-is h)
     where
-      length-is : (S : ℕ) → length (blanksBelow n m t S (n + m)) ≡ m
-      length-is S = unfold blanks in blanks-length n m pn t S
+      length-is : length (blanksBelow n m t S (n + m)) ≡ m
+      length-is = blanks-length n m pn t S
+
+  -- new block k stands on a blank place of its stripe, and the blank's number is k
+  pub new-on-blank : 0 < m → (k : ℕ) → Listed n m t (newStripe m k) (n + m) (k % m) (newDisk n m t k)
+  unfolding newDisk
+  new-on-blank pm k = nth-listed (newStripe m k) (k % m) (mod-lt k pm)
 
   pub block-of-new : 0 < m → (k : ℕ) → newBlock n m t (newStripe m k) (newDisk n m t k) ≡ k
   unfolding newBlock newStripe
-  block-of-new pm k = rw (new-home pm k .rank) (div-add-mod' k m)
+  block-of-new pm k = rw (new-on-blank pm k .rank) (div-add-mod' k m)
 
   module _ (S e : ℕ) (he : e < n + m) (free : taken n m t S e ≡ false) where
     pub count-lt : length (blanksBelow n m t S e) < m
@@ -116,9 +120,9 @@ module _ (n m : ℕ) (pn : 2 ≤ n) (t : ℕ) where
     unfolding newBlock
     rest-of-new = digits-mod S count-lt
 
-    pub home-of-new : newDisk n m t (newBlock n m t S e) ≡ e
+    pub disk-of-new : newDisk n m t (newBlock n m t S e) ≡ e
     unfolding newDisk blanks
-    home-of-new = rw (stripe-of-new, rest-of-new) (blank-at n m t S (n + m) e he free .there)
+    disk-of-new = rw (stripe-of-new, rest-of-new) (blank-at n m t S (n + m) e he free .there)
 
 -- ---- a program that counts blanks from the lowest disk
 
