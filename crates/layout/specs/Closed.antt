@@ -6,10 +6,6 @@ use Rattle.layout.specs.declared.Stripe.{Stripe}
 use Rattle.layout.specs.Home.{parityDisk}
 use Rattle.layout.specs.Moves.{zoneOf, withinZone, moveIndex}
 
--- a stripe taken apart: its number S, its zone Z, its place s in the zone, and the disk of its parity before growth
-abbrev pub stripeOf : ℕ → ℕ → ℕ → Stripe
-stripeOf n m S = record { number = S; zone = zoneOf n m S; within = withinZone n m S; parity = parityDisk n S }
-
 -- that move has this lag, i = (S − d) mod n ..
 unfoldable pub lag : ℕ → ℕ → ℕ → ℕ
 lag n S d = (S + (n - d)) % n
@@ -39,3 +35,8 @@ source n m S e = cond (ltb e n) e (lag n S (e - withinZone n m S))
 -- does a block or parity of before the growth stand on disk e of stripe S after t moves?
 unfoldable pub taken : ℕ → ℕ → ℕ → ℕ → ℕ → Bool
 taken n m t S e = eqb (diskAt n m t S (source n m S e)) e
+
+-- ---- what the code needs of a stripe to answer all this: its number S, its zone Z, its place s in the zone, and its parity disk before growth
+
+abbrev pub stripeOf : ℕ → ℕ → ℕ → Stripe
+stripeOf n m S = record { number = S; zone = zoneOf n m S; within = withinZone n m S; parity = parityDisk n S }

@@ -1,5 +1,5 @@
 // Where the contents of a stripe stand after t moves, by the closed form.
-ghost use Prim.Native.Nat.{_<_, _+_};
+ghost use Prim.Native.Nat.{_<_};
 ghost use mathlib.Core.Path.{_≡_};
 ghost use Rattle.layout.specs.Closed.{stripeOf, lag, diskAt, source};
 ghost use Rattle.layout.specs.Limits.{Sizes, Apart};

@@ -1,5 +1,5 @@
 // The layout before growth: n disks, no new one.
-ghost use Prim.Native.Nat.{_<_, _≤_, _%_};
+ghost use Prim.Native.Nat.{_<_, _≤_};
 ghost use mathlib.Core.Path.{_≡_};
 ghost use Rattle.layout.specs.Home.{homeDisk, homePlace, homeBlock, homeOwner, parityDisk};
 use crate::Place;
