@@ -24,6 +24,10 @@ pub fn run(name: &str, input: &[u8]) -> String {
     // The program may end before it has read all of a long input: then the pipe breaks, which is no fault.
     let _ = child.stdin.take().unwrap().write_all(input);
     let output = child.wait_with_output().unwrap();
-    assert!(output.status.success(), "{name} ended with {}", output.status);
+    assert!(
+        output.status.success(),
+        "{name} ended with {}",
+        output.status
+    );
     String::from_utf8(output.stdout).expect("the program prints text")
 }

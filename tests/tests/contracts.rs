@@ -35,16 +35,27 @@ fn public_functions() -> Vec<Function> {
         let text = fs::read_to_string(&file).unwrap();
         let mut lines = text.lines();
         while let Some(line) = lines.next() {
-            let Some((head, rest)) = line.trim_start().split_once("fn ") else { continue };
+            let Some((head, rest)) = line.trim_start().split_once("fn ") else {
+                continue;
+            };
             if !head.starts_with("pub") {
                 continue;
             }
             let name = rest.split('(').next().unwrap().to_string();
             let mut clauses = Vec::new();
             if !line.ends_with('{') {
-                clauses.extend(lines.by_ref().take_while(|l| l.trim() != "{").map(|l| l.trim().to_string()));
+                clauses.extend(
+                    lines
+                        .by_ref()
+                        .take_while(|l| l.trim() != "{")
+                        .map(|l| l.trim().to_string()),
+                );
             }
-            all.push(Function { name, file: file.clone(), clauses });
+            all.push(Function {
+                name,
+                file: file.clone(),
+                clauses,
+            });
         }
     }
     all
@@ -53,10 +64,21 @@ fn public_functions() -> Vec<Function> {
 #[test]
 fn every_public_function_says_what_it_answers() {
     let functions = public_functions();
-    assert!(functions.iter().any(|f| f.name == "place_of"), "the search finds the public functions");
+    assert!(
+        functions.iter().any(|f| f.name == "place_of"),
+        "the search finds the public functions"
+    );
     for f in functions {
-        let says = f.clauses.iter().any(|c| c.starts_with("ensures {") && (c.contains('≡') || c.contains("Stored")));
-        assert!(says, "{} in {} has no ensures clause that gives its answer", f.name, f.file.display());
+        let says = f
+            .clauses
+            .iter()
+            .any(|c| c.starts_with("ensures {") && (c.contains('≡') || c.contains("Stored")));
+        assert!(
+            says,
+            "{} in {} has no ensures clause that gives its answer",
+            f.name,
+            f.file.display()
+        );
     }
 }
 
@@ -64,7 +86,13 @@ fn every_public_function_says_what_it_answers() {
 fn entry_points_require_nothing() {
     for entry in ENTRY_POINTS {
         let functions = public_functions();
-        let f = functions.iter().find(|f| f.name == *entry).unwrap_or_else(|| panic!("no function {entry}"));
-        assert!(f.clauses.iter().all(|c| !c.starts_with("requires")), "{entry} requires something");
+        let f = functions
+            .iter()
+            .find(|f| f.name == *entry)
+            .unwrap_or_else(|| panic!("no function {entry}"));
+        assert!(
+            f.clauses.iter().all(|c| !c.starts_with("requires")),
+            "{entry} requires something"
+        );
     }
 }
