@@ -69,6 +69,7 @@ fn every_public_function_says_what_it_answers() {
         "the search finds the public functions"
     );
     for f in functions {
+        // `Stored` is the record of two equations: the buffer left, and the position answered
         let says = f
             .clauses
             .iter()

@@ -12,6 +12,7 @@ pub mod OneMove
 pub mod Zones
 pub mod Bounds
 pub mod Numbers
+pub mod Lawful
 pub mod Home
 pub mod Grown
 pub mod Finish

@@ -12,27 +12,81 @@ use Rattle.layout.specs.Home.{homeStripe}
 use Rattle.layout.specs.Moves.{stands}
 use Rattle.layout.specs.Closed.{diskAt, source, taken}
 use Rattle.layout.specs.Blanks.{blanksBelow, newBlock}
-use Rattle.layout.specs.Layout.Held.{a-block, the-parity}
-use Rattle.layout.specs.Layout.{Held, disks, totalOf, oldBlocks, capacity, home, layout, grownParity}
+use Rattle.layout.specs.Layout.{disks, totalOf, oldBlocks, capacity, home, layout, grownParity}
 use Rattle.layout.specs.Limits.{Good}
-use Rattle.layout.specs.Theorem.{Placed, Blanked, NextMove, Theorem, blank}
+use Rattle.layout.specs.Theorem.{Ranks, Order, Replay, Numbers, Placed, Blanked, NextMove, Theorem, blank}
 use Rattle.layout.proofs.Laws.Basics.{le-or-lt}
-use Rattle.layout.proofs.Laws.Order.{ordered}
-use Rattle.layout.proofs.Laws.Closed.{stands-closed, replayed, disk-stays}
+use Rattle.layout.proofs.Laws.Lag as moves
+use Rattle.layout.proofs.Laws.Order as orders
+use Rattle.layout.proofs.Laws.Closed.{stands-closed, done, waiting, only-moved, disk-stays}
 use Rattle.layout.proofs.Laws.Source.{source-lt, taken-disk, stands-there}
 use Rattle.layout.proofs.Laws.Blanks.{blanks-length}
-use Rattle.layout.proofs.Laws.NewBlocks.{Listed, nth-listed, count-mono, count-lt, found as found-at}
+use Rattle.layout.proofs.Laws.NewBlocks.{Listed, nth-listed, count-mono, count-lt, blank-there}
 use Rattle.layout.proofs.Laws.Zones.{total-none}
-use Rattle.layout.proofs.Laws.Numbers.{open-all, open-none, has-new, inside, numbers}
-use Rattle.layout.proofs.Laws.Home.{ranked}
+use Rattle.layout.proofs.Laws.Numbers as counts
+use Rattle.layout.proofs.Laws.Lawful.Held.{a-block, the-parity}
+use Rattle.layout.proofs.Laws.Lawful.{Held}
+use Rattle.layout.proofs.Laws.Home as homes
 use Rattle.layout.proofs.Laws.Grown.{low, owner-old, owner-new, owner-none}
 use Rattle.layout.proofs.Laws.Finish.{none-left}
 use Rattle.layout.proofs.Laws.Layout.{home-full, lawful}
 use Rattle.layout.proofs.Laws.Moving as moving
 
+-- ---- on numbers alone
+
+ranked : (n : ℕ) → 2 ≤ n → Ranks n
+ranked n pn = record {
+  disk-lt = homes.disk-lt n pn;
+  skips-parity = homes.disk-data n pn;
+  falling = homes.falling n pn;
+  none-missed = λ S d h e. (homes.rank-lt n pn S d h e, homes.disk-rank n pn S d h e);
+}
+
+module _ (n m : ℕ) (pn : 0 < n) (pm : 0 < m) where
+  ordered : Order n m
+  ordered = record {
+    to-low = moves.to-above n m pn pm;
+    to-high = moves.to-below n m pn pm;
+    lag-high = moves.lag-below n m pn pm;
+    index-of = λ k. sym (moves.index n m pn pm k);
+    zone-of = orders.zone-of n m pn pm;
+    to-of = orders.to-of n m pn pm;
+    lag-of = orders.lag-of n m pn pm;
+    by-zone = orders.by-zone n m pn pm;
+    by-to = orders.by-to n m pn pm;
+    by-lag = λ Z p i i′ h. omega arith;
+    stripe-zone = moves.stripe-zone n m pn pm;
+    stripe-within = orders.stripe-within n m pn pm;
+    from-lt = moves.from-below n m pn pm;
+    from-rule = orders.from-rule n m pn pm;
+    parity-first = orders.parity-first n m pn pm;
+    parity-only = orders.parity-only n m pn pm;
+  }
+
+  replayed : (t : ℕ) → Replay n m t
+  replayed t = record {
+    closed = stands-closed n m pn pm t;
+    done = done n m t pn pm;
+    waiting = waiting n m t pn pm;
+    only = only-moved n m t pn pm;
+  }
+
+-- ---- on an array
+
 module _ (g : Geometry) (good : Good g) where
   pn : 2 ≤ g .old
   pn = omega (arith, good .disks .n-low)
+
+  numbers : Numbers g
+  numbers = record {
+    counted = counts.counted g good;
+    no-more = counts.no-more g good;
+    whole-zones = counts.whole-zones g good;
+    total-is = counts.total-is g good;
+    inside = counts.inside g good;
+    capacity-before = counts.capacity-before g;
+    capacity-after = counts.capacity-after g (omega (arith, pn));
+  }
 
   -- ---- places and owners
 
@@ -100,7 +154,7 @@ module _ (g : Geometry) (good : Good g) where
   -- a place that nothing old takes is one of them
   found : (S e : ℕ) → e < disks g → taken (g .old) (g .new) (g .moves) S e ≡ false → (j : ℕ) × (j < g .new) × (blank g S j ≡ e)
   found S e he f =
-      (length (blanksBelow (g .old) (g .new) (g .moves) S e), count-lt (g .old) (g .new) pn (g .moves) S e he f, sym (found-at (g .old) (g .new) (g .moves) S e _ he f refl))
+      (length (blanksBelow (g .old) (g .new) (g .moves) S e), count-lt (g .old) (g .new) pn (g .moves) S e he f, blank-there (g .old) (g .new) (g .moves) S e he f)
 
   filled : (S e : ℕ) → e < disks g → ((j : ℕ) → j < g .new → blank g S j ≢ e) → (d : ℕ) × (d < g .old) × (stands (g .old) (g .new) (g .moves) S d ≡ e)
   filled S e he none = go (taken (g .old) (g .new) (g .moves) S e) refl
@@ -122,7 +176,7 @@ module _ (g : Geometry) (good : Good g) where
   new-block : g .moves ≡ totalOf g → (S j : ℕ) → S < g .stripes → j < g .new → layout g .owner S (blank g S j) ≡ Data (oldBlocks g + (S * g .new + j))
   unfolding newBlock
   new-block over S j l h =
-      owner-new (home g) g S (blank g S j) (listed S j h .free) (rw (open-all g over) at l)
+      owner-new (home g) g S (blank g S j) (listed S j h .free) (rw (counts.open-all g over) at l)
       ∙ ap (λ x. Data (oldBlocks g + (S * g .new + x))) (listed S j h .rank)
 
   blanked : Blanked g
@@ -132,7 +186,7 @@ module _ (g : Geometry) (good : Good g) where
     rising = rising;
     empty = empty;
     filled = filled;
-    are-blank = λ more S j h. owner-none (home g) g S (blank g S j) (listed S j h .free) (omega (arith, open-none g (λ q. omega arith)));
+    are-blank = λ more S j h. owner-none (home g) g S (blank g S j) (listed S j h .free) (omega (arith, counts.open-none g (λ q. omega arith)));
     no-other = λ more S e l he q. found S e he (free S e l q);
     new-block = new-block;
     none-left = λ over S e l he. none-left (home g) g pn over (home-full g good .no-blank) S e l;
@@ -142,8 +196,8 @@ module _ (g : Geometry) (good : Good g) where
 
   next-move : g .moves < totalOf g → NextMove g
   next-move more =
-      let pm : 0 < g .new = has-new g good (g .moves) more in
-      let i = inside g good pm (g .moves) more in
+      let pm : 0 < g .new = counts.has-new g good (g .moves) more in
+      let i = counts.inside g good pm (g .moves) more in
       let f = home-full g good in
       record {
         block-goes = moving.place-moves (home g) g pn pm f more i;
@@ -162,8 +216,8 @@ module _ (g : Geometry) (good : Good g) where
   theorem = record {
     ranks = ranked (g .old) pn;
     order = λ pm. ordered (g .old) (g .new) (omega (arith, pn)) pm;
-    replay = λ pm. replayed (g .old) (g .new) (g .moves) (omega (arith, pn)) pm;
-    numbers = numbers g good;
+    replay = λ pm. replayed (g .old) (g .new) (omega (arith, pn)) pm (g .moves);
+    numbers = numbers;
     placed = placed;
     blanked = blanked;
     next-move = next-move;

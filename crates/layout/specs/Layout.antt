@@ -1,15 +1,13 @@
 -- The layout of an array: where each block stands, where each stripe's parity stands, and who owns each place.
-use Prim.Native.Nat.{ℕ, _+_, _-_, _*_, _<_}
-use mathlib.Core.Path.{_≡_}
+use Prim.Native.Nat.{ℕ, suc, _+_, _-_, _*_}
 use mathlib.Core.Bool.{cond}
-use mathlib.Core.Logic.{_≢_}
 use lib.Dec.{ltb, eqb}
 use Rattle.layout.specs.declared.Geometry.{Geometry}
 use Rattle.layout.specs.declared.Place.{Place}
-use Rattle.layout.specs.declared.Role.the-variants.{Data, Parity, Blank}
+use Rattle.layout.specs.declared.Role.the-variants.{Data, Blank}
 use Rattle.layout.specs.declared.Role.{Role}
 use Rattle.layout.specs.Home.{placeAt, homePlace, parityDisk, homeOwner}
-use Rattle.layout.specs.Moves.{total}
+use Rattle.layout.specs.Moves.{total, moveStripe, moveFrom, moveTo}
 use Rattle.layout.specs.Closed.{diskAt, source, taken}
 use Rattle.layout.specs.Blanks.{newStripe, newDisk, newBlock}
 
@@ -83,23 +81,16 @@ home g = homeLayout (g .old)
 abbrev pub layout : Geometry → Layout
 layout g = grown (home g) g
 
--- ---- the laws of a layout of N disks and T stripes that has cap blocks
+-- ---- its next move: the stripe, the disk that it leaves, the disk that it goes to, and the array with it done
 
--- what the owner of place (S, e) says stands there
-pub data Held (cap : ℕ) (l : Layout) (S e : ℕ) : Role → Type 0 where
-  a-block : (b : ℕ) → b < cap → l .place b .stripe ≡ S → l .place b .disk ≡ e → Held cap l S e (Data b)
-  the-parity : l .parity S ≡ e → Held cap l S e Parity
-  nothing : Held cap l S e Blank
+abbrev pub nextStripe : Geometry → ℕ
+nextStripe g = moveStripe (g .old) (g .new) (g .moves)
 
-pub record Lawful (N T cap : ℕ) (l : Layout) : Type 0 where
-  pub stripe-lt : (b : ℕ) → b < cap → l .place b .stripe < T
-  pub disk-lt : (b : ℕ) → b < cap → l .place b .disk < N
-  pub parity-lt : (S : ℕ) → S < T → l .parity S < N
-  pub owner-block : (b : ℕ) → b < cap → l .owner (l .place b .stripe) (l .place b .disk) ≡ Data b
-  pub owner-parity : (S : ℕ) → S < T → l .owner S (l .parity S) ≡ Parity
-  pub held : (S e : ℕ) → S < T → e < N → Held cap l S e (l .owner S e)
+abbrev pub nextFrom : Geometry → ℕ
+nextFrom g = moveFrom (g .old) (g .new) (g .moves)
 
--- a layout to grow from: no place of it is blank
-pub record Full (N T : ℕ) (l : Layout) : Type 0 where
-  pub lawful : Lawful N T (T * (N - 1)) l
-  pub no-blank : (S e : ℕ) → S < T → e < N → l .owner S e ≢ Blank
+abbrev pub nextTo : Geometry → ℕ
+nextTo g = moveTo (g .old) (g .new) (g .moves)
+
+abbrev pub after : Geometry → Geometry
+after g = at g (suc (g .moves))

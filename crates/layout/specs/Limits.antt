@@ -7,7 +7,7 @@ use Rattle.layout.specs.Home.{parityDisk}
 use Rattle.layout.specs.Moves.{zoneOf, withinZone}
 use Rattle.layout.specs.Layout.{totalOf}
 
--- n old and m new disks
+-- n old and m new disks (m is 0 before growth)
 pub record Disks (n m : ℕ) : Type 0 where
   pub n-low : 3 ≤ n
   pub n-high : n ≤ 16
@@ -25,7 +25,7 @@ pub record Apart (n m : ℕ) (x : Stripe) : Type 0 where
   pub within : x .within ≡ withinZone n m (x .number)
   pub parity : x .parity ≡ parityDisk n (x .number)
 
--- an array: "n, the old disks, is 3 to 16; m, the new ones, 1 to 16" (0 before growth), "T, the stripes, is 1 to 1,048,576", "t is at most the total of moves, and with m above 0 T is a multiple of n × (n + m)"
+-- an array: "n, the old disks, is 3 to 16; m, the new ones, 1 to 16" (0 before growth), "T, the stripes, is 1 to 1,048,576", "t is at most the total of moves" (with m = 0 that is 0), "and with m above 0 T is a multiple of n × (n + m)"
 pub record Good (g : Geometry) : Type 0 where
   pub disks : Disks (g .old) (g .new)
   pub stripes-low : 1 ≤ g .stripes

@@ -12,7 +12,7 @@ use Rattle.layout.specs.Home.{placeAt, homeStripe, homeDisk, dataDisk, r
 use Rattle.layout.specs.Moves.{zoneOf, withinZone, zones, moveIndex, moveZone, moveTo, moveLag, moveStripe, moveFrom, carry, stands}
 use Rattle.layout.specs.Closed.{diskAt}
 use Rattle.layout.specs.Blanks.{blanks}
-use Rattle.layout.specs.Layout.{disks, totalOf, at, oldBlocks, capacity, layout}
+use Rattle.layout.specs.Layout.{disks, totalOf, oldBlocks, capacity, layout, nextStripe, nextFrom, nextTo, after}
 
 -- ---- before growth: ranks count the data disks of a stripe from the highest down, skipping parity
 
@@ -111,31 +111,18 @@ pub record Blanked (g : Geometry) : Type 0 where
 
 -- ---- one move: a block or parity, never a blank, to a place that was blank, in its stripe; no other owner changes
 
-module _ (g : Geometry) where
-  abbrev pub stripe : ℕ
-  stripe = moveStripe (g .old) (g .new) (g .moves)
-
-  abbrev pub from : ℕ
-  from = moveFrom (g .old) (g .new) (g .moves)
-
-  abbrev pub to : ℕ
-  to = moveTo (g .old) (g .new) (g .moves)
-
-  abbrev pub after : Geometry
-  after = at g (suc (g .moves))
-
 pub record NextMove (g : Geometry) : Type 0 where
   -- a block stays in its stripe; it and the parity go just as the move carries them
   pub block-goes : (b : ℕ) → b < capacity g → layout (after g) .place b ≡ placeAt (layout g .place b .stripe) (carry (g .old) (g .new) (g .moves) (layout g .place b .stripe) (layout g .place b .disk))
   pub parity-goes : (S : ℕ) → S < g .stripes → layout (after g) .parity S ≡ carry (g .old) (g .new) (g .moves) S (layout g .parity S)
-  pub takes : layout g .owner (stripe g) (from g) ≢ Blank
-  pub onto-blank : layout g .owner (stripe g) (to g) ≡ Blank
-  pub arrives : layout (after g) .owner (stripe g) (to g) ≡ layout g .owner (stripe g) (from g)
+  pub takes : layout g .owner (nextStripe g) (nextFrom g) ≢ Blank
+  pub onto-blank : layout g .owner (nextStripe g) (nextTo g) ≡ Blank
+  pub arrives : layout (after g) .owner (nextStripe g) (nextTo g) ≡ layout g .owner (nextStripe g) (nextFrom g)
   -- every other place that is not blank keeps its owner, at the last move too
-  pub kept : (S e : ℕ) → S < g .stripes → e < disks g → (stripe g ≡ S → (e ≢ from g) × (e ≢ to g)) → layout g .owner S e ≢ Blank → layout (after g) .owner S e ≡ layout g .owner S e
+  pub kept : (S e : ℕ) → S < g .stripes → e < disks g → (nextStripe g ≡ S → (e ≢ nextFrom g) × (e ≢ nextTo g)) → layout g .owner S e ≢ Blank → layout (after g) .owner S e ≡ layout g .owner S e
   -- and unless it is the last one (then the blanks are the new blocks) the place left is blank, and so is what was
-  pub leaves-blank : suc (g .moves) < totalOf g → layout (after g) .owner (stripe g) (from g) ≡ Blank
-  pub others : suc (g .moves) < totalOf g → (S e : ℕ) → S < g .stripes → e < disks g → (stripe g ≡ S → (e ≢ from g) × (e ≢ to g)) → layout (after g) .owner S e ≡ layout g .owner S e
+  pub leaves-blank : suc (g .moves) < totalOf g → layout (after g) .owner (nextStripe g) (nextFrom g) ≡ Blank
+  pub others : suc (g .moves) < totalOf g → (S e : ℕ) → S < g .stripes → e < disks g → (nextStripe g ≡ S → (e ≢ nextFrom g) × (e ≢ nextTo g)) → layout (after g) .owner S e ≡ layout g .owner S e
 
 -- ---- all of it
 

@@ -5,7 +5,7 @@ ghost use Rattle.layout.specs.Moves.{moveOf};
 ghost use Rattle.layout.specs.Limits.{Disks};
 use crate::Move;
 
-// Move k: its place in the order taken apart, then document 01's rule.
+// Move k: its place in the order taken apart, then document 01's rule. No array has 2^28 moves.
 pub fn move_of(n: u64, m: u64, k: u64) -> Move
     requires { ⌜ Disks n m × (0 < m) × (k < 268435456) ⌝ }
     ensures { λ r. ⌜ r ≡ moveOf n m k ⌝ }

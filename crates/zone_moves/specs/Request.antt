@@ -1,9 +1,10 @@
 -- What a line asks for. A byte behind the end of a line counts as 0, which is no digit, no space and no line feed.
-use Prim.Native.Nat.{ℕ, _+_, _-_, _*_, _≤_, _<_}
+use Prim.Native.Nat.{ℕ, _+_, _-_, _*_, _<_}
 use mathlib.Core.Bool.{Bool, cond, not, _&&_}
 use mathlib.Core.List.{List}
 use lib.Dec.{leb, ltb, eqb}
 use lib.ListN.{getD}
+use Rattle.layout.specs.Limits.{Disks}
 use Rattle.zone_moves.specs.declared.parse.Field.the-variants.{Number, Bad}
 use Rattle.zone_moves.specs.declared.parse.Field.{Field}
 use Rattle.zone_moves.specs.declared.parse.Request.the-variants.{Zone, Refused}
@@ -32,10 +33,8 @@ inLimits n m z = leb 3 n && leb n 16 && leb 1 m && leb m 16 && ltb z n
 
 -- the same limits, as facts
 pub record Limited (n m z : ℕ) : Type 0 where
-  pub n-low : 3 ≤ n
-  pub n-high : n ≤ 16
-  pub m-low : 1 ≤ m
-  pub m-high : m ≤ 16
+  pub disks : Disks n m
+  pub new : 0 < m
   pub zone : z < n
 
 -- n, m and z are read

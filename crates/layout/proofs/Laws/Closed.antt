@@ -9,7 +9,6 @@ use lib.Dec.{eqb}
 use borrow.Author.Tests.{lt-ltb, le-ltb, le-leb, lt-leb, eq-eqb, ne-eqb}
 use Rattle.layout.specs.Moves.{moveTo, moveStripe, moveFrom, carry, stands}
 use Rattle.layout.specs.Closed.{target, turn, isMoved, diskAt}
-use Rattle.layout.specs.Theorem.{Replay}
 use Rattle.layout.proofs.Laws.Basics.{le-or-lt}
 use Rattle.layout.proofs.Laws.Lag.{from-below, target-of-move, turn-of-move, turn-to, turn-stripe, turn-from, to-above, to-below}
 
@@ -84,27 +83,24 @@ module _ (n m : ℕ) (pn : 0 < n) (pm : 0 < m) where
   stands-closed zero S d h = sym (disk-stays n m 0 S d (λ a b. zero-le))
   stands-closed (suc t) S d h = ap (carry n m t S) (stands-closed t S d h) ∙ step t S d h
 
--- ---- the theorem's part on the replay
+-- ---- which moves are done
 
 module _ (n m t : ℕ) (pn : 0 < n) (pm : 0 < m) where
-  done : (k : ℕ) → k < t → stands n m t (moveStripe n m k) (moveFrom n m k) ≡ moveTo n m k
+  pub done : (k : ℕ) → k < t → stands n m t (moveStripe n m k) (moveFrom n m k) ≡ moveTo n m k
   done k h =
       let a = target-of-move n m pn pm k in
       stands-closed n m pn pm t _ _ (from-below n m pn pm k)
       ∙ disk-moved n m t _ _ (omega (arith, to-above n m pn pm k)) (omega (arith, to-below n m pn pm k)) (omega (arith, turn-of-move n m pn pm k))
       ∙ a
 
-  waiting : (k : ℕ) → t ≤ k → stands n m t (moveStripe n m k) (moveFrom n m k) ≡ moveFrom n m k
+  pub waiting : (k : ℕ) → t ≤ k → stands n m t (moveStripe n m k) (moveFrom n m k) ≡ moveFrom n m k
   waiting k h =
       stands-closed n m pn pm t _ _ (from-below n m pn pm k)
       ∙ disk-stays n m t _ _ (λ lo hi. omega (arith, turn-of-move n m pn pm k))
 
-  only-moved : (S d : ℕ) → d < n → ((k : ℕ) → k < t → moveStripe n m k ≡ S → moveFrom n m k ≢ d) → stands n m t S d ≡ d
+  pub only-moved : (S d : ℕ) → d < n → ((k : ℕ) → k < t → moveStripe n m k ≡ S → moveFrom n m k ≢ d) → stands n m t S d ≡ d
   only-moved S d h none = stands-closed n m pn pm t S d h ∙ go (look n m t S d)
     where
       go : Where n m t S d → diskAt n m t S d ≡ d
       go (moved e lo hi early) = absurd (none (turn n m S d) early (turn-stripe n m pn pm S d h lo hi) (turn-from n m pn pm S d h lo hi))
       go (stays e k) = e
-
-  pub replayed : Replay n m t
-  replayed = record { closed = stands-closed n m pn pm t; done = done; waiting = waiting; only = only-moved }

@@ -12,11 +12,12 @@ use Rattle.layout.specs.declared.Role.the-variants.{Data, Blank}
 use Rattle.layout.specs.declared.Role.{Role}
 use Rattle.layout.specs.Closed.{diskAt, source, taken}
 use Rattle.layout.specs.Blanks.{newStripe, newBlock}
-use Rattle.layout.specs.Layout.Held.{a-block, the-parity, nothing}
-use Rattle.layout.specs.Layout.{Layout, oldBlocks, openStripes, capacity, grown, carried, newPlace, grownPlace, grownParity, newOwner, grownOwner, Held, Lawful}
+use Rattle.layout.specs.Layout.{Layout, oldBlocks, openStripes, capacity, grown, carried, newPlace, grownPlace, grownParity, newOwner, grownOwner}
 use Rattle.layout.proofs.Laws.Basics.{le-or-lt}
 use Rattle.layout.proofs.Laws.Source.{source-lt, source-of-disk, taken-disk, disk-below, stands-there}
 use Rattle.layout.proofs.Laws.NewBlocks.{new-on-blank, block-of-new, count-lt, stripe-of-new, disk-of-new}
+use Rattle.layout.proofs.Laws.Lawful.Held.{a-block, the-parity, nothing}
+use Rattle.layout.proofs.Laws.Lawful.{Held, Lawful}
 
 module _ (h : Layout) (g : Geometry) where
   -- ---- by cases: a block of before the growth, or a new one

@@ -9,10 +9,10 @@ use lib.Arith.{digits-div, digits-mod, digits-lt}
 use borrow.Author.Tests.{lt-ltb, le-ltb, eq-eqb, ne-eqb}
 use Rattle.layout.specs.declared.Role.the-variants.{Data, Parity, Blank}
 use Rattle.layout.specs.Home.{homeStripe, parityDisk, dataDisk, homeDisk, rankOf, homeBlock, homeOwner}
-use Rattle.layout.specs.Layout.Held.{a-block, the-parity}
-use Rattle.layout.specs.Layout.{homeLayout, Held, Full}
-use Rattle.layout.specs.Theorem.{Ranks}
+use Rattle.layout.specs.Layout.{homeLayout}
 use Rattle.layout.proofs.Laws.Basics.{le-or-lt}
+use Rattle.layout.proofs.Laws.Lawful.Held.{a-block, the-parity}
+use Rattle.layout.proofs.Laws.Lawful.{Held, Full}
 
 module _ (n : ℕ) (pn : 2 ≤ n) where
   pub parity-lt : (S : ℕ) → parityDisk n S < n
@@ -47,20 +47,12 @@ module _ (n : ℕ) (pn : 2 ≤ n) where
       | inr k ↦ let j : parityDisk n S < n - 1 - (n - 1 - d) = omega arith in simp (lt-ltb _ _ k, lt-ltb _ _ j) (omega arith)
     ]
 
-    falling : (q r : ℕ) → q < r → r < n - 1 → dataDisk n S r < dataDisk n S q
+    pub falling : (q r : ℕ) → q < r → r < n - 1 → dataDisk n S r < dataDisk n S q
     unfolding dataDisk
     falling q r l h = elim (le-or-lt (n - 1 - r) (parityDisk n S)) [
       | inr k ↦ let j : parityDisk n S < n - 1 - q = omega arith in simp (lt-ltb _ _ k, lt-ltb _ _ j) (omega arith)
       | inl k ↦ elim (le-or-lt (n - 1 - q) (parityDisk n S)) [ inl j ↦ simp (le-ltb _ _ k, le-ltb _ _ j) (omega arith) | inr j ↦ simp (le-ltb _ _ k, lt-ltb _ _ j) (omega arith) ]
     ]
-
-  pub ranked : Ranks n
-  ranked = record {
-    disk-lt = disk-lt;
-    skips-parity = disk-data;
-    falling = falling;
-    none-missed = λ S d h e. (rank-lt S d h e, disk-rank S d h e);
-  }
 
   -- ---- a block and its place
 

@@ -13,11 +13,12 @@ use Rattle.layout.specs.declared.Role.{Role}
 use Rattle.layout.specs.declared.Stripe.{Stripe}
 use Rattle.layout.specs.Closed.{stripeOf, source, taken}
 use Rattle.layout.specs.Blanks.{blanksBelow, newBlock}
-use Rattle.layout.specs.Layout.{oldBlocks, openStripes, capacity, home, layout, carried, newPlace, grownPlace, newOwner, grownOwner, Lawful, Full}
+use Rattle.layout.specs.Layout.{oldBlocks, openStripes, capacity, home, layout, carried, newPlace, grownPlace, newOwner, grownOwner}
 use Rattle.layout.specs.Limits.{Good}
 use Rattle.layout.proofs.Laws.Basics.{times}
 use Rattle.layout.proofs.Laws.Blanks.{blanks-le}
 use Rattle.layout.proofs.Laws.Numbers.{open-le}
+use Rattle.layout.proofs.Laws.Lawful.{Lawful, Full}
 use Rattle.layout.proofs.Laws.Home.{home-layout-full}
 use Rattle.layout.proofs.Laws.Grown.{low, owner-old, grown-lawful, positive}
 

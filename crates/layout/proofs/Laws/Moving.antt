@@ -8,16 +8,16 @@ use Rattle.layout.specs.declared.Geometry.{Geometry}
 use Rattle.layout.specs.declared.Role.the-variants.{Blank}
 use Rattle.layout.specs.Moves.{carry}
 use Rattle.layout.specs.Closed.{taken}
-use Rattle.layout.specs.Layout.{Layout, totalOf, openStripes, capacity, grownPlace, grownParity, grownOwner, Full}
-use Rattle.layout.specs.Theorem.{stripe, from, to, after}
+use Rattle.layout.specs.Layout.{Layout, totalOf, openStripes, capacity, grownPlace, grownParity, grownOwner, nextStripe, nextFrom, nextTo, after}
 use Rattle.layout.proofs.Laws.Lag.{from-below}
 use Rattle.layout.proofs.Laws.Closed.{step}
 use Rattle.layout.proofs.Laws.OneMove.{source-from, source-to, from-taken, to-blank, from-blank, to-taken, other-same}
 use Rattle.layout.proofs.Laws.Numbers.{open-none}
+use Rattle.layout.proofs.Laws.Lawful.{Full}
 use Rattle.layout.proofs.Laws.Grown.Below.{an-old, a-new}
 use Rattle.layout.proofs.Laws.Grown.{Below, below, low, owner-old, owner-none}
 
-module _ (h : Layout) (g : Geometry) (pn : 2 ≤ g .old) (pm : 0 < g .new) (full : Full (g .old) (g .stripes) h) (more : g .moves < totalOf g) (inside : stripe g < g .stripes) where
+module _ (h : Layout) (g : Geometry) (pn : 2 ≤ g .old) (pm : 0 < g .new) (full : Full (g .old) (g .stripes) h) (more : g .moves < totalOf g) (inside : nextStripe g < g .stripes) where
   p0 : 0 < g .old
   p0 = omega arith
 
@@ -39,25 +39,25 @@ module _ (h : Layout) (g : Geometry) (pn : 2 ≤ g .old) (pm : 0 < g .new) (full
 
   -- ---- who owns what
 
-  from-lt : from g < g .old
+  from-lt : nextFrom g < g .old
   from-lt = from-below _ _ p0 pm (g .moves)
 
   closed : (S : ℕ) → openStripes g ≤ S
   closed S = omega (arith, open-none g (λ q. omega arith))
 
-  owner-from : grownOwner h g (stripe g) (from g) ≡ h .owner (stripe g) (from g)
-  owner-from = owner-old h g _ _ (from-taken _ _ pn pm (g .moves)) ∙ ap (h .owner (stripe g)) (source-from _ _ pn pm (g .moves))
+  owner-from : grownOwner h g (nextStripe g) (nextFrom g) ≡ h .owner (nextStripe g) (nextFrom g)
+  owner-from = owner-old h g _ _ (from-taken _ _ pn pm (g .moves)) ∙ ap (h .owner (nextStripe g)) (source-from _ _ pn pm (g .moves))
 
-  pub takes : grownOwner h g (stripe g) (from g) ≢ Blank
+  pub takes : grownOwner h g (nextStripe g) (nextFrom g) ≢ Blank
   takes q = full .no-blank _ _ inside from-lt (sym owner-from ∙ q)
 
-  pub onto-blank : grownOwner h g (stripe g) (to g) ≡ Blank
+  pub onto-blank : grownOwner h g (nextStripe g) (nextTo g) ≡ Blank
   onto-blank = owner-none h g _ _ (to-blank _ _ pn pm (g .moves)) (closed _)
 
-  pub arrives : grownOwner h (after g) (stripe g) (to g) ≡ grownOwner h g (stripe g) (from g)
-  arrives = owner-old h (after g) _ _ (to-taken _ _ pn pm (g .moves)) ∙ ap (h .owner (stripe g)) (source-to _ _ pn pm (g .moves)) ∙ sym owner-from
+  pub arrives : grownOwner h (after g) (nextStripe g) (nextTo g) ≡ grownOwner h g (nextStripe g) (nextFrom g)
+  arrives = owner-old h (after g) _ _ (to-taken _ _ pn pm (g .moves)) ∙ ap (h .owner (nextStripe g)) (source-to _ _ pn pm (g .moves)) ∙ sym owner-from
 
-  module _ (S e : ℕ) (other : stripe g ≡ S → (e ≢ from g) × (e ≢ to g)) where
+  module _ (S e : ℕ) (other : nextStripe g ≡ S → (e ≢ nextFrom g) × (e ≢ nextTo g)) where
     same : taken (g .old) (g .new) (suc (g .moves)) S e ≡ taken (g .old) (g .new) (g .moves) S e
     same = other-same _ _ pn pm (g .moves) S e other
 
@@ -75,10 +75,10 @@ module _ (h : Layout) (g : Geometry) (pn : 2 ≤ g .old) (pm : 0 < g .new) (full
     still-closed : (S : ℕ) → openStripes (after g) ≤ S
     still-closed S = omega (arith, open-none (after g) (λ q. omega arith))
 
-    pub leaves-blank : grownOwner h (after g) (stripe g) (from g) ≡ Blank
+    pub leaves-blank : grownOwner h (after g) (nextStripe g) (nextFrom g) ≡ Blank
     leaves-blank = owner-none h (after g) _ _ (from-blank _ _ pn pm (g .moves)) (still-closed _)
 
-    pub others : (S e : ℕ) → (stripe g ≡ S → (e ≢ from g) × (e ≢ to g)) → grownOwner h (after g) S e ≡ grownOwner h g S e
+    pub others : (S e : ℕ) → (nextStripe g ≡ S → (e ≢ nextFrom g) × (e ≢ nextTo g)) → grownOwner h (after g) S e ≡ grownOwner h g S e
     others S e other = go (taken (g .old) (g .new) (g .moves) S e) refl
       where
         go : (b : Bool) → taken (g .old) (g .new) (g .moves) S e ≡ b → grownOwner h (after g) S e ≡ grownOwner h g S e

@@ -1,7 +1,7 @@
 -- The blank places of a stripe, counted from the lowest disk, and the new blocks on them, once each. Assumes nothing.
 use Prim.Native.Nat.{ℕ, zero, suc, _+_, _%_, _≤_, _<_}
 use mathlib.Core.Path.{_≡_, refl, sym, ap, _∙_}
-use mathlib.Core.Bool.{Bool, true, false}
+use mathlib.Core.Bool.{Bool, true, false, not}
 use mathlib.Core.List.{[], _∷_, _++_, append-nil}
 use mathlib.Core.Logic.{inl, inr}
 use native.Mathlib.Decide.{ℕ-discrete}
@@ -11,6 +11,7 @@ use native.Mathlib.Omega.{arith}
 use lib.Arith.{digits-div, digits-mod}
 use lib.ListN.{length, getD, length-append, List·getD-append}
 use lib.Seq.{getD-append-seam, getD-at}
+use borrow.Author.Tests.{not-true, not-false}
 use Rattle.layout.specs.Closed.{taken}
 use Rattle.layout.specs.Blanks.{blanksBelow, blanks, newStripe, newDisk, newBlock}
 use Rattle.layout.proofs.Laws.Basics.{le-or-lt}
@@ -88,6 +89,10 @@ module _ (n m t S : ℕ) where
             rw (q, getD-at (blanksBelow n m t S N) N [] 0 j z) (record { under = omega arith; free = f; rank = z }))
       ]
 
+pub blank-there : (n m t S e : ℕ) → e < n + m → taken n m t S e ≡ false → getD (blanks n m t S) (length (blanksBelow n m t S e)) 0 ≡ e
+unfolding blanks
+blank-there n m t S e h f = blank-at n m t S (n + m) e h f .there
+
 -- ---- the new blocks
 
 module _ (n m : ℕ) (pn : 2 ≤ n) (t : ℕ) where
@@ -121,21 +126,20 @@ module _ (n m : ℕ) (pn : 2 ≤ n) (t : ℕ) where
     rest-of-new = digits-mod S count-lt
 
     pub disk-of-new : newDisk n m t (newBlock n m t S e) ≡ e
-    unfolding newDisk blanks
-    disk-of-new = rw (stripe-of-new, rest-of-new) (blank-at n m t S (n + m) e he free .there)
+    unfolding newDisk
+    disk-of-new = rw (stripe-of-new, rest-of-new) (blank-there n m t S e he free)
 
--- ---- a program that counts blanks from the lowest disk
+-- ---- a program that counts blanks from the lowest disk: r is what is_blank says of disk e
 
-module _ (n m t S e : ℕ) where
-  pub count-taken : taken n m t S e ≡ true → length (blanksBelow n m t S (e + 1)) ≡ length (blanksBelow n m t S e)
-  count-taken h = rw add-one (ap length (below-taken n m t S e h))
+module _ (n m t S e : ℕ) (r : Bool) (says : r ≡ not (taken n m t S e)) where
+  pub count-taken : r ≡ false → length (blanksBelow n m t S (e + 1)) ≡ length (blanksBelow n m t S e)
+  count-taken q = rw (add-one e) (ap length (below-taken n m t S e (not-false _ (sym says ∙ q))))
 
-  pub count-blank : taken n m t S e ≡ false → length (blanksBelow n m t S (e + 1)) ≡ length (blanksBelow n m t S e) + 1
-  count-blank h = rw (add-one e) (blank-more n m t S e h ∙ sym (add-one _))
+  pub count-blank : r ≡ true → length (blanksBelow n m t S (e + 1)) ≡ length (blanksBelow n m t S e) + 1
+  count-blank q = rw (add-one e) (blank-more n m t S e (not-true _ (sym says ∙ q)) ∙ sym (add-one _))
 
-  pub found : (j : ℕ) → e < n + m → taken n m t S e ≡ false → length (blanksBelow n m t S e) ≡ j → e ≡ getD (blanks n m t S) j 0
-  unfolding blanks
-  found j h f q = rw (← q) (sym (blank-at n m t S (n + m) e h f .there))
+  pub found : r ≡ true → (j : ℕ) → e < n + m → length (blanksBelow n m t S e) ≡ j → e ≡ getD (blanks n m t S) j 0
+  found q j h z = sym (rw z at (blank-there n m t S e h (not-true _ (sym says ∙ q))))
 
 pub count-all : (n m t S e : ℕ) → 2 ≤ n → e ≡ n + m → length (blanksBelow n m t S e) ≡ m
 unfolding blanks

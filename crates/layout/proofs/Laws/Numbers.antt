@@ -9,7 +9,6 @@ use Rattle.layout.specs.declared.Geometry.{Geometry}
 use Rattle.layout.specs.Moves.{zones, moveIndex, moveZone, moveStripe}
 use Rattle.layout.specs.Layout.{totalOf, disks, oldBlocks, openStripes, capacity}
 use Rattle.layout.specs.Limits.{Good}
-use Rattle.layout.specs.Theorem.{Numbers}
 use Rattle.layout.proofs.Laws.Basics.{le-or-lt}
 use Rattle.layout.proofs.Laws.Zones.{zone-in, stripe-in, index-in, zones-all, total-zones, total-none}
 
@@ -25,7 +24,7 @@ module _ (g : Geometry) where
   pub open-le : openStripes g ≤ g .stripes
   open-le = elim (ℕ-discrete (g .moves) (totalOf g)) [ yes q ↦ omega (arith, open-all q) | no q ↦ omega (arith, open-none q) ]
 
-  capacity-before : g .moves < totalOf g → capacity g ≡ oldBlocks g
+  pub capacity-before : g .moves < totalOf g → capacity g ≡ oldBlocks g
   unfolding capacity
   capacity-before h = omega (arith, ap (λ x. x * g .new) (open-none (λ q. omega arith)))
 
@@ -55,23 +54,12 @@ module _ (g : Geometry) (good : Good g) where
   p0 : 0 < g .old
   p0 = omega (arith, good .disks .n-low)
 
-  counted : 0 < g .new → (Z p i : ℕ) → Z < zones (g .old) (g .new) (g .stripes) → p < disks g → i < g .old → moveIndex (g .old) (g .new) Z p i < totalOf g
+  pub counted : 0 < g .new → (Z p i : ℕ) → Z < zones (g .old) (g .new) (g .stripes) → p < disks g → i < g .old → moveIndex (g .old) (g .new) Z p i < totalOf g
   counted pm Z p i h hi hl = rw total-is (index-in (g .old) (g .new) p0 pm _ Z p i h hi hl)
 
-  no-more : 0 < g .new → (k : ℕ) → k < totalOf g → moveZone (g .old) (g .new) k < zones (g .old) (g .new) (g .stripes)
+  pub no-more : 0 < g .new → (k : ℕ) → k < totalOf g → moveZone (g .old) (g .new) k < zones (g .old) (g .new) (g .stripes)
   no-more pm k h = zone-in (g .old) (g .new) p0 pm _ k (rw total-is at h)
 
   pub inside : 0 < g .new → (k : ℕ) → k < totalOf g → moveStripe (g .old) (g .new) k < g .stripes
   inside pm k h =
       rw (whole-zones pm) at (stripe-in (g .old) (g .new) p0 pm (zones (g .old) (g .new) (g .stripes)) k (rw total-is at h))
-
-  pub numbers : Numbers g
-  numbers = record {
-    whole-zones = whole-zones;
-    total-is = total-is;
-    counted = counted;
-    no-more = no-more;
-    inside = inside;
-    capacity-before = capacity-before g;
-    capacity-after = capacity-after g (omega (arith, good .disks .n-low));
-  }

@@ -7,73 +7,52 @@ use lib.Arith.{digits-div, digits-mod, digits-lt}
 use Rattle.layout.specs.Home.{parityDisk}
 use Rattle.layout.specs.Moves.{withinZone, moveIndex, moveZone, moveTo, moveLag, moveStripe, moveFrom}
 use Rattle.layout.specs.Closed.{lag}
-use Rattle.layout.specs.Theorem.{Order}
-use Rattle.layout.proofs.Laws.Lag.{lag-zero, lag-le, lag-below, to-above, to-below, index, stripe-zone, stripe-rest, from-lag, from-below, lag-of-move}
+use Rattle.layout.proofs.Laws.Lag.{lag-zero, lag-le, lag-below, to-above, stripe-rest, from-lag, lag-of-move}
 
 module _ (n m : ℕ) (pn : 0 < n) (pm : 0 < m) where
   module _ (Z p i : ℕ) (lo : n ≤ p) (hi : p < n + m) (hl : i < n) where
-    lag-of : moveLag n (moveIndex n m Z p i) ≡ i
+    pub lag-of : moveLag n (moveIndex n m Z p i) ≡ i
     unfolding moveLag
     lag-of = digits-mod (Z * m + (p - n)) hl
 
     quotient : moveIndex n m Z p i / n ≡ Z * m + (p - n)
     quotient = digits-div (Z * m + (p - n)) hl
 
-    zone-of : moveZone n m (moveIndex n m Z p i) ≡ Z
+    pub zone-of : moveZone n m (moveIndex n m Z p i) ≡ Z
     unfolding moveZone
     zone-of = rw quotient (digits-div Z (omega arith))
 
-    to-of : moveTo n m (moveIndex n m Z p i) ≡ p
+    pub to-of : moveTo n m (moveIndex n m Z p i) ≡ p
     unfolding moveTo
     to-of = rw quotient (rw (digits-mod Z {m = m} {r = p - n} (omega arith)) (omega arith))
 
-  by-zone : (Z Z′ p p′ i i′ : ℕ) → Z < Z′ → p < n + m → n ≤ p′ → i < n → moveIndex n m Z p i < moveIndex n m Z′ p′ i′
+  pub by-zone : (Z Z′ p p′ i i′ : ℕ) → Z < Z′ → p < n + m → n ≤ p′ → i < n → moveIndex n m Z p i < moveIndex n m Z′ p′ i′
   by-zone Z Z′ p p′ i i′ h hi lo hl =
       let a : Z * m + (p - n) < Z′ * m = digits-lt h (omega arith) in
       let b : Z * m + (p - n) < Z′ * m + (p′ - n) = omega arith in
       let e : (Z * m + (p - n)) * n + i < (Z′ * m + (p′ - n)) * n = digits-lt b hl in
       omega arith
 
-  by-to : (Z p p′ i i′ : ℕ) → n ≤ p → p < p′ → i < n → moveIndex n m Z p i < moveIndex n m Z p′ i′
+  pub by-to : (Z p p′ i i′ : ℕ) → n ≤ p → p < p′ → i < n → moveIndex n m Z p i < moveIndex n m Z p′ i′
   by-to Z p p′ i i′ lo h hl =
       let b : Z * m + (p - n) < Z * m + (p′ - n) = omega arith in
       let e : (Z * m + (p - n)) * n + i < (Z * m + (p′ - n)) * n = digits-lt b hl in
       omega arith
 
   module _ (k : ℕ) where
-    stripe-within : withinZone n m (moveStripe n m k) + moveLag n k ≡ moveTo n m k
+    pub stripe-within : withinZone n m (moveStripe n m k) + moveLag n k ≡ moveTo n m k
     stripe-within = rw (stripe-rest n m pn pm k) (omega (arith, to-above n m pn pm k, lag-below n m pn pm k))
 
-    from-rule : (moveFrom n m k + 2 * moveLag n k) % n ≡ (moveTo n m k + moveZone n m k * m) % n
+    pub from-rule : (moveFrom n m k + 2 * moveLag n k) % n ≡ (moveTo n m k + moveZone n m k * m) % n
     unfolding moveFrom
     from-rule =
         let e : moveTo n m k + moveZone n m k * m + 2 * n - 2 * moveLag n k + 2 * moveLag n k ≡ moveTo n m k + moveZone n m k * m + 2 * n = omega (arith, lag-below n m pn pm k) in
         mod-add-mod _ n (2 * moveLag n k) ∙ ap (λ x. x % n) e ∙ add-mul-mod-self-right (moveTo n m k + moveZone n m k * m) 2 n
 
-    parity-first : moveLag n k ≡ 0 → moveFrom n m k ≡ parityDisk n (moveStripe n m k)
+    pub parity-first : moveLag n k ≡ 0 → moveFrom n m k ≡ parityDisk n (moveStripe n m k)
     parity-first e = from-lag n m pn pm k ∙ ap (lag n (moveStripe n m k)) e ∙ lag-zero n (moveStripe n m k)
 
-    parity-only : moveFrom n m k ≡ parityDisk n (moveStripe n m k) → moveLag n k ≡ 0
+    pub parity-only : moveFrom n m k ≡ parityDisk n (moveStripe n m k) → moveLag n k ≡ 0
     parity-only e =
         let l : parityDisk n (moveStripe n m k) < n = mod-lt (moveStripe n m k) pn in
         sym (lag-of-move n m pn pm k) ∙ ap (lag n (moveStripe n m k)) e ∙ lag-le n (moveStripe n m k) _ l (omega arith) ∙ omega arith
-
-  pub ordered : Order n m
-  ordered = record {
-    to-low = to-above n m pn pm;
-    to-high = to-below n m pn pm;
-    lag-high = lag-below n m pn pm;
-    index-of = λ k. sym (index n m pn pm k);
-    zone-of = zone-of;
-    to-of = to-of;
-    lag-of = lag-of;
-    by-zone = by-zone;
-    by-to = by-to;
-    by-lag = λ Z p i i′ h. omega arith;
-    stripe-zone = stripe-zone n m pn pm;
-    stripe-within = stripe-within;
-    from-lt = from-below n m pn pm;
-    from-rule = from-rule;
-    parity-first = parity-first;
-    parity-only = parity-only;
-  }

@@ -28,13 +28,13 @@ pub record Sized (n m z : ℕ) : Type 0 where
 
 pub sized : {n m z : ℕ} → Limited n m z → Sized n m z
 sized {n} {m} {z} l =
-    let t : z * m ≤ 16 * 16 = times {a = z} {b = m} 16 16 (omega arith) (l .m-high) in
+    let t : z * m ≤ 16 * 16 = times {a = z} {b = m} 16 16 (omega arith) (l .disks .m-high) in
     record {
-      disks = record { n-low = l .n-low; n-high = l .n-high; m-high = l .m-high };
-      new = l .m-low;
-      moves = times {a = m} {b = n} 16 16 (l .m-high) (l .n-high);
+      disks = l .disks;
+      new = l .new;
+      moves = times {a = m} {b = n} 16 16 (l .disks .m-high) (l .disks .n-high);
       turns = t;
-      before = times {a = z * m} {b = n} 256 16 t (l .n-high);
+      before = times {a = z * m} {b = n} 256 16 t (l .disks .n-high);
       room = omega (arith, times {a = (z + 1) * m} {b = n} (n * m) n (times {a = z + 1} {b = m} n m (omega arith) (omega arith)) (omega arith));
     }
 

@@ -47,11 +47,11 @@ limited n m z e =
     let b = both (leb 3 n && leb n 16 && leb 1 m) (leb m 16) (a .0) in
     let c = both (leb 3 n && leb n 16) (leb 1 m) (b .0) in
     let d = both (leb 3 n) (leb n 16) (c .0) in
-    record { n-low = leb-true 3 n (d .0); n-high = leb-true n 16 (d .1); m-low = leb-true 1 m (c .1); m-high = leb-true m 16 (b .1); zone = ltb-true z n (a .1) }
+    record { disks = record { n-low = leb-true 3 n (d .0); n-high = leb-true n 16 (d .1); m-high = leb-true m 16 (b .1) }; new = leb-true 1 m (c .1); zone = ltb-true z n (a .1) }
 
 pub limits-pass : {n m z : ℕ} → Limited n m z → inLimits n m z ≡ true
 unfolding inLimits
-limits-pass {n} {m} {z} l = simp (le-leb 3 n (l .n-low), le-leb n 16 (l .n-high), le-leb 1 m (l .m-low), le-leb m 16 (l .m-high), lt-ltb z n (l .zone))
+limits-pass {n} {m} {z} l = simp (le-leb 3 n (l .disks .n-low), le-leb n 16 (l .disks .n-high), le-leb 1 m (l .new), le-leb m 16 (l .disks .m-high), lt-ltb z n (l .zone))
 
 -- ---- a field
 

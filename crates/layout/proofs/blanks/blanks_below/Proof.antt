@@ -1,11 +1,10 @@
 -- `blanks_below` meets its contract. Assumes nothing.
 use Prim.Native.Nat.{_≤_, _-_}
-use mathlib.Core.Path.{_≡_, sym, _∙_, ap}
+use mathlib.Core.Path.{_≡_, _∙_, ap}
 use mathlib.Core.Logic.{⊎-elim}
 use native.Mathlib.Omega.{arith}
 use lib.ListN.{length}
 use borrow.Author.Needs.{needs}
-use borrow.Author.Tests.{not-true, not-false}
 use Rattle.layout.specs.Blanks.{blanksBelow}
 use Rattle.layout.proofs.Laws.NewBlocks.{count-taken, count-blank}
 use Rattle.layout.proofs.blanks.blanks_below.Statement.{statement}
@@ -35,12 +34,8 @@ loop-less c = omega arith
 
 loop-again : tie.Need-loop-again Inv-loop μ-loop
 loop-again c =
-    let a = c .before .before .before .before .args in
-    let e = c .before .before .before .loop .i in
-    ⊎-elim
-    (λ w. omega (arith, count-blank (a .n) (a .m) (a .t) (a .x .number) e (not-true _ (sym (c .before .is-blank .ensures) ∙ w .0 .taken))))
-    (λ w. omega (arith, count-taken (a .n) (a .m) (a .t) (a .x .number) e (not-false _ (sym (c .before .is-blank .ensures) ∙ w .0 .left))))
-    (c .if1 .came)
+    let k = c .before .is-blank .ensures in
+    ⊎-elim (λ w. omega (arith, count-blank _ _ _ _ _ _ k (w .0 .taken))) (λ w. omega (arith, count-taken _ _ _ _ _ _ k (w .0 .left))) (c .if1 .came)
 
 returns : tie.Need-returns Inv-loop μ-loop
 returns c =

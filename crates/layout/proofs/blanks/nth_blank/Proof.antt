@@ -1,11 +1,10 @@
 -- `nth_blank` meets its contract. Assumes nothing.
 use Prim.Native.Nat.{_≤_, _+_, _-_}
-use mathlib.Core.Path.{_≡_, sym, _∙_}
+use mathlib.Core.Path.{_≡_}
 use mathlib.Core.Logic.{⊎-elim}
 use native.Mathlib.Omega.{arith}
 use lib.ListN.{length}
 use borrow.Author.Needs.{needs}
-use borrow.Author.Tests.{not-true, not-false}
 use Rattle.layout.specs.Blanks.{blanksBelow}
 use Rattle.layout.proofs.Laws.NewBlocks.{count-taken, count-blank, found, count-all}
 use Rattle.layout.proofs.blanks.nth_blank.Statement.{statement}
@@ -28,8 +27,7 @@ is-blank-requires : tie.Need-is-blank-requires Inv-loop μ-loop
 is-blank-requires c κs = search needs
 
 returns : tie.Need-returns Inv-loop μ-loop
-returns c =
-    found _ _ _ _ _ _ (omega arith) (not-true _ (sym (c .before .before .is-blank .ensures) ∙ c .before .if1 .taken)) (omega arith)
+returns c = found _ _ _ _ _ _ (c .before .before .is-blank .ensures) (c .before .if1 .taken) _ (omega arith) (omega arith)
 
 add-seen : tie.Need-add-seen Inv-loop μ-loop
 add-seen c = omega arith
@@ -42,12 +40,8 @@ loop-less c = omega arith
 
 loop-again : tie.Need-loop-again Inv-loop μ-loop
 loop-again c =
-    let a = c .before .before .before .before .args in
-    let e = c .before .before .before .loop .e in
-    ⊎-elim
-    (λ w. omega (arith, count-blank (a .n) (a .m) (a .t) (a .x .number) e (not-true _ (sym (c .before .is-blank .ensures) ∙ w .0 .taken))))
-    (λ w. omega (arith, count-taken (a .n) (a .m) (a .t) (a .x .number) e (not-false _ (sym (c .before .is-blank .ensures) ∙ w .0 .left))))
-    (c .if1 .came)
+    let k = c .before .is-blank .ensures in
+    ⊎-elim (λ w. omega (arith, count-blank _ _ _ _ _ _ k (w .0 .taken))) (λ w. omega (arith, count-taken _ _ _ _ _ _ k (w .0 .left))) (c .if1 .came)
 
 returns-2 : tie.Need-returns-2 Inv-loop μ-loop
 returns-2 c =

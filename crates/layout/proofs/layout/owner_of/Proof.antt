@@ -30,7 +30,7 @@ home-owner-requires : tie.Need-home-owner-requires
 home-owner-requires c κs =
     let a = c .before .before .before .before .args in
     let w = sizes-of _ (c .before .before .before .before .pre .0) (a .s) (omega arith) in
-    (omega arith, omega arith, w .stripe, omega (arith, source-lt (a .g .old) (a .g .new) (omega arith) (c .before .before .before .stripe-of .result .number) (a .e)), ap (λ x. x .parity) (c .before .before .before .stripe-of .ensures))
+    (record { disks = search needs; stripe = w .stripe }, omega (arith, source-lt (a .g .old) (a .g .new) (omega arith) (c .before .before .before .stripe-of .result .number) (a .e)), ap (λ x. x .parity) (c .before .before .before .stripe-of .ensures))
 
 returns-2 : tie.Need-returns-2
 returns-2 c = c .home-owner .ensures ∙ says-old _ (c .before .before .before .before .before .pre .0) _ _ _ (c .before .before .before .before .stripe-of .ensures) _ (c .before .before .before .is-blank .ensures) (c .before .before .if1 .left) _ (c .before .source-of .ensures)
