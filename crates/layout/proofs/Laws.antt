@@ -18,3 +18,4 @@ pub mod Grown
 pub mod Finish
 pub mod Layout
 pub mod Moving
+pub mod Standing

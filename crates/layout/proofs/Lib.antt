@@ -1,3 +1,3 @@
 pub mod Laws
 pub mod Theorem
-pub mod Bench
+pub mod Paper

@@ -1,4 +1,4 @@
--- The definitions, in document 01's order. `Theorem` says what is proved of them, `Bench` has the worked cases.
+-- The definitions, in document 01's order. `Theorem` says what is proved of them, `Paper` has the paper's worked cases.
 pub mod Home
 pub mod Moves
 pub mod Closed
@@ -6,4 +6,4 @@ pub mod Blanks
 pub mod Layout
 pub mod Limits
 pub mod Theorem
-pub mod Bench
+pub mod Paper

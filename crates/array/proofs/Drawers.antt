@@ -1,0 +1,25 @@
+-- One cabinet, byte by byte, by computation. Assumes nothing.
+use mathlib.Core.Path.{refl}
+use Rattle.layout.specs.Home.{dataDisk, homeStripe, homeDisk}
+use Rattle.layout.specs.Moves.{moveZone, moveTo, moveLag, moveWithin, moveStripe, moveFrom, total}
+use Rattle.layout.specs.Closed.{lag, target, turn, isMoved, diskAt}
+use Rattle.layout.specs.Layout.{openStripes, capacity, grownPlace, grownParity}
+use Rattle.state.specs.Good.{newGood, movesGood, good}
+use Rattle.array.specs.Images.{seen, stored, recorded, fillDisk}
+use Rattle.array.specs.Table.{idle, table, refusal}
+use Rattle.array.specs.Effect.{viewOf, scratchLeft, writeStores, moveStores, advanceStores, effect, called}
+use Rattle.array.specs.Drawers.{Drawers}
+
+pub drawers : Drawers
+unfolding dataDisk homeStripe homeDisk moveZone moveTo moveLag moveWithin moveStripe moveFrom total lag target turn isMoved diskAt openStripes capacity grownPlace grownParity newGood movesGood good seen stored recorded fillDisk idle table refusal viewOf scratchLeft writeStores moveStores advanceStores effect called
+drawers = record {
+  move = refl;
+  written = refl;
+  written-degraded = refl;
+  written-no-parity = refl;
+  read-degraded = refl;
+  viewed = refl;
+  viewed-degraded = refl;
+  rebuilt = refl;
+  second-out = refl;
+}

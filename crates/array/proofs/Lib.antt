@@ -1,0 +1,5 @@
+pub mod Bench
+pub mod Refusals
+pub mod Drawers
+pub mod Laws
+pub mod Theorem

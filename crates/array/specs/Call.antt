@@ -1,0 +1,77 @@
+-- The eleven calls, what each is lent beside the record, and the answers.
+use Prim.Native.Nat.{ℕ}
+use mathlib.Core.Bool.{Bool, true, false}
+use mathlib.Core.List.{List}
+use lib.ListN.{length}
+use Rattle.layout.specs.declared.Place.{Place}
+use Rattle.layout.specs.declared.Role.{Role}
+use Rattle.state.specs.declared.Health.{Health}
+
+-- a call with the numbers that it is given, and a write's data
+pub data Call : Type 0 where
+  format : (n B T : ℕ) → Call
+  read : (b : ℕ) → Call
+  view : (b : ℕ) → Call
+  write : (b : ℕ) → List ℕ → Call
+  grow : (m : ℕ) → Call
+  advance : (k : ℕ) → Call
+  out : (d : ℕ) → Call
+  rebuild : (d : ℕ) → Call
+  status : Call
+  locate : (b : ℕ) → Call
+  owner : (S d : ℕ) → Call
+
+-- a call with what it is lent: the images, and as `room` the block that read fills or the scratch of view (calls that take none
+-- do not look at them)
+pub record Event : Type 0 where
+  pub call : Call
+  pub images : List ℕ
+  pub room : List ℕ
+
+-- what of that the table and the flat list look at: the call and the lengths lent, and no byte of the images
+pub record Fed : Type 0 where
+  pub call : Call
+  pub images : ℕ
+  pub room : ℕ
+
+abbrev pub fed : Event → Fed
+fed e = record { call = e .call; images = length (e .images); room = length (e .room) }
+
+-- an answer: a refusal's number, or what the call reports
+pub data Answer : Type 0 where
+  refused : ℕ → Answer
+  done : Answer
+  bytes : List ℕ → Answer
+  made : ℕ → Answer
+  figures : (capacity moves total : ℕ) → Health → Answer
+  placed : Place → Answer
+  owned : Role → Answer
+
+abbrev pub accepted : Answer → Bool
+accepted (refused k) = false
+accepted done = true
+accepted (bytes v) = true
+accepted (made k) = true
+accepted (figures c t total h) = true
+accepted (placed q) = true
+accepted (owned o) = true
+
+-- "0 is done. A refusal returns zeros beside its number, an empty view": the number, the count of advance and the bytes that
+-- read fills in or view returns
+abbrev pub number : Answer → ℕ
+number (refused k) = k
+number done = 0
+number (bytes v) = 0
+number (made k) = 0
+number (figures c t total h) = 0
+number (placed q) = 0
+number (owned o) = 0
+
+abbrev pub count : Answer → ℕ
+count (refused k) = 0
+count done = 0
+count (bytes v) = 0
+count (made k) = k
+count (figures c t total h) = 0
+count (placed q) = 0
+count (owned o) = 0

@@ -1,0 +1,31 @@
+-- DEMAND 1, as far as the definitions go: "The lent images, record, block and scratch hold after a refused call the very bytes they
+-- held before it, nonsense records and lengths included; every call .. refuses exactly as the table says".
+-- `demand1 : (e : Event) (b : List ℕ) → Demand1 e b` of proofs/Theorem.antt proves it of every call, whatever it is lent.
+use Prim.Native.Nat.{ℕ, _<_}
+use mathlib.Core.Path.{_≡_}
+use mathlib.Core.Bool.{Bool, true, false}
+use mathlib.Core.Logic.{_↔_, _≢_}
+use mathlib.Core.List.{List, [], _∷_, _++_}
+use Rattle.array.specs.Call.{Event, fed, accepted, number}
+use Rattle.array.specs.Table.{Row, word, rowsBytes, refusalBytes}
+use Rattle.array.specs.Effect.{calledBytes}
+
+-- no condition of these rows holds
+unfoldable pub NoneHolds : List Row → Type 0
+NoneHolds [] = Unit
+NoneHolds (x ∷ rows) = (x .1 ≡ false) × NoneHolds rows
+
+-- "A number is given if its condition holds and no lower one's does, and else never. 0 is done."
+pub record Given (rows : List Row) : Type 0 where
+  pub given : (before after : List Row) (k : ℕ) (holds : Bool) → rows ≡ before ++ (k, holds) ∷ after → (word rows ≡ k) ↔ ((holds ≡ true) × NoneHolds before)
+  pub zero : (word rows ≡ 0) ↔ NoneHolds rows
+  -- what stands before a row has lower numbers, what stands behind it higher ones
+  pub rising : (before middle after : List Row) (x y : Row) → rows ≡ before ++ x ∷ (middle ++ y ∷ after) → x .0 < y .0
+
+pub record Demand1 (e : Event) (b : List ℕ) : Type 0 where
+  -- the number returned is the table's ..
+  pub number-is : number (calledBytes e b .answer) ≡ refusalBytes b (fed e)
+  pub table-is : Given (rowsBytes b (fed e))
+  -- .. and if it is not 0, record, images and block or scratch are as they were lent
+  pub untouched : accepted (calledBytes e b .answer) ≡ false → (calledBytes e b .state ≡ b) × (calledBytes e b .images ≡ e .images) × (calledBytes e b .room ≡ e .room)
+  pub refused : (accepted (calledBytes e b .answer) ≡ false) ↔ (refusalBytes b (fed e) ≢ 0)

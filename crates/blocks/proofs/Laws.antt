@@ -1,0 +1,8 @@
+-- The laws of the definitions, from the bottom, and of the two kinds of loops.
+pub mod Block
+pub mod Xor
+pub mod Rows
+pub mod Grid
+pub mod Stripe
+pub mod Fill
+pub mod Summed

@@ -1,0 +1,129 @@
+-- A store into a list of bytes: its length, what it leaves as it was, and what is read back. Assumes nothing.
+use Prim.Native.Nat.{ℕ, zero, suc, _+_, _≤_, _<_}
+use mathlib.Core.Path.{_≡_, refl, sym, ap, _∙_}
+use mathlib.Core.Logic.{_⊎_, inl, inr}
+use mathlib.Core.List.{List, [], _∷_, _++_}
+use native.Mathlib.Nat.{zero-add, suc-add}
+use native.Mathlib.Omega.{arith}
+use lib.ListN.{length, getD, set, take, drop, length-drop}
+use lib.Seq.{length-take-le, getD-take, getD-drop}
+use Rattle.blocks.specs.Block.{blockAt, store, Apart}
+
+pub length-store : (l : List ℕ) (at : ℕ) (b : List ℕ) → length (store l at b) ≡ length l
+length-store [] at b = refl
+length-store (x ∷ l) (suc at) b = ap suc (length-store l at b)
+length-store (x ∷ l) zero [] = refl
+length-store (x ∷ l) zero (y ∷ b) = ap suc (length-store l zero b)
+
+pub store-nil : (l : List ℕ) (at : ℕ) → store l at [] ≡ l
+store-nil [] at = refl
+store-nil (x ∷ l) (suc at) = rw (store-nil l at)
+store-nil (x ∷ l) zero = refl
+
+-- a store of two runs, one behind the other
+pub store-append : (l : List ℕ) (at : ℕ) (b c : List ℕ) → store l at (b ++ c) ≡ store (store l at b) (at + length b) c
+store-append [] at b c = refl
+store-append (x ∷ l) (suc at) b c = rw (suc-add, store-append l at b c)
+store-append (x ∷ l) zero [] c = refl
+store-append (x ∷ l) zero (y ∷ b) c = rw (zero-add, store-append l zero b c, zero-add)
+
+pub store-one : (l : List ℕ) (i v : ℕ) → store l i (v ∷ []) ≡ set l i v
+store-one [] i v = refl
+store-one (x ∷ l) (suc i) v = rw (store-one l i v)
+store-one (x ∷ l) zero v = rw (store-nil l zero)
+
+-- one byte more
+pub store-snoc : (l : List ℕ) (at : ℕ) (b : List ℕ) (v : ℕ) → store l at (b ++ (v ∷ [])) ≡ set (store l at b) (at + length b) v
+store-snoc l at b v = store-append l at b (v ∷ []) ∙ store-one (store l at b) (at + length b) v
+
+-- a second store in the same place
+pub store-store : (l : List ℕ) (at : ℕ) (a b : List ℕ) → length a ≡ length b → store (store l at a) at b ≡ store l at b
+store-store [] at a b e = refl
+store-store (x ∷ l) (suc at) a b e = ap (λ (r : List ℕ). x ∷ r) (store-store l at a b e)
+store-store (x ∷ l) zero [] b e = refl
+store-store (x ∷ l) zero (y ∷ a) [] e = absurd (omega arith)
+store-store (x ∷ l) zero (y ∷ a) (z ∷ b) e = ap (λ (r : List ℕ). z ∷ r) (store-store l zero a b (omega arith))
+
+-- two stores apart from each other, in either order
+pub store-comm : (l : List ℕ) (at : ℕ) (a : List ℕ) (at′ : ℕ) (b : List ℕ) → at + length a ≤ at′ → store (store l at a) at′ b ≡ store (store l at′ b) at a
+store-comm [] at a at′ b h = refl
+store-comm (x ∷ l) (suc at) a zero b h = absurd (omega arith)
+store-comm (x ∷ l) (suc at) a (suc at′) b h = ap (λ (r : List ℕ). x ∷ r) (store-comm l at a at′ b (omega arith))
+store-comm (x ∷ l) zero [] at′ b h = rw (store-nil (store (x ∷ l) at′ b) zero)
+store-comm (x ∷ l) zero (y ∷ a) zero b h = absurd (omega arith)
+store-comm (x ∷ l) zero (y ∷ a) (suc at′) b h = ap (λ (r : List ℕ). y ∷ r) (store-comm l zero a at′ b (omega arith))
+
+-- behind a store all is as it was
+pub drop-store : (l : List ℕ) (at : ℕ) (b : List ℕ) (n : ℕ) → at + length b ≤ n → drop n (store l at b) ≡ drop n l
+drop-store [] at b n h = refl
+drop-store (x ∷ l) (suc at) b zero h = absurd (omega arith)
+drop-store (x ∷ l) (suc at) b (suc n) h = drop-store l at b n (omega arith)
+drop-store (x ∷ l) zero [] n h = refl
+drop-store (x ∷ l) zero (y ∷ b) zero h = absurd (omega arith)
+drop-store (x ∷ l) zero (y ∷ b) (suc n) h = drop-store l zero b n (omega arith)
+
+pub getD-store-other : (l : List ℕ) (at : ℕ) (b : List ℕ) (i d : ℕ) → (i < at) ⊎ (at + length b ≤ i) → getD (store l at b) i d ≡ getD l i d
+getD-store-other [] at b i d h = refl
+getD-store-other (x ∷ l) (suc at) b zero d h = refl
+getD-store-other (x ∷ l) (suc at) b (suc i) d (inl h) = getD-store-other l at b i d (inl (omega arith))
+getD-store-other (x ∷ l) (suc at) b (suc i) d (inr h) = getD-store-other l at b i d (inr (omega arith))
+getD-store-other (x ∷ l) zero [] i d h = refl
+getD-store-other (x ∷ l) zero (y ∷ b) i d (inl h) = absurd (omega arith)
+getD-store-other (x ∷ l) zero (y ∷ b) zero d (inr h) = absurd (omega arith)
+getD-store-other (x ∷ l) zero (y ∷ b) (suc i) d (inr h) = getD-store-other l zero b i d (inr (omega arith))
+
+-- a block is read back
+pub blockAt-store : (l : List ℕ) (at : ℕ) (b : List ℕ) (n : ℕ) → length b ≡ n → at + n ≤ length l → blockAt (store l at b) at n ≡ b
+blockAt-store [] at [] n e h = rw (← e)
+blockAt-store [] at (y ∷ b) n e h = absurd (omega arith)
+blockAt-store (x ∷ l) (suc at) b n e h = blockAt-store l at b n e (omega arith)
+blockAt-store (x ∷ l) zero [] n e h = rw (← e)
+blockAt-store (x ∷ l) zero (y ∷ b) zero e h = absurd (omega arith)
+blockAt-store (x ∷ l) zero (y ∷ b) (suc n) e h = ap (λ (r : List ℕ). y ∷ r) (blockAt-store l zero b n (omega arith) (omega arith))
+
+-- a block before a store
+blockAt-before : (l : List ℕ) (at : ℕ) (b : List ℕ) (at′ n : ℕ) → at′ + n ≤ at → blockAt (store l at b) at′ n ≡ blockAt l at′ n
+blockAt-before [] at b at′ n h = refl
+blockAt-before (x ∷ l) zero b at′ zero h = refl
+blockAt-before (x ∷ l) zero b at′ (suc n) h = absurd (omega arith)
+blockAt-before (x ∷ l) (suc at) b (suc at′) n h = blockAt-before l at b at′ n (omega arith)
+blockAt-before (x ∷ l) (suc at) b zero zero h = refl
+blockAt-before (x ∷ l) (suc at) b zero (suc n) h = ap (λ (r : List ℕ). x ∷ r) (blockAt-before l at b zero n (omega arith))
+
+pub blockAt-other : (l : List ℕ) (at : ℕ) (b : List ℕ) (at′ n : ℕ) → Apart at (length b) at′ n → blockAt (store l at b) at′ n ≡ blockAt l at′ n
+blockAt-other l at b at′ n (inl h) = ap (take n) (drop-store l at b at′ h)
+blockAt-other l at b at′ n (inr h) = blockAt-before l at b at′ n h
+
+-- storing what is there changes nothing
+pub store-blockAt : (l : List ℕ) (at n : ℕ) → store l at (blockAt l at n) ≡ l
+store-blockAt [] at n = refl
+store-blockAt (x ∷ l) (suc at) n = ap (λ (r : List ℕ). x ∷ r) (store-blockAt l at n)
+store-blockAt (x ∷ l) zero zero = refl
+store-blockAt (x ∷ l) zero (suc n) = ap (λ (r : List ℕ). x ∷ r) (store-blockAt l zero n)
+
+-- one byte, apart from a store
+pub set-store : (l : List ℕ) (at : ℕ) (b : List ℕ) (i v : ℕ) → (i < at) ⊎ (at + length b ≤ i) → set (store l at b) i v ≡ store (set l i v) at b
+set-store l at b i v (inl h) = simp (← store-one) (sym (store-comm l i (v ∷ []) at b (omega arith)))
+set-store l at b i v (inr h) = simp (← store-one) (store-comm l at b i (v ∷ []) h)
+
+-- a whole list stored over another
+pub store-whole : (l b : List ℕ) → length b ≡ length l → store l 0 b ≡ b
+store-whole [] [] e = refl
+store-whole [] (y ∷ b) e = absurd (omega arith)
+store-whole (x ∷ l) [] e = absurd (omega arith)
+store-whole (x ∷ l) (y ∷ b) e = ap (λ (r : List ℕ). y ∷ r) (store-whole l b (omega arith))
+
+pub length-blockAt : (l : List ℕ) (at n : ℕ) → at + n ≤ length l → length (blockAt l at n) ≡ n
+length-blockAt l at n h = length-take-le n (drop at l) (simp length-drop (omega arith))
+
+pub getD-blockAt : (l : List ℕ) (at n i : ℕ) → i < n → getD (blockAt l at n) i 0 ≡ getD l (at + i) 0
+getD-blockAt l at n i h = rw (getD-take, getD-drop)
+
+take-short : (n : ℕ) (l : List ℕ) → length (take n l) ≤ n
+take-short zero l = omega arith
+take-short (suc n) [] = omega arith
+take-short (suc n) (x ∷ l) = omega (arith, take-short n l)
+
+-- shorter only where the list ends
+pub blockAt-short : (l : List ℕ) (at n : ℕ) → length (blockAt l at n) ≤ n
+blockAt-short l at n = take-short n (drop at l)

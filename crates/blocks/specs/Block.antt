@@ -1,0 +1,24 @@
+-- A block is a run of bytes. `store` keeps the length of what it stores into, whatever it is handed.
+use Prim.Native.Nat.{ℕ, zero, suc, _+_, _≤_}
+use mathlib.Core.Logic.{_⊎_}
+use mathlib.Core.List.{List, [], _∷_}
+use lib.ListN.{take, drop, replicate}
+
+-- the len bytes of l from offset at on
+abbrev pub blockAt : List ℕ → ℕ → ℕ → List ℕ
+blockAt l at len = take len (drop at l)
+
+-- l with the bytes of b from offset at on
+abbrev pub store : List ℕ → ℕ → List ℕ → List ℕ
+store [] at b = []
+store (x ∷ l) (suc at) b = x ∷ store l at b
+store (x ∷ l) zero [] = x ∷ l
+store (x ∷ l) zero (y ∷ b) = y ∷ store l zero b
+
+-- a block of zeroes
+abbrev pub zeros : ℕ → List ℕ
+zeros len = replicate len 0
+
+-- len bytes from at on and len′ bytes from at′ on have none in common
+abbrev pub Apart : ℕ → ℕ → ℕ → ℕ → Type 0
+Apart at len at′ len′ = (at + len ≤ at′) ⊎ (at′ + len′ ≤ at)

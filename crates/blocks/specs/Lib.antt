@@ -1,0 +1,4 @@
+-- Bytes only: a block within a list of bytes, the xor of blocks, and the places of a stripe within the images.
+pub mod Block
+pub mod Xor
+pub mod Stripe

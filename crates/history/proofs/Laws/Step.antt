@@ -1,0 +1,160 @@
+-- The array and the flat list, call by call: from images that hold the list, equal answers and records, and images that hold the next list. Assumes nothing.
+use Prim.Native.Nat.{ℕ, zero, suc}
+use mathlib.Core.Path.{_≡_, refl, sym, ap, _∙_, subst}
+use mathlib.Core.Bool.{Bool, true, false, cond, not}
+use mathlib.Core.List.{List}
+use native.Mathlib.Omega.{arith}
+use lib.Dec.{eqb}
+use lib.ListN.{length, getD}
+use Rattle.layout.specs.Layout.{capacity}
+use Rattle.blocks.proofs.Laws.Stripe.{getD-place}
+use Rattle.state.specs.declared.Record.{Record}
+use Rattle.state.specs.Good.{geometry, good}
+use Rattle.state.specs.Bytes.{decode, encode, goodBytes}
+use Rattle.state.proofs.Laws.Bytes.{decode-encode, length-encode, plain-encode}
+use Rattle.array.specs.Call.{Call, format, read, view, write, grow, advance, out, rebuild, status, locate, owner, Event, Fed, fed, Answer, accepted}
+use Rattle.array.specs.Images.{size, stored, recorded}
+use Rattle.array.specs.Table.{word, table, refusal, rowsBytes, refusalBytes}
+use Rattle.array.specs.Effect.{effect, Left, act, untouched, settle, sealed, calledBytes}
+use Rattle.array.proofs.Laws.Holding.{Holding, Kept, relends}
+use Rattle.array.proofs.Laws.Format.{formats}
+use Rattle.array.proofs.Laws.Read.{reads, views}
+use Rattle.array.proofs.Laws.Write.{writes}
+use Rattle.array.proofs.Laws.Grow.{grows}
+use Rattle.array.proofs.Laws.Advance.{advances}
+use Rattle.array.proofs.Laws.Out.{outs}
+use Rattle.array.proofs.Laws.Rebuild.{rebuilds}
+use Rattle.history.specs.Flat.{Flat, flatAct, flatSettle, flatStep}
+use Rattle.history.specs.Lent.{Cabinet, takes, Keeps, Lends, leaves, stands, next}
+
+-- ---- an accepted call
+
+-- the array's answer, record and standing images against the flat list's
+pub record Acted (c : Call) (x : Left Record) (r : Record) (before : List ℕ) (y : Answer × Flat) : Type 0 where
+  pub answer : x .answer ≡ y .0
+  pub taken : accepted (y .0) ≡ true
+  pub state : x .state ≡ y .1 .numbers
+  pub holding : Holding (y .1 .numbers) (stands true (takes c r) before (x .images)) (y .1 .blocks)
+
+-- places that are kept are kept byte by byte
+kept-bytes : (r : Record) (left lent : List ℕ) → Keeps r left lent → Kept r left lent
+unfolding Keeps
+kept-bytes r left lent k S d j lS ld lj q =
+    sym (getD-place (r .block) (r .stripes) lent S d j lj) ∙ ap (λ (v : List ℕ). getD v j 0) (k S d lS ld q) ∙ getD-place (r .block) (r .stripes) left S d j lj
+
+abbrev event : Call → List ℕ → List ℕ → Event
+event c img room = record { call = c; images = img; room = room }
+
+module _ (r : Record) (left : List ℕ) (bs : List (List ℕ)) (h : Holding r left bs) (img room : List ℕ) where
+  abbrev Passes : Call → Type 0
+  Passes c = word (table c false (not (good r)) r (capacity (geometry r)) (length img) (length room)) ≡ 0
+
+  -- images that may be lent hold the list too
+  lent : (length img ≡ size r → Keeps r left img) → length img ≡ size r → Holding r img bs
+  lent k z = relends r left bs h img z (kept-bytes r left img (k z))
+
+  acts : (c : Call) → Lends (event c img room) r left → Passes c → Acted c (act (event c img room) r) r left (flatAct c r bs)
+  unfolding Lends takes flatAct effect stored recorded
+  acts (format n B T) l z = let x = formats n B T img room false (not (good r)) r (capacity (geometry r)) (length room) z in record { answer = x .answer; taken = refl; state = x .state; holding = x .holding }
+  acts (read b) l z = let x = reads r img room bs (lent l) b false (not (good r)) z in record { answer = x .answer; taken = refl; state = x .state; holding = x .holding }
+  acts (view b) l z = let x = views r img room bs (lent l) b false (not (good r)) z in record { answer = x .answer; taken = refl; state = x .state; holding = x .holding }
+  acts (write b v) l z = let x = writes r img room bs (lent l) b v false (not (good r)) (length room) z in record { answer = x .answer; taken = refl; state = x .state; holding = x .holding }
+  acts (grow m) l z =
+      let x = grows r left img room bs h m (λ q. kept-bytes r left img (l q)) false (not (good r)) (capacity (geometry r)) (length room) z in
+      record { answer = x .answer; taken = refl; state = x .state; holding = x .holding }
+  acts (advance k) l z =
+      let x = advances r img room bs (lent l) k false (not (good r)) (capacity (geometry r)) (length room) z in record { answer = x .answer; taken = refl; state = x .state; holding = x .holding }
+  acts (out d) l z =
+      record { answer = refl; taken = refl; state = refl; holding = outs r left bs h d false (not (good r)) (capacity (geometry r)) (length img) (length room) z }
+  acts (rebuild d) l z =
+      let x = rebuilds r img room bs (lent l) d false (not (good r)) (capacity (geometry r)) (length room) z in record { answer = x .answer; taken = refl; state = x .state; holding = x .holding }
+  acts status l z = record { answer = rw (h .count); taken = refl; state = refl; holding = h }
+  acts (locate b) l z = record { answer = refl; taken = refl; state = refl; holding = h }
+  acts (owner S d) l z = record { answer = refl; taken = refl; state = refl; holding = h }
+
+-- ---- a call, refused or not
+
+pub record Alike (e : Event) (a : Cabinet) (y : Answer × Flat) : Type 0 where
+  pub answer : leaves e a .answer ≡ y .0
+  pub fields : leaves e a .state ≡ encode (y .1 .numbers)
+  pub holding : Holding (y .1 .numbers) (next e a .img) (y .1 .blocks)
+
+abbrev cabinet : Record → List ℕ → Cabinet
+cabinet r left = record { rec = encode r; img = left }
+
+-- the same by what the call leaves
+record Settled (e : Event) (b before : List ℕ) (x : Left (List ℕ)) (y : Answer × Flat) : Type 0 where
+  answer : x .answer ≡ y .0
+  fields : x .state ≡ encode (y .1 .numbers)
+  holding : Holding (y .1 .numbers) (stands (accepted (x .answer)) (takes (e .call) (decode b)) before (x .images)) (y .1 .blocks)
+
+-- the table reads the record's bytes as it reads the record
+good-encode : (r : Record) → goodBytes (encode r) ≡ good r
+good-encode r = rw (plain-encode r, decode-encode r)
+
+number-is : (r : Record) (e : Fed) → refusalBytes (encode r) e ≡ refusal r (capacity (geometry r)) e
+unfolding refusalBytes rowsBytes refusal
+number-is r e = rw (length-encode r, good-encode r, decode-encode r)
+
+module _ (r : Record) (left : List ℕ) (bs : List (List ℕ)) (h : Holding r left bs) (e : Event) (l : Lends e r left) where
+  abbrev f : Flat
+  f = record { numbers = r; blocks = bs }
+
+  settled : Settled e (encode r) left (settle (refusal r (capacity (geometry r)) (fed e)) (untouched e (encode r)) (sealed (act e r)))
+      (flatSettle (refusal r (capacity (geometry r)) (fed e)) f (flatAct (e .call) r bs))
+  unfolding refusal
+  settled = go (refusal r (capacity (geometry r)) (fed e)) refl
+    where
+      go : (n : ℕ) → refusal r (capacity (geometry r)) (fed e) ≡ n
+          → Settled e (encode r) left (settle n (untouched e (encode r)) (sealed (act e r))) (flatSettle n f (flatAct (e .call) r bs))
+      go zero z =
+          let x = acts r left bs h (e .images) (e .room) (e .call) l z in
+          record { answer = x .answer; fields = ap encode (x .state); holding = rw (decode-encode r, ap accepted (x .answer) ∙ x .taken) (x .holding) }
+      go (suc n) z = record { answer = refl; fields = refl; holding = h }
+
+  alike-here : Alike e (cabinet r left) (flatStep (fed e) f)
+  unfolding flatStep calledBytes next
+  alike-here =
+      let x : Settled e (encode r) left (settle (refusalBytes (encode r) (fed e)) (untouched e (encode r)) (sealed (act e (decode (encode r)))))
+      (flatSettle (refusal r (length bs) (fed e)) f (flatAct (e .call) r bs)) = rw (number-is r (fed e), decode-encode r, h .count) settled in
+      record { answer = x .answer; fields = x .fields; holding = x .holding }
+
+-- from a cabinet that holds the flat list
+pub record Holds (a : Cabinet) (f : Flat) : Type 0 where
+  pub fields : a .rec ≡ encode (f .numbers)
+  pub holding : Holding (f .numbers) (a .img) (f .blocks)
+
+pub alike : (e : Event) (a : Cabinet) (f : Flat) → Holds a f → Lends e (f .numbers) (a .img) → Alike e a (flatStep (fed e) f)
+alike e a f h l =
+    subst (λ (b : List ℕ). Alike e (record { rec = b; img = a .img }) (flatStep (fed e) f)) (sym (h .fields)) (alike-here (f .numbers) (a .img) (f .blocks) (h .holding) e l)
+
+-- ---- the opening: an accepted format, whatever it is lent and whatever the flat list held
+
+module _ (n B T : ℕ) (img room : List ℕ) (a : Cabinet) (f : Flat) where
+  abbrev e : Event
+  e = event (format n B T) img room
+
+  -- the numbers that the two machines are given differ only if the record is not 16 bytes long
+  abbrev short : Bool
+  short = not (eqb (length (a .rec)) 16)
+
+  abbrev W : ℕ
+  W = word (table (format n B T) false false (f .numbers) 0 (length img) (length room))
+
+  abbrev X : ℕ → Left (List ℕ)
+  X k = settle k (untouched e (a .rec)) (sealed (act e (decode (a .rec))))
+
+  opened : (k : ℕ) → W ≡ k → accepted (X k .answer) ≡ true → Settled e (a .rec) (a .img) (X k) (flatSettle k f (flatAct (format n B T) (f .numbers) (f .blocks)))
+  unfolding table flatAct effect takes
+  opened zero z u =
+      let x = formats n B T img room false false (decode (a .rec)) 0 (length room) z in
+      record { answer = x .answer; fields = ap encode (x .state); holding = x .holding }
+  opened (suc k) z u = absurd (let w : _≡_ {A = ℕ} 0 1 = cc in omega arith)
+
+  pub opens : accepted (leaves e a .answer) ≡ true → Alike e a (flatStep (fed e) f)
+  unfolding calledBytes refusalBytes rowsBytes refusal flatStep table next
+  opens u = let x = go short refl u in record { answer = x .answer; fields = x .fields; holding = x .holding }
+    where
+      go : (b : Bool) → short ≡ b → accepted (X (cond b 1 W) .answer) ≡ true → Settled e (a .rec) (a .img) (X (cond b 1 W)) (flatStep (fed e) f)
+      go true q v = absurd (let w : _≡_ {A = ℕ} 0 1 = cc in omega arith)
+      go false q v = opened W refl v

@@ -1,0 +1,3 @@
+pub mod Sample
+pub mod Laws
+pub mod Theorem

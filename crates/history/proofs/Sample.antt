@@ -1,0 +1,26 @@
+-- The sample history, by computation. Assumes nothing.
+use mathlib.Core.Path.{refl}
+use Rattle.layout.specs.Home.{dataDisk, homeStripe, homeDisk, rankOf, homeBlock, homeOwner}
+use Rattle.layout.specs.Moves.{moveZone, moveTo, moveLag, moveWithin, moveStripe, moveFrom, total}
+use Rattle.layout.specs.Closed.{lag, target, turn, isMoved, diskAt, source, taken}
+use Rattle.layout.specs.Blanks.{blanksBelow, blanks, newStripe, newDisk, newBlock}
+use Rattle.layout.specs.Layout.{openStripes, capacity, grownPlace, grownParity, newOwner, grownOwner}
+use Rattle.state.specs.Good.{newGood, movesGood, good}
+use Rattle.state.specs.Bytes.{decode, plain, encode}
+use Rattle.array.specs.Images.{seen, stored, recorded, fillDisk, zeroDisks}
+use Rattle.array.specs.Table.{idle, formable, table, rowsBytes, refusal, refusalBytes}
+use Rattle.array.specs.Effect.{viewOf, scratchLeft, writeStores, moveStores, advanceStores, effect, calledBytes}
+use Rattle.history.specs.Flat.{flatAct, flatStep}
+use Rattle.history.specs.Lent.{takes, next}
+use Rattle.history.specs.Theorem.{answers, flatAnswers}
+use Rattle.history.specs.Sample.{junk, play, Sample}
+
+pub sample : Sample
+unfolding dataDisk homeStripe homeDisk rankOf homeBlock homeOwner moveZone moveTo moveLag moveWithin moveStripe moveFrom total
+    lag target turn isMoved diskAt source taken blanksBelow blanks newStripe newDisk newBlock
+    openStripes capacity grownPlace grownParity newOwner grownOwner
+    newGood movesGood good decode plain encode
+    seen stored recorded fillDisk zeroDisks idle formable table rowsBytes refusal refusalBytes
+    viewOf scratchLeft writeStores moveStores advanceStores effect calledBytes
+    flatAct flatStep takes next answers flatAnswers junk play
+sample = record { array = refl; flat-list = refl }

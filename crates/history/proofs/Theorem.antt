@@ -1,0 +1,208 @@
+-- Demand 3, proved: `demand3`, `flat-list` and `second-out`. Assumes nothing.
+use Prim.Native.Nat.{ℕ, zero, suc, _+_, _≤_, _<_}
+use mathlib.Core.Path.{_≡_, refl, sym, ap, ap₂, _∙_, subst}
+use mathlib.Core.Bool.{Bool, true, false, not, _||_}
+use mathlib.Core.Logic.{_↔_, _≢_}
+use mathlib.Core.List.{List, [], _∷_, _++_, map}
+use native.Mathlib.Omega.{arith}
+use lib.Dec.{eqb}
+use lib.ListN.{length, length-append, List·getD-append}
+use lib.Seq.{ext-getD}
+use Rattle.layout.specs.Layout.{totalOf, capacity}
+use Rattle.layout.specs.Limits.{Good}
+use Rattle.blocks.specs.Stripe.{offset}
+use Rattle.blocks.proofs.Laws.Stripe.{place-in, length-place, getD-place}
+use Rattle.state.specs.declared.Record.{Record}
+use Rattle.state.specs.Good.{geometry}
+use Rattle.state.specs.Bytes.{decode, encode, goodBytes}
+use Rattle.state.proofs.Laws.Bytes.{decode-encode}
+use Rattle.array.specs.Call.{Call, format, read, advance, out, Event, fed, Answer, bytes, accepted}
+use Rattle.array.specs.Health.{isLost, isDegraded}
+use Rattle.array.specs.Images.{disksOf, size, placeIn}
+use Rattle.array.specs.Table.{idle, word, table, refusal, rowsBytes, refusalBytes}
+use Rattle.array.specs.Effect.{parityAfter, Left, act, untouched, settle, sealed, calledBytes}
+use Rattle.array.specs.Sound.{Sound}
+use Rattle.array.proofs.Theorem.{demand1}
+use Rattle.array.proofs.Laws.Acting.{fills}
+use Rattle.array.proofs.Laws.Table.{passes, equal, some-new}
+use Rattle.array.proofs.Laws.Holding.{Holding}
+use Rattle.array.proofs.Laws.Sound.{sound}
+use Rattle.array.proofs.Laws.Advance.{parity-kept}
+use Rattle.history.specs.Flat.{Flat, flatAct, flatSettle, flatStep}
+use Rattle.history.specs.Lent.{Cabinet, Takes, nothing, anything, those, takes, Keeps, Lent, Lends, leaves, stands, next}
+use Rattle.history.specs.Theorem.{tally, Claim, Claims, opening, Demand3, WhatStands, Fair, answers, flatAnswers, FlatList, SecondOut}
+use Rattle.history.proofs.Laws.Step.{Alike, Holds, alike, opens}
+use Rattle.history.proofs.Laws.Lost.{lost-then, no-reads}
+use Rattle.history.proofs.Laws.Tally.{Counted, counted-step, over-is}
+
+-- ---- what a call leaves, by its definition
+
+module _ (e : Event) (a : Cabinet) where
+  abbrev X : ℕ → Left (List ℕ)
+  X n = settle n (untouched e (a .rec)) (sealed (act e (decode (a .rec))))
+
+  filled : (b : ℕ) → e .call ≡ read b → accepted (leaves e a .answer) ≡ true → leaves e a .answer ≡ bytes (leaves e a .room)
+  unfolding calledBytes
+  filled b q = go (refusalBytes (a .rec) (fed e))
+    where
+      go : (n : ℕ) → accepted (X n .answer) ≡ true → X n .answer ≡ bytes (X n .room)
+      go zero u = fills e (decode (a .rec)) b q
+      go (suc n) u = absurd (let w : _≡_ {A = ℕ} 0 1 = cc in omega arith)
+
+  stays : accepted (leaves e a .answer) ≡ false → next e a ≡ a
+  unfolding next
+  stays u =
+      ap₂ (λ (b img : List ℕ). record { rec = b; img = img }) (demand1 e (a .rec) .untouched u .0)
+      (ap (λ (c : Bool). stands c (takes (e .call) (decode (a .rec))) (a .img) (leaves e a .images)) u)
+
+  -- an accepted call passed the table
+  passed : accepted (leaves e a .answer) ≡ true → word (rowsBytes (a .rec) (fed e)) ≡ 0
+  unfolding calledBytes refusalBytes
+  passed u = go (refusalBytes (a .rec) (fed e)) u
+    where
+      go : (n : ℕ) → accepted (X n .answer) ≡ true → n ≡ 0
+      go zero v = refl
+      go (suc n) v = absurd (let w : _≡_ {A = ℕ} 0 1 = cc in omega arith)
+
+  parities : Good (geometry (decode (a .rec))) → (k i S : ℕ) → e .call ≡ advance k → accepted (leaves e a .answer) ≡ true → S < decode (a .rec) .stripes
+      → parityAfter (suc i) (decode (a .rec)) (e .images) S ≡ parityAfter i (decode (a .rec)) (e .images) S
+  unfolding rowsBytes table
+  parities gd k i S q u lS =
+      let r : Record = decode (a .rec) in
+      let short : Bool = not (eqb (length (a .rec)) 16) in
+      let bad : Bool = not (goodBytes (a .rec)) in
+      let z : word (table (advance k) short bad r (capacity (geometry r)) (length (e .images)) (length (e .room))) ≡ 0 =
+      subst (λ (c : Call). word (table c short bad r (capacity (geometry r)) (length (e .images)) (length (e .room))) ≡ 0) q (passed u) in
+      let (p₁, z₁) = passes (short || bad) 0 _ z in
+      let (p₂, z₂) = passes (isLost (r .health)) 1 _ z₁ in
+      let (p₃, z₃) = passes (isDegraded (r .health)) 2 _ z₂ in
+      let (busy, z₄) = passes (idle (geometry r)) 4 _ z₃ in
+      let (p₅, z₅) = passes (not (eqb (length (e .images)) (size r))) 6 _ z₄ in
+      let long : length (e .images) ≡ size r = equal (length (e .images)) (size r) p₅ in
+      let nz : r .new ≢ 0 = some-new (geometry r) busy in
+      parity-kept (suc i) r (e .images) gd nz long S lS ∙ sym (parity-kept i r (e .images) gd nz long S lS)
+
+-- ---- the record's bytes read back
+
+read-back : (b : List ℕ) (r : Record) → b ≡ encode r → decode b ≡ r
+read-back b r p = ap decode p ∙ decode-encode r
+
+over-bytes : (b : List ℕ) (r : Record) (sum : ℕ) → b ≡ encode r → (r .new ≢ 0 → r .moves ≡ sum) → decode b .new ≢ 0 → (idle (geometry (decode b)) ≡ true) ↔ (sum ≡ totalOf (geometry (decode b)))
+over-bytes b r sum p h = rw (read-back b r p) (over-is (geometry r) sum h)
+
+sound-bytes : (b : List ℕ) (r : Record) (img : List ℕ) (bs : List (List ℕ)) → b ≡ encode r → Holding r img bs → isLost (decode b .health) ≡ false → (S : ℕ) → S < decode b .stripes → Sound (decode b) img S
+sound-bytes b r img bs p h = rw (read-back b r p) (λ nl S lS. sound r img bs h nl S lS)
+
+-- ---- one call
+
+claim : (e : Event) (a : Cabinet) (f : Flat) (sum : ℕ) → Alike e a (flatStep (fed e) f) → Counted (flatStep (fed e) f .1) sum
+    → ((k i S : ℕ) → e .call ≡ advance k → accepted (leaves e a .answer) ≡ true → S < decode (a .rec) .stripes
+    → parityAfter (suc i) (decode (a .rec)) (e .images) S ≡ parityAfter i (decode (a .rec)) (e .images) S)
+    → Claim e a f sum
+unfolding Counted
+claim e a f sum s h p =
+    let y : Answer × Flat = flatStep (fed e) f in
+    record {
+      answer = s .answer;
+      filled = filled e a;
+      fields = s .fields;
+      refused = demand1 e (a .rec) .untouched;
+      stays = stays e a;
+      parity = p;
+      over = over-bytes (leaves e a .state) (y .1 .numbers) sum (s .fields) h;
+      sound = sound-bytes (leaves e a .state) (y .1 .numbers) (next e a .img) (y .1 .blocks) (s .fields) (s .holding);
+    }
+
+-- ---- every list
+
+holds-next : (e : Event) (a : Cabinet) (y : Answer × Flat) → Alike e a y → Holds (next e a) (y .1)
+unfolding next
+holds-next e a y s = record { fields = s .fields; holding = s .holding }
+
+counted-next : (e : Event) (a : Cabinet) (f : Flat) (sum : ℕ) → Counted f sum → Alike e a (flatStep (fed e) f) → Counted (flatStep (fed e) f .1) (tally (e .call) (leaves e a .answer) sum)
+counted-next e a f sum h s = rw (s .answer) (counted-step (fed e) f sum h)
+
+good-bytes : (b : List ℕ) (r : Record) → b ≡ encode r → Good (geometry r) → Good (geometry (decode b))
+good-bytes b r p g = rw (read-back b r p) g
+
+claims : (es : List Event) (a : Cabinet) (f : Flat) (sum : ℕ) → Holds a f → Counted f sum → Claims es a f sum
+unfolding Claims
+claims [] a f sum h c = tt
+claims (e ∷ es) a f sum h c =
+    λ l.
+    let s : Alike e a (flatStep (fed e) f) = alike e a f h l in
+    let after : ℕ = tally (e .call) (leaves e a .answer) sum in
+    let c′ : Counted (flatStep (fed e) f .1) after = counted-next e a f sum c s in (
+      claim e a f after s c′ (parities e a (good-bytes (a .rec) (f .numbers) (h .fields) (h .holding .limits .array))),
+      claims es (next e a) (flatStep (fed e) f .1) after (holds-next e a (flatStep (fed e) f) s) c′,
+    )
+
+-- a format starts the count anew
+counted-format : (n B T : ℕ) (img room : List ℕ) (a : Cabinet) (f : Flat) (sum : ℕ) → accepted (leaves (opening n B T img room) a .answer) ≡ true → Alike (opening n B T img room) a (flatStep (fed (opening n B T img room)) f)
+    → Counted (flatStep (fed (opening n B T img room)) f .1) sum
+unfolding flatStep flatAct Counted
+counted-format n B T img room a f sum u s = go (refusal (f .numbers) (length (f .blocks)) (fed (opening n B T img room))) (ap accepted (sym (s .answer)) ∙ u)
+  where
+    Y : ℕ → Answer × Flat
+    Y k = flatSettle k f (flatAct (format n B T) (f .numbers) (f .blocks))
+
+    go : (k : ℕ) → accepted (Y k .0) ≡ true → Y k .1 .numbers .new ≢ 0 → Y k .1 .numbers .moves ≡ sum
+    go zero v = λ q. absurd (q refl)
+    go (suc k) v = absurd (let w : _≡_ {A = ℕ} 0 1 = cc in omega arith)
+
+pub demand3 : Demand3
+unfolding Claims
+demand3 a f sum n B T img room u es =
+    let e : Event = opening n B T img room in
+    let s : Alike e a (flatStep (fed e) f) = opens n B T img room a f u in
+    let after : ℕ = tally (e .call) (leaves e a .answer) sum in
+    let c : Counted (flatStep (fed e) f .1) after = counted-format n B T img room a f after u s in
+    λ l. (
+      claim e a f after s c (λ k i S q v lS. absurd (let w : _≡_ {A = ℕ} 0 1 = cc in omega arith)),
+      claims es (next e a) (flatStep (fed e) f .1) after (holds-next e a (flatStep (fed e) f) s) c,
+    )
+
+-- ---- what stands may be lent
+
+module _ (r : Record) (left behind : List ℕ) (long : length left ≡ size r) where
+  keeps : Keeps r left (left ++ behind)
+  unfolding Keeps
+  keeps S d lS ld q =
+      let more : size r ≤ length (left ++ behind) = rw (length-append left behind, long) (omega arith) in
+      let len : length (placeIn r (left ++ behind) S d) ≡ r .block = length-place (r .block) (r .stripes) (left ++ behind) S d (disksOf r) lS ld more in
+      let len′ : length (placeIn r left S d) ≡ r .block = length-place (r .block) (r .stripes) left S d (disksOf r) lS ld (rw long (omega arith)) in
+      ext-getD 0 (placeIn r (left ++ behind) S d) (placeIn r left S d) (len ∙ sym len′)
+      (λ j l.
+      let lj : j < r .block = rw len at l in
+      getD-place (r .block) (r .stripes) (left ++ behind) S d j lj
+      ∙ List·getD-append left behind 0 (offset (r .block) (r .stripes) S d + j) (omega (arith, place-in (r .block) (r .stripes) S d (disksOf r) lS ld))
+      ∙ sym (getD-place (r .block) (r .stripes) left S d j lj))
+
+  lent : (t : Takes) (img : List ℕ) → img ≡ left ++ behind → Lent t r left img
+  lent nothing img q = tt
+  lent anything img q = tt
+  lent (those len) img q = λ z. subst (Keeps r left) (sym q) keeps
+
+pub what-stands : WhatStands
+unfolding Lends
+what-stands e r left behind long q = lent r left behind long (takes (e .call) r) (e .images) q
+
+-- ---- in short
+
+outcome : {x x′ : Answer} {r r′ : List ℕ} {l l′ : List (Answer × List ℕ)} → x ≡ x′ → r ≡ r′ → l ≡ l′ → _≡_ {A = List (Answer × List ℕ)} ((x, r) ∷ l) ((x′, r′) ∷ l′)
+outcome p q t = λ i. (p i, q i) ∷ t i
+
+same-answers : (es : List Event) (a : Cabinet) (f : Flat) (sum : ℕ) → Claims es a f sum → Fair es a f → answers es a ≡ flatAnswers (map fed es) f
+unfolding Claims Fair answers flatAnswers
+same-answers [] a f sum h l = refl
+same-answers (e ∷ es) a f sum h l =
+    let after : ℕ = tally (e .call) (leaves e a .answer) sum in
+    outcome (h (l .0) .0 .answer) (h (l .0) .0 .fields) (same-answers es (next e a) (flatStep (fed e) f .1) after (h (l .0) .1) (l .1))
+
+pub flat-list : FlatList
+flat-list a f n B T img room u es l = same-answers (opening n B T img room ∷ es) a f 0 (demand3 a f 0 n B T img room u es) l
+
+-- ---- a second disk out
+
+pub second-out : SecondOut
+second-out f first second len room h u es = no-reads es (flatStep (record { call = out second; images = len; room = room }) f .1) (lost-then f first second len room h u)

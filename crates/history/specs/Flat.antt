@@ -1,0 +1,60 @@
+-- Document 01: "The flat list is a small machine. It is fed each call's arguments, a write's data among them, and the lengths
+-- lent, and no byte of record or images. It holds n, m, B, T, t, health with the disk out, and a list of blocks; capacity is
+-- that list's length."
+use Prim.Native.Nat.{ℕ, zero, suc, _+_, _-_, _*_, min}
+use mathlib.Core.Bool.{cond}
+use mathlib.Core.List.{List, [], _++_}
+use lib.Dec.{eqb}
+use lib.ListN.{length, getD, set, replicate}
+use Rattle.layout.specs.Layout.{totalOf, layout}
+use Rattle.blocks.specs.Block.{zeros}
+use Rattle.state.specs.declared.Health.the-variants.{Whole}
+use Rattle.state.specs.declared.Record.{Record}
+use Rattle.state.specs.Good.{geometry}
+use Rattle.array.specs.Call.{Call, format, read, view, write, grow, advance, out, rebuild, status, locate, owner, Fed, Answer, refused, done, bytes, made, figures, placed, owned}
+use Rattle.array.specs.Health.{afterOut, formatted, grownBy, withMoves, withHealth}
+use Rattle.array.specs.Table.{refusal}
+
+pub record Flat : Type 0 where
+  pub numbers : Record
+  pub blocks : List (List ℕ)
+
+abbrev pub flat : Record → List (List ℕ) → Flat
+flat r bs = record { numbers = r; blocks = bs }
+
+abbrev pub zeroBlocks : ℕ → ℕ → List (List ℕ)
+zeroBlocks c B = replicate c (zeros B)
+
+-- "A grow or advance that brings t to the total puts T × m zero blocks behind the list."
+abbrev pub lengthened : Record → List (List ℕ) → List (List ℕ)
+lengthened r bs = cond (eqb (r .moves) (totalOf (geometry r))) (bs ++ zeroBlocks (r .stripes * r .new) (r .block)) bs
+
+unfoldable pub flatAct : Call → Record → List (List ℕ) → Answer × Flat
+-- "Format: n, B, T as given, m = t = 0, whole, T × (n − 1) zero blocks."
+flatAct (format n B T) r bs = (done, flat (formatted n B T) (zeroBlocks (T * (n - 1)) B))
+-- "Read and view give block b; write replaces it by the data."
+flatAct (read b) r bs = (bytes (getD bs b []), flat r bs)
+flatAct (view b) r bs = (bytes (getD bs b []), flat r bs)
+flatAct (write b v) r bs = (done, flat r (set bs b v))
+-- "Grow: m as given, t = 0."
+flatAct (grow m) r bs = let next = grownBy r m in (done, flat next (lengthened next bs))
+-- "Advance: the lesser of k and total − t is added to t and reported."
+flatAct (advance k) r bs =
+    let c = min k (totalOf (geometry r) - r .moves) in
+    let next = withMoves r (r .moves + c) in
+    (made c, flat next (lengthened next bs))
+-- "Out and rebuild: health as under Calls."
+flatAct (out d) r bs = (done, flat (withHealth r (afterOut (r .health) d)) bs)
+flatAct (rebuild d) r bs = (done, flat (withHealth r Whole) bs)
+-- "Status, locate and owner answer from these numbers, by Layout."
+flatAct status r bs = (figures (length bs) (r .moves) (totalOf (geometry r)) (r .health), flat r bs)
+flatAct (locate b) r bs = (placed (layout (geometry r) .place b), flat r bs)
+flatAct (owner S d) r bs = (owned (layout (geometry r) .owner S d), flat r bs)
+
+-- "Refused: the table, read on these numbers, gives the number .. Nothing changes."
+abbrev pub flatSettle : ℕ → Flat → Answer × Flat → Answer × Flat
+flatSettle zero f acted = acted
+flatSettle (suc k) f acted = (refused (suc k), f)
+
+unfoldable pub flatStep : Fed → Flat → Answer × Flat
+flatStep e f = flatSettle (refusal (f .numbers) (length (f .blocks)) e) f (flatAct (e .call) (f .numbers) (f .blocks))

@@ -1,0 +1,68 @@
+-- What a call of a history may be lent, and what stands after it. Document 01: "Each gets the record, and where it takes images
+-- those too, as the calls before left them. Format may be lent any images instead; grow is lent those left with any bytes behind
+-- them; and any call that is lent images may be lent a length that refusal 7 turns away. After a refused call the next is lent
+-- what stood before it. Data, block and scratch are each call's own, with any bytes."
+use Prim.Native.Nat.{ℕ, _<_}
+use mathlib.Core.Path.{_≡_}
+use mathlib.Core.Bool.{Bool, true, false}
+use mathlib.Core.List.{List}
+use lib.ListN.{length}
+use Rattle.state.specs.declared.Record.{Record}
+use Rattle.state.specs.Bytes.{decode}
+use Rattle.array.specs.Call.{Call, format, read, view, write, grow, advance, out, rebuild, status, locate, owner, Event, accepted}
+use Rattle.array.specs.Health.{absent}
+use Rattle.array.specs.Images.{disksOf, size, sizeWith, placeIn}
+use Rattle.array.specs.Effect.{Left, calledBytes}
+
+-- what the line controller keeps from call to call: the record's bytes and the images
+pub record Cabinet : Type 0 where
+  pub rec : List ℕ
+  pub img : List ℕ
+
+-- the images that a call takes: none, any, or those that stand, of the length that refusal 7 asks for
+pub data Takes : Type 0 where
+  nothing : Takes
+  anything : Takes
+  those : ℕ → Takes
+
+unfoldable pub takes : Call → Record → Takes
+takes (format n B T) r = anything
+takes (read b) r = those (size r)
+takes (view b) r = those (size r)
+takes (write b v) r = those (size r)
+takes (grow m) r = those (sizeWith r m)
+takes (advance k) r = those (size r)
+takes (out d) r = nothing
+takes (rebuild d) r = those (size r)
+takes status r = nothing
+takes (locate b) r = nothing
+takes (owner S d) r = nothing
+
+-- every place of `left` stands in `lent`, but those of a disk that is out: "once out (d) is accepted .., and until a rebuild of d
+-- or a format is accepted, disk d may hold any bytes, new ones before each call" (where health is lost, any disk may: no call
+-- looks at them)
+unfoldable pub Keeps : Record → List ℕ → List ℕ → Type 0
+Keeps r left lent = (S d : ℕ) → S < r .stripes → d < disksOf r → absent (r .health) S d ≡ false → placeIn r lent S d ≡ placeIn r left S d
+
+-- images of the length asked for are those left, with any bytes behind; images of another length are any
+abbrev pub Lent : Takes → Record → List ℕ → List ℕ → Type 0
+Lent nothing r left lent = Unit
+Lent anything r left lent = Unit
+Lent (those len) r left lent = length lent ≡ len → Keeps r left lent
+
+unfoldable pub Lends : Event → Record → List ℕ → Type 0
+Lends e r left = Lent (takes (e .call) r) r left (e .images)
+
+-- ---- one call: it is lent the record of the cabinet; what it leaves, and what then stands in the cabinet
+
+abbrev pub leaves : Event → Cabinet → Left (List ℕ)
+leaves e a = calledBytes e (a .rec)
+
+abbrev pub stands : Bool → Takes → List ℕ → List ℕ → List ℕ
+stands false t before left = before
+stands true nothing before left = before
+stands true anything before left = left
+stands true (those len) before left = left
+
+unfoldable pub next : Event → Cabinet → Cabinet
+next e a = let x = leaves e a in record { rec = x .state; img = stands (accepted (x .answer)) (takes (e .call) (decode (a .rec))) (a .img) (x .images) }

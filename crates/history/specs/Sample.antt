@@ -1,0 +1,284 @@
+-- One history of one cabinet, run through both machines. 3 disks of 12 stripes, with blocks of 2 bytes, and then a fourth: 9 moves,
+-- capacity 24, then 36. The expected answers are literals, printed by a program that was written from document 01 and knows none
+-- of these definitions: it replays the moves one by one on a table of places. `sample` of proofs/Sample.antt computes both machines.
+use Prim.Native.Nat.{ℕ, zero, suc, _+_, _*_, _%_}
+use mathlib.Core.Path.{_≡_}
+use mathlib.Core.List.{List, [], _∷_, _++_, map}
+use lib.ListN.{take, drop}
+use Rattle.layout.specs.declared.Role.the-variants.{Data, Parity, Blank}
+use Rattle.layout.specs.Home.{placeAt}
+use Rattle.state.specs.declared.Health.the-variants.{Whole, Out, Lost}
+use Rattle.state.specs.Bytes.{decode}
+use Rattle.array.specs.Call.{Call, format, read, view, write, grow, advance, out, rebuild, status, locate, owner, Event, fed, Answer, refused, done, bytes, made, figures, placed, owned}
+use Rattle.history.specs.Flat.{Flat, flat}
+use Rattle.history.specs.Lent.{Cabinet, next}
+use Rattle.history.specs.Theorem.{answers, flatAnswers}
+
+-- ---- a script
+
+-- a call, what happens to the images that stand before it is lent them, and the block or scratch that it is lent
+pub record Step : Type 0 where
+  pub call : Call
+  pub change : List ℕ → List ℕ
+  pub room : List ℕ
+
+-- len bytes of nonsense, others for each g
+unfoldable pub junk : ℕ → ℕ → List ℕ
+junk g zero = []
+junk g (suc len) = (g * suc len + 37) % 256 ∷ junk g len
+
+-- the 24 bytes of disk d replaced by nonsense
+abbrev pub spoil : ℕ → ℕ → List ℕ → List ℕ
+spoil d g img = take (d * 24) img ++ junk g 24 ++ drop (d * 24 + 24) img
+
+-- a call lent the images as they stand and a block of 2 bytes ..
+abbrev pub plain : Call → Step
+plain c = record { call = c; change = λ img. img; room = 7 ∷ 7 ∷ [] }
+
+-- .. with nonsense on disk d ..
+abbrev pub spoilt : ℕ → ℕ → Call → Step
+spoilt d g c = record { call = c; change = spoil d g; room = 7 ∷ 7 ∷ [] }
+
+-- .. with a disk of nonsense behind them ..
+abbrev pub longer : Call → Step
+longer c = record { call = c; change = λ img. img ++ junk 77 24; room = 7 ∷ 7 ∷ [] }
+
+-- .. a byte short ..
+abbrev pub shorter : Call → Step
+shorter c = record { call = c; change = drop 1; room = 7 ∷ 7 ∷ [] }
+
+-- .. and a block of len bytes
+abbrev pub room : ℕ → Call → Step
+room len c = record { call = c; change = λ img. img; room = junk 5 len }
+
+-- its event, where img stands
+abbrev pub lent : Step → List ℕ → Event
+lent s img = record { call = s .call; images = s .change img; room = s .room }
+
+-- the events of a script, each lent what the ones before left, changed as the script says
+unfoldable pub play : List Step → Cabinet → List Event
+play [] a = []
+play (s ∷ ss) a = let e = lent s (a .img) in e ∷ play ss (next e a)
+
+-- ---- the script
+
+-- a new cabinet of 3 disks, and its first blocks
+abbrev pub begun : List Step
+begun =
+    plain (format 3 2 12)
+    ∷ plain (write 4 (17 ∷ 34 ∷ []))  -- stripe 2: the second to move
+    ∷ plain (write 5 (85 ∷ 170 ∷ []))  -- its neighbour, which stays
+    ∷ plain (write 6 (1 ∷ 2 ∷ []))  -- stripe 3: the parity will move, first of all
+    ∷ plain (write 2 (9 ∷ 90 ∷ []))  -- stripe 1: the third to move
+    ∷ plain (write 0 (250 ∷ 251 ∷ []))  -- stripe 0: nothing moves
+    ∷ plain (write 19 (3 ∷ 4 ∷ []))  -- stripe 9: the last to move
+    ∷ plain (write 4 (66 ∷ 77 ∷ []))  -- written again
+    ∷ plain (read 4)
+    ∷ plain (view 6)
+    ∷ []
+
+-- a fourth disk, with nonsense on it, and the first two moves
+abbrev pub growing : List Step
+growing =
+    plain (advance 1)  -- nothing to move before a growth
+    ∷ plain (locate 4)
+    ∷ plain (owner 3 0)
+    ∷ plain (owner 3 3)  -- there is no disk 3
+    ∷ plain (grow 2)  -- 12 is no multiple of 3 × 5
+    ∷ plain (grow 1)  -- the new disk is missing
+    ∷ longer (grow 1)
+    ∷ plain (owner 3 3)  -- zeroed, and blank
+    ∷ plain (advance 2)  -- stripe 3's parity and block 4 go to disk 3
+    ∷ plain (locate 4)
+    ∷ plain (locate 2)  -- of the same zone, and not moved yet
+    ∷ plain (owner 2 3)
+    ∷ plain (owner 3 3)
+    ∷ plain (owner 3 0)  -- left blank
+    ∷ plain (write 4 (111 ∷ 222 ∷ []))  -- in its new place
+    ∷ plain (read 4)
+    ∷ plain (write 7 (200 ∷ 100 ∷ []))  -- its parity in the new place
+    ∷ plain (read 7)
+    ∷ plain (read 24)  -- no new block before the last move
+    ∷ []
+
+-- disk 2 is out, and holds other bytes before every call
+abbrev pub degraded : List Step
+degraded =
+    plain (out 2)
+    ∷ spoilt 2 11 status
+    ∷ spoilt 2 13 (read 0)  -- on disk 2
+    ∷ spoilt 2 17 (view 6)  -- on disk 2
+    ∷ spoilt 2 19 (write 6 (40 ∷ 50 ∷ []))  -- on disk 2: the parity alone takes it
+    ∷ spoilt 2 23 (write 4 (12 ∷ 21 ∷ []))  -- on disk 3, its parity on disk 2
+    ∷ spoilt 2 29 (write 7 (99 ∷ 98 ∷ []))  -- on disk 1, its parity on disk 3
+    ∷ spoilt 2 31 (read 6)
+    ∷ spoilt 2 37 (read 4)
+    ∷ spoilt 2 41 (read 7)
+    ∷ spoilt 2 43 (read 2)  -- on disk 2, not written since
+    ∷ spoilt 2 47 (advance 1)  -- a disk out halts the growth
+    ∷ spoilt 2 53 (grow 1)  -- degraded and grown: the lower number
+    ∷ spoilt 2 59 (out 2)  -- out already
+    ∷ spoilt 2 61 (rebuild 1)  -- another disk
+    ∷ spoilt 2 67 (rebuild 2)
+    ∷ []
+
+-- whole again: the other seven moves, and the new blocks
+abbrev pub finished : List Step
+finished =
+    plain (read 6)
+    ∷ plain (read 4)
+    ∷ plain (read 7)
+    ∷ plain (advance 100)
+    ∷ plain (advance 1)
+    ∷ longer (grow 1)
+    ∷ plain status
+    ∷ plain (read 2)  -- moved third
+    ∷ plain (read 19)  -- moved last
+    ∷ plain (locate 26)  -- a new block, on the place that block 4 left
+    ∷ plain (owner 2 1)
+    ∷ plain (read 26)  -- zeroes
+    ∷ plain (read 27)  -- on the place that stripe 3's parity left
+    ∷ plain (write 26 (5 ∷ 6 ∷ []))
+    ∷ plain (read 26)
+    ∷ []
+
+-- past the end, wrong lengths
+abbrev pub turnedAway : List Step
+turnedAway =
+    plain (read 36)
+    ∷ room 3 (read 35)  -- a block of 3 bytes
+    ∷ plain (write 35 (1 ∷ []))  -- data of 1 byte
+    ∷ shorter (read 35)  -- images a byte short
+    ∷ []
+
+-- two disks out: nothing is read any more
+abbrev pub lost : List Step
+lost =
+    plain (out 1)
+    ∷ spoilt 1 71 (view 26)  -- on disk 1
+    ∷ spoilt 1 73 (out 3)  -- the second
+    ∷ spoilt 1 79 (read 4)
+    ∷ spoilt 1 83 (rebuild 1)
+    ∷ spoilt 1 89 status
+    ∷ spoilt 1 97 (locate 26)
+    ∷ []
+
+-- formatted again, now as 4 disks from the start
+abbrev pub anew : List Step
+anew =
+    plain (format 3 2 12)  -- images of 4 disks
+    ∷ plain (format 4 2 12)
+    ∷ plain (read 4)
+    ∷ []
+
+-- all of it
+abbrev pub script : List Step
+script = begun ++ growing ++ degraded ++ finished ++ turnedAway ++ lost ++ anew
+
+-- ---- both machines before the first format
+
+-- the array: nonsense, of the lengths that the format asks for
+abbrev pub cabinet : Cabinet
+cabinet = record { rec = junk 91 16; img = junk 57 72 }
+
+-- the flat list: the same nonsense as numbers, and no blocks
+abbrev pub list : Flat
+list = flat (decode (junk 91 16)) []
+
+-- ---- the answers
+
+-- the record's bytes: n, m, health with its disk, B = 2, T = 12, t
+abbrev pub after : ℕ → ℕ → ℕ → ℕ → ℕ → List ℕ
+after n m h d t = n ∷ m ∷ h ∷ d ∷ 2 ∷ 0 ∷ 0 ∷ 0 ∷ 12 ∷ 0 ∷ 0 ∷ 0 ∷ t ∷ 0 ∷ 0 ∷ 0 ∷ []
+
+-- what each call answers, and the record's bytes after it
+abbrev pub expected : List (Answer × List ℕ)
+expected =
+    -- begun
+    (done, after 3 0 0 0 0)  -- format 3 2 12
+    ∷ (done, after 3 0 0 0 0)  -- write 4 (17 ∷ 34 ∷ [])
+    ∷ (done, after 3 0 0 0 0)  -- write 5 (85 ∷ 170 ∷ [])
+    ∷ (done, after 3 0 0 0 0)  -- write 6 (1 ∷ 2 ∷ [])
+    ∷ (done, after 3 0 0 0 0)  -- write 2 (9 ∷ 90 ∷ [])
+    ∷ (done, after 3 0 0 0 0)  -- write 0 (250 ∷ 251 ∷ [])
+    ∷ (done, after 3 0 0 0 0)  -- write 19 (3 ∷ 4 ∷ [])
+    ∷ (done, after 3 0 0 0 0)  -- write 4 (66 ∷ 77 ∷ [])
+    ∷ (bytes (66 ∷ 77 ∷ []), after 3 0 0 0 0)  -- read 4
+    ∷ (bytes (1 ∷ 2 ∷ []), after 3 0 0 0 0)  -- view 6
+    -- growing
+    ∷ (refused 5, after 3 0 0 0 0)  -- advance 1
+    ∷ (placed (placeAt 2 1), after 3 0 0 0 0)  -- locate 4
+    ∷ (owned Parity, after 3 0 0 0 0)  -- owner 3 0
+    ∷ (refused 10, after 3 0 0 0 0)  -- owner 3 3
+    ∷ (refused 6, after 3 0 0 0 0)  -- grow 2
+    ∷ (refused 7, after 3 0 0 0 0)  -- grow 1
+    ∷ (done, after 3 1 0 0 0)  -- grow 1
+    ∷ (owned Blank, after 3 1 0 0 0)  -- owner 3 3
+    ∷ (made 2, after 3 1 0 0 2)  -- advance 2
+    ∷ (placed (placeAt 2 3), after 3 1 0 0 2)  -- locate 4
+    ∷ (placed (placeAt 1 2), after 3 1 0 0 2)  -- locate 2
+    ∷ (owned (Data 4), after 3 1 0 0 2)  -- owner 2 3
+    ∷ (owned Parity, after 3 1 0 0 2)  -- owner 3 3
+    ∷ (owned Blank, after 3 1 0 0 2)  -- owner 3 0
+    ∷ (done, after 3 1 0 0 2)  -- write 4 (111 ∷ 222 ∷ [])
+    ∷ (bytes (111 ∷ 222 ∷ []), after 3 1 0 0 2)  -- read 4
+    ∷ (done, after 3 1 0 0 2)  -- write 7 (200 ∷ 100 ∷ [])
+    ∷ (bytes (200 ∷ 100 ∷ []), after 3 1 0 0 2)  -- read 7
+    ∷ (refused 8, after 3 1 0 0 2)  -- read 24
+    -- degraded
+    ∷ (done, after 3 1 1 2 2)  -- out 2
+    ∷ (figures 24 2 9 (Out 2), after 3 1 1 2 2)  -- status
+    ∷ (bytes (250 ∷ 251 ∷ []), after 3 1 1 2 2)  -- read 0
+    ∷ (bytes (1 ∷ 2 ∷ []), after 3 1 1 2 2)  -- view 6
+    ∷ (done, after 3 1 1 2 2)  -- write 6 (40 ∷ 50 ∷ [])
+    ∷ (done, after 3 1 1 2 2)  -- write 4 (12 ∷ 21 ∷ [])
+    ∷ (done, after 3 1 1 2 2)  -- write 7 (99 ∷ 98 ∷ [])
+    ∷ (bytes (40 ∷ 50 ∷ []), after 3 1 1 2 2)  -- read 6
+    ∷ (bytes (12 ∷ 21 ∷ []), after 3 1 1 2 2)  -- read 4
+    ∷ (bytes (99 ∷ 98 ∷ []), after 3 1 1 2 2)  -- read 7
+    ∷ (bytes (9 ∷ 90 ∷ []), after 3 1 1 2 2)  -- read 2
+    ∷ (refused 3, after 3 1 1 2 2)  -- advance 1
+    ∷ (refused 3, after 3 1 1 2 2)  -- grow 1
+    ∷ (refused 10, after 3 1 1 2 2)  -- out 2
+    ∷ (refused 10, after 3 1 1 2 2)  -- rebuild 1
+    ∷ (done, after 3 1 0 0 2)  -- rebuild 2
+    -- finished
+    ∷ (bytes (40 ∷ 50 ∷ []), after 3 1 0 0 2)  -- read 6
+    ∷ (bytes (12 ∷ 21 ∷ []), after 3 1 0 0 2)  -- read 4
+    ∷ (bytes (99 ∷ 98 ∷ []), after 3 1 0 0 2)  -- read 7
+    ∷ (made 7, after 3 1 0 0 9)  -- advance 100
+    ∷ (refused 5, after 3 1 0 0 9)  -- advance 1
+    ∷ (refused 4, after 3 1 0 0 9)  -- grow 1
+    ∷ (figures 36 9 9 Whole, after 3 1 0 0 9)  -- status
+    ∷ (bytes (9 ∷ 90 ∷ []), after 3 1 0 0 9)  -- read 2
+    ∷ (bytes (3 ∷ 4 ∷ []), after 3 1 0 0 9)  -- read 19
+    ∷ (placed (placeAt 2 1), after 3 1 0 0 9)  -- locate 26
+    ∷ (owned (Data 26), after 3 1 0 0 9)  -- owner 2 1
+    ∷ (bytes (0 ∷ 0 ∷ []), after 3 1 0 0 9)  -- read 26
+    ∷ (bytes (0 ∷ 0 ∷ []), after 3 1 0 0 9)  -- read 27
+    ∷ (done, after 3 1 0 0 9)  -- write 26 (5 ∷ 6 ∷ [])
+    ∷ (bytes (5 ∷ 6 ∷ []), after 3 1 0 0 9)  -- read 26
+    -- turnedAway
+    ∷ (refused 8, after 3 1 0 0 9)  -- read 36
+    ∷ (refused 9, after 3 1 0 0 9)  -- read 35
+    ∷ (refused 9, after 3 1 0 0 9)  -- write 35 (1 ∷ [])
+    ∷ (refused 7, after 3 1 0 0 9)  -- read 35
+    -- lost
+    ∷ (done, after 3 1 1 1 9)  -- out 1
+    ∷ (bytes (5 ∷ 6 ∷ []), after 3 1 1 1 9)  -- view 26
+    ∷ (done, after 3 1 2 0 9)  -- out 3
+    ∷ (refused 2, after 3 1 2 0 9)  -- read 4
+    ∷ (refused 2, after 3 1 2 0 9)  -- rebuild 1
+    ∷ (figures 36 9 9 Lost, after 3 1 2 0 9)  -- status
+    ∷ (placed (placeAt 2 1), after 3 1 2 0 9)  -- locate 26
+    -- anew
+    ∷ (refused 7, after 3 1 2 0 9)  -- format 3 2 12
+    ∷ (done, after 4 0 0 0 0)  -- format 4 2 12
+    ∷ (bytes (0 ∷ 0 ∷ []), after 4 0 0 0 0)  -- read 4
+    ∷ []
+
+pub record Sample : Type 0 where
+  -- the array, on its bytes
+  pub array : answers (play script cabinet) cabinet ≡ expected
+  -- the flat list, fed the calls and the lengths
+  pub flat-list : flatAnswers (map fed (play script cabinet)) list ≡ expected

@@ -1,0 +1,121 @@
+-- DEMAND 3: "For every list of our calls .., refused ones included, in any order from an accepted format on, each given the record
+-- and images left by the one before (an accepted growth adds new images behind), nothing else writing them meanwhile, and a disk
+-- reported out holding any bytes, new ones before each call, until it is rebuilt or a new format is done: every answer and every
+-- refusal is exactly that of document 01's flat list, zero at first, of what each block was last given; each move keeps its
+-- stripe's parity value; and growth is over exactly when the moves reported since it began are T × n × m / (n + m) .. A second
+-- disk out while the first is not rebuilt refuses all reads until a new format."
+-- `demand3`, `what-stands`, `flat-list` and `second-out` of proofs/Theorem.antt prove it, and assume nothing.
+use Prim.Native.Nat.{ℕ, suc, _+_, _<_}
+use mathlib.Core.Path.{_≡_}
+use mathlib.Core.Bool.{true, false, cond}
+use mathlib.Core.Logic.{_↔_, _≢_}
+use mathlib.Core.List.{List, [], _∷_, _++_, map}
+use lib.ListN.{length}
+use Rattle.layout.specs.Layout.{totalOf}
+use Rattle.state.specs.declared.Health.the-variants.{Out}
+use Rattle.state.specs.declared.Record.{Record}
+use Rattle.state.specs.Good.{geometry}
+use Rattle.state.specs.Bytes.{decode, encode}
+use Rattle.array.specs.Call.{Call, format, read, view, write, grow, advance, out, rebuild, status, locate, owner, Event, Fed, fed, Answer, bytes, accepted, count}
+use Rattle.array.specs.Health.{isLost}
+use Rattle.array.specs.Images.{size}
+use Rattle.array.specs.Table.{idle}
+use Rattle.array.specs.Effect.{parityAfter}
+use Rattle.array.specs.Sound.{Sound}
+use Rattle.history.specs.Flat.{Flat, flatStep}
+use Rattle.history.specs.Lent.{Cabinet, Lends, leaves, next}
+
+-- "The moves of a growth are the sum of the counts that advance reported since that grow was accepted, no format and no further
+-- grow accepted since": the sum after a call, from the one before it
+unfoldable pub tally : Call → Answer → ℕ → ℕ
+tally (format n B T) a sum = cond (accepted a) 0 sum
+tally (read b) a sum = sum
+tally (view b) a sum = sum
+tally (write b v) a sum = sum
+tally (grow m) a sum = cond (accepted a) 0 sum
+tally (advance k) a sum = sum + count a
+tally (out d) a sum = sum
+tally (rebuild d) a sum = sum
+tally status a sum = sum
+tally (locate b) a sum = sum
+tally (owner S d) a sum = sum
+
+-- ---- what is claimed of one call e: a is the cabinet before it, f the flat list before it, sum the moves of the growth after it
+
+pub record Claim (e : Event) (a : Cabinet) (f : Flat) (sum : ℕ) : Type 0 where
+  -- "the number; the bytes that read fills in or view returns; the count of advance; the answers of status, locate and owner"
+  pub answer : leaves e a .answer ≡ flatStep (fed e) f .0
+  pub filled : (b : ℕ) → e .call ≡ read b → accepted (leaves e a .answer) ≡ true → leaves e a .answer ≡ bytes (leaves e a .room)
+  -- "and the fields of the record left"
+  pub fields : leaves e a .state ≡ encode (flatStep (fed e) f .1 .numbers)
+  -- a refused call leaves the record, the images and the block or scratch as they were lent
+  pub refused : accepted (leaves e a .answer) ≡ false → (leaves e a .state ≡ a .rec) × (leaves e a .images ≡ e .images) × (leaves e a .room ≡ e .room)
+  -- "After a refused call the next is lent what stood before it"
+  pub stays : accepted (leaves e a .answer) ≡ false → next e a ≡ a
+  -- "Each move that an advance makes leaves them the same, wherever the parity then stands": the one behind the first i, in every stripe
+  pub parity : (k i S : ℕ) → e .call ≡ advance k → accepted (leaves e a .answer) ≡ true → S < decode (a .rec) .stripes
+      → parityAfter (suc i) (decode (a .rec)) (e .images) S ≡ parityAfter i (decode (a .rec)) (e .images) S
+  -- "The growth is over, so that 5's condition holds, exactly when the sum is the total."
+  pub over : let r = decode (leaves e a .state) in r .new ≢ 0 → (idle (geometry r) ≡ true) ↔ (sum ≡ totalOf (geometry r))
+  -- "From a format on, unless health is lost, all stripes are sound, the out disk taken as the xor of the others."
+  pub sound : let r = decode (leaves e a .state) in isLost (r .health) ≡ false → (S : ℕ) → S < r .stripes → Sound r (next e a .img) S
+
+-- ---- and of every call of a list, as long as each is lent what it may be
+
+unfoldable pub Claims : List Event → Cabinet → Flat → ℕ → Type 0
+Claims [] a f sum = Unit
+Claims (e ∷ es) a f sum =
+    let after = tally (e .call) (leaves e a .answer) sum in
+    Lends e (f .numbers) (a .img) → Claim e a f after × Claims es (next e a) (flatStep (fed e) f .1) after
+
+-- "The list opens with an accepted format, lent any record and images. Behind it come any of the eleven calls above, with any
+-- arguments, refused or not." (What the flat list and the sum were before it does not matter.)
+abbrev pub opening : ℕ → ℕ → ℕ → List ℕ → List ℕ → Event
+opening n B T img room = record { call = format n B T; images = img; room = room }
+
+abbrev pub Demand3 : Type 0
+Demand3 =
+    (a : Cabinet) (f : Flat) (sum n B T : ℕ) (img room : List ℕ) → accepted (leaves (opening n B T img room) a .answer) ≡ true
+    → (es : List Event) → Claims (opening n B T img room ∷ es) a f sum
+
+-- A call that is lent just what stands, with or without bytes behind it, is lent what it may be: nothing that a line controller does asks more of it.
+abbrev pub WhatStands : Type 0
+WhatStands = (e : Event) (r : Record) (left behind : List ℕ) → length left ≡ size r → e .images ≡ left ++ behind → Lends e r left
+
+-- ---- in short: the answers of a fair history, and the record's bytes after each call, are those of the flat list
+
+unfoldable pub Fair : List Event → Cabinet → Flat → Type 0
+Fair [] a f = Unit
+Fair (e ∷ es) a f = Lends e (f .numbers) (a .img) × Fair es (next e a) (flatStep (fed e) f .1)
+
+unfoldable pub answers : List Event → Cabinet → List (Answer × List ℕ)
+answers [] a = []
+answers (e ∷ es) a = (leaves e a .answer, leaves e a .state) ∷ answers es (next e a)
+
+unfoldable pub flatAnswers : List Fed → Flat → List (Answer × List ℕ)
+flatAnswers [] f = []
+flatAnswers (e ∷ es) f = let y = flatStep e f in (y .0, encode (y .1 .numbers)) ∷ flatAnswers es (y .1)
+
+abbrev pub FlatList : Type 0
+FlatList =
+    (a : Cabinet) (f : Flat) (n B T : ℕ) (img room : List ℕ) → accepted (leaves (opening n B T img room) a .answer) ≡ true
+    → (es : List Event) → Fair (opening n B T img room ∷ es) a f
+    → answers (opening n B T img room ∷ es) a ≡ flatAnswers (map fed (opening n B T img room ∷ es)) f
+
+-- ---- "A second disk out while the first is not rebuilt refuses all reads until a new format." (Said of the flat list, whose answers
+-- are the array's.)
+
+-- no read and no view of a list is answered before a format is accepted
+unfoldable pub NoReads : List Fed → Flat → Type 0
+NoReads [] f = Unit
+NoReads (e ∷ es) f =
+    let y = flatStep e f in
+    ((b : ℕ) → e .call ≡ read b → accepted (y .0) ≡ false)
+    × ((b : ℕ) → e .call ≡ view b → accepted (y .0) ≡ false)
+    × (((n B T : ℕ) → e .call ≡ format n B T → accepted (y .0) ≡ false) → NoReads es (y .1))
+
+abbrev pub SecondOut : Type 0
+SecondOut =
+    (f : Flat) (first second len room : ℕ) →
+    let y = flatStep (record { call = out second; images = len; room = room }) f in
+    f .numbers .health ≡ Out first → accepted (y .0) ≡ true → (es : List Fed) → NoReads es (y .1)

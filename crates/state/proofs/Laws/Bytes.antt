@@ -1,0 +1,151 @@
+-- The record and its 16 bytes: each way there and back. Assumes nothing.
+use Prim.Native.Nat.{ℕ, zero, suc, _+_, _/_, _%_, _<_, _≤_}
+use mathlib.Core.Path.{_≡_, refl, sym, ap, _∙_}
+use mathlib.Core.Bool.{Bool, true, false, cond, _&&_, _||_}
+use mathlib.Core.List.{List, [], _∷_}
+use native.Mathlib.Omega.{arith}
+use lib.ListN.{length, getD, drop}
+use lib.Seq.{drop-cons, drop-length}
+use lib.Dec.{eqb}
+use borrow.Author.Tests.{leb-true, eqb-true, eqb-false}
+use Rattle.state.specs.declared.Health.the-variants.{Whole, Out, Lost}
+use Rattle.state.specs.declared.Health.{Health}
+use Rattle.state.specs.declared.Record.{Record}
+use Rattle.state.specs.Good.{OutBelow}
+use Rattle.state.specs.Bytes.{two, four, healthOf, decode, healthPlain, plain, healthByte, diskByte, encode, AreBytes}
+use Rattle.state.proofs.Laws.Tests.{both}
+
+-- ---- from the record to its bytes and back
+
+two-back : (x : ℕ) → two (x % 256) (x / 256) ≡ x
+two-back x = omega arith
+
+four-back : (x : ℕ) → four (x % 256) (x / 256 % 256) (x / 65536 % 256) (x / 16777216) ≡ x
+four-back x = omega arith
+
+health-back : (h : Health) → healthOf (healthByte h) (diskByte h) ≡ h
+health-back Whole = refl
+health-back (Out d) = refl
+health-back Lost = refl
+
+pub decode-encode : (r : Record) → decode (encode r) ≡ r
+unfolding decode encode
+decode-encode r = simp (two-back (r .block), four-back (r .stripes), four-back (r .moves), health-back (r .health))
+
+-- ---- what the bytes of a record are
+
+pub length-encode : (r : Record) → length (encode r) ≡ 16
+unfolding encode
+length-encode r = refl
+
+plain-health : (h : Health) → healthPlain (healthByte h) (diskByte h) ≡ true
+plain-health Whole = refl
+plain-health (Out d) = refl
+plain-health Lost = refl
+
+pub plain-encode : (r : Record) → plain (encode r) ≡ true
+unfolding plain encode
+plain-encode r = simp (plain-health (r .health))
+
+-- each field fits its bytes
+pub record Fits (r : Record) : Type 0 where
+  pub old-fits : r .old < 256
+  pub new-fits : r .new < 256
+  pub disk-fits : OutBelow 256 (r .health)
+  pub block-fits : r .block < 65536
+  pub stripes-fits : r .stripes < 4294967296
+  pub moves-fits : r .moves < 4294967296
+
+-- every element is a byte
+data Small : List ℕ → Type 0 where
+  none : Small []
+  more : {x : ℕ} {b : List ℕ} → x < 256 → Small b → Small (x ∷ b)
+
+small : {b : List ℕ} → Small b → AreBytes b
+small none i = omega arith
+small (more h t) zero = h
+small (more h t) (suc i) = small t i
+
+health-fits : (h : Health) → OutBelow 256 h → (healthByte h < 256) × (diskByte h < 256)
+health-fits Whole o = (omega arith, omega arith)
+health-fits (Out d) o = (omega arith, o)
+health-fits Lost o = (omega arith, omega arith)
+
+two-fits : (x : ℕ) {b : List ℕ} → x < 65536 → Small b → Small (x % 256 ∷ x / 256 ∷ b)
+two-fits x h t =
+    let a : x % 256 < 256 = omega arith in
+    let b : x / 256 < 256 = omega arith in
+    more a (more b t)
+
+four-fits : (x : ℕ) {b : List ℕ} → x < 4294967296 → Small b → Small (x % 256 ∷ x / 256 % 256 ∷ x / 65536 % 256 ∷ x / 16777216 ∷ b)
+four-fits x h t =
+    let a : x % 256 < 256 = omega arith in
+    let b : x / 256 % 256 < 256 = omega arith in
+    let c : x / 65536 % 256 < 256 = omega arith in
+    let d : x / 16777216 < 256 = omega arith in
+    more a (more b (more c (more d t)))
+
+pub bytes-encode : (r : Record) → Fits r → AreBytes (encode r)
+unfolding encode
+bytes-encode r f =
+    let h = health-fits (r .health) (f .disk-fits) in
+    let zero-fits : 0 < 256 = omega arith in
+    let counts = four-fits (r .stripes) (f .stripes-fits) (four-fits (r .moves) (f .moves-fits) none) in
+    let sizes = two-fits (r .block) (f .block-fits) (more zero-fits (more zero-fits counts)) in
+    small (more (f .old-fits) (more (f .new-fits) (more (h .0) (more (h .1) sizes))))
+
+-- ---- from the bytes to the record and back
+
+-- n elements from index i on, each by its index
+abbrev pub spell : ℕ → ℕ → List ℕ → List ℕ
+spell i zero b = []
+spell i (suc n) b = getD b i 0 ∷ spell (suc i) n b
+
+spell-drop : (n i : ℕ) (b : List ℕ) → length b ≡ i + n → spell i n b ≡ drop i b
+spell-drop zero i b e = let q : i ≡ length b = omega arith in sym (ap (λ k. drop k b) q ∙ drop-length b)
+spell-drop (suc n) i b e = ap (λ t. getD b i 0 ∷ t) (spell-drop n (suc i) b (omega arith)) ∙ sym (drop-cons b i 0 (omega arith))
+
+pub spelled : (b : List ℕ) → length b ≡ 16 → spell 0 16 b ≡ b
+spelled b e = spell-drop 16 0 b e
+
+two-bytes : (a b : ℕ) → a < 256 → two a b % 256 ∷ two a b / 256 ∷ [] ≡ a ∷ b ∷ []
+two-bytes a b ha =
+    let e : (two a b % 256 ≡ a) × (two a b / 256 ≡ b) = (omega arith, omega arith) in
+    cc (e .0, e .1)
+
+four-bytes : (a b c d : ℕ) → a < 256 → b < 256 → c < 256
+    → four a b c d % 256 ∷ four a b c d / 256 % 256 ∷ four a b c d / 65536 % 256 ∷ four a b c d / 16777216 ∷ [] ≡ a ∷ b ∷ c ∷ d ∷ []
+four-bytes a b c d ha hb hc =
+    let e : (four a b c d % 256 ≡ a) × (four a b c d / 256 % 256 ≡ b) × (four a b c d / 65536 % 256 ≡ c) × (four a b c d / 16777216 ≡ d) = (omega arith, omega arith, omega arith, omega arith) in
+    cc (e .0, e .1, e .2, e .3)
+
+health-cases : (z o : Bool) (h d : ℕ) → eqb h 0 ≡ z → eqb h 1 ≡ o → h ≤ 2 → (o || eqb d 0) ≡ true
+    → (healthByte (cond z Whole (cond o (Out d) Lost)) ≡ h) × (diskByte (cond z Whole (cond o (Out d) Lost)) ≡ d)
+health-cases true true h d p q l e = absurd (omega (arith, eqb-true h 0 p, eqb-true h 1 q))
+health-cases true false h d p q l e = (sym (eqb-true h 0 p), sym (eqb-true d 0 e))
+health-cases false true h d p q l e = (sym (eqb-true h 1 q), refl)
+health-cases false false h d p q l e = (omega (arith, eqb-false h 0 p, eqb-false h 1 q), sym (eqb-true d 0 e))
+
+health-bytes : (h d : ℕ) → healthPlain h d ≡ true → (healthByte (healthOf h d) ≡ h) × (diskByte (healthOf h d) ≡ d)
+health-bytes h d e =
+    let p = both _ _ e in
+    health-cases (eqb h 0) (eqb h 1) h d refl refl (leb-true h 2 (p .0)) (p .1)
+
+spelt : (b : List ℕ) → AreBytes b → plain b ≡ true → encode (decode b) ≡ spell 0 16 b
+unfolding encode decode plain
+spelt b by e =
+    let p = both (healthPlain (getD b 2 0) (getD b 3 0)) (eqb (getD b 6 0) 0 && eqb (getD b 7 0) 0) e in
+    let q = both (eqb (getD b 6 0) 0) (eqb (getD b 7 0) 0) (p .1) in
+    let h = health-bytes (getD b 2 0) (getD b 3 0) (p .0) in
+    cc (
+      h .0,
+      h .1,
+      eqb-true (getD b 6 0) 0 (q .0),
+      eqb-true (getD b 7 0) 0 (q .1),
+      two-bytes (getD b 4 0) (getD b 5 0) (by 4),
+      four-bytes (getD b 8 0) (getD b 9 0) (getD b 10 0) (getD b 11 0) (by 8) (by 9) (by 10),
+      four-bytes (getD b 12 0) (getD b 13 0) (getD b 14 0) (getD b 15 0) (by 12) (by 13) (by 14),
+    )
+
+pub encode-decode : (b : List ℕ) → AreBytes b → length b ≡ 16 → plain b ≡ true → encode (decode b) ≡ b
+encode-decode b by l e = spelt b by e ∙ spelled b l

@@ -1,0 +1,52 @@
+-- What is proved of the record: `round-trip` and `good-is`. Assumes nothing.
+use Prim.Native.Nat.{ℕ, _+_, _*_, _≤_}
+use mathlib.Core.Path.{_≡_, subst}
+use mathlib.Core.Bool.{true}
+use mathlib.Core.List.{List}
+use native.Mathlib.Nat.{div-le-self}
+use native.Mathlib.Omega.{arith}
+use lib.ListN.{length}
+use Rattle.layout.specs.Layout.{totalOf}
+use Rattle.layout.specs.Moves.{total}
+use Rattle.layout.proofs.Laws.Bounds.{products}
+use Rattle.state.specs.declared.Health.the-variants.{Whole, Out, Lost}
+use Rattle.state.specs.declared.Health.{Health}
+use Rattle.state.specs.declared.Record.{Record}
+use Rattle.state.specs.Good.{geometry, OutBelow, Limits}
+use Rattle.state.specs.Bytes.{plain}
+use Rattle.state.specs.Theorem.{RoundTrip, GoodIs}
+use Rattle.state.proofs.Laws.Good.{limits, within-limits}
+use Rattle.state.proofs.Laws.Bytes.{decode-encode, length-encode, plain-encode, Fits, bytes-encode, encode-decode}
+
+pub round-trip : RoundTrip
+round-trip =
+    record {
+      record-back = decode-encode;
+      bytes-back = encode-decode;
+      plain-only = λ b r e. (subst (λ (x : List ℕ). length x ≡ 16) e (length-encode r), subst (λ (x : List ℕ). plain x ≡ true) e (plain-encode r));
+    }
+
+-- a good record's fields fit their bytes
+module _ (r : Record) (l : Limits r) where
+  total-small : totalOf (geometry r) ≤ 268435456
+  unfolding total
+  total-small = omega (arith, div-le-self (r .stripes * r .old * r .new) (r .old + r .new), products (geometry r) (l .array) .by-moves)
+
+  disk-small : (h : Health) → OutBelow (r .old + r .new) h → OutBelow 256 h
+  disk-small Whole o = tt
+  disk-small (Out d) o = omega (arith, o, l .array .disks)
+  disk-small Lost o = tt
+
+  fits : Fits r
+  fits =
+      record {
+        old-fits = omega (arith, l .array .disks);
+        new-fits = omega (arith, l .array .disks);
+        disk-fits = disk-small (r .health) (l .out);
+        block-fits = omega (arith, l .block-high);
+        stripes-fits = omega (arith, l .array .stripes-high);
+        moves-fits = omega (arith, l .array .moves, total-small);
+      }
+
+pub good-is : (r : Record) → GoodIs r
+good-is r = record { exactly = (limits r, within-limits r); fits = λ l. bytes-encode r (fits r l) }

@@ -1,0 +1,64 @@
+-- Which records are good. Document 01, Record: "A record is good exactly if each field is in its limits, bytes 6–7 zero
+-- included, the out disk is below N, t is at most the total of moves, and with m above 0 T is a multiple of n × (n + m); with
+-- m = 0, t = 0." (What that asks of bytes which no field takes is `plain` of Bytes.)
+use Prim.Native.Nat.{ℕ, _+_, _*_, _%_, _≤_, _<_}
+use mathlib.Core.Bool.{Bool, true, cond, _&&_}
+use lib.Dec.{leb, ltb, eqb}
+use Rattle.layout.specs.declared.Geometry.{Geometry}
+use Rattle.layout.specs.Layout.{totalOf}
+use Rattle.layout.specs.Limits.{Good}
+use Rattle.state.specs.declared.Health.the-variants.{Whole, Out, Lost}
+use Rattle.state.specs.declared.Health.{Health}
+use Rattle.state.specs.declared.Record.{Record}
+
+-- the array that a record speaks of
+abbrev pub geometry : Record → Geometry
+geometry r = record { old = r .old; new = r .new; stripes = r .stripes; moves = r .moves }
+
+-- ---- the limits, each once; format and grow are held to them too
+
+abbrev pub within : ℕ → ℕ → ℕ → Bool
+within low x high = leb low x && leb x high
+
+-- "n, the old disks, is 3 to 16"
+abbrev pub oldGood : ℕ → Bool
+oldGood n = within 3 n 16
+
+-- "m, the new ones, 1 to 16", and "with m above 0 T is a multiple of n × (n + m)"
+unfoldable pub newGood : ℕ → ℕ → ℕ → Bool
+newGood n m T = within 1 m 16 && eqb (T % (n * (n + m))) 0
+
+-- "B, the block length, is 1 to 4,096"
+abbrev pub blockGood : ℕ → Bool
+blockGood B = within 1 B 4096
+
+-- "T, the stripes, is 1 to 1,048,576"
+abbrev pub stripesGood : ℕ → Bool
+stripesGood T = within 1 T 1048576
+
+-- "t is at most the total of moves .. with m = 0, t = 0"
+unfoldable pub movesGood : Geometry → Bool
+movesGood g = cond (eqb (g .new) 0) (eqb (g .moves) 0) (newGood (g .old) (g .new) (g .stripes) && leb (g .moves) (totalOf g))
+
+-- "the out disk is below N"
+abbrev pub healthGood : ℕ → Health → Bool
+healthGood N Whole = true
+healthGood N (Out d) = ltb d N
+healthGood N Lost = true
+
+unfoldable pub good : Record → Bool
+good r =
+    oldGood (r .old) && (blockGood (r .block) && (stripesGood (r .stripes) && (movesGood (geometry r) && healthGood (r .old + r .new) (r .health))))
+
+-- ---- the same as facts (`GoodIs.exactly` of Theorem)
+
+abbrev pub OutBelow : ℕ → Health → Type 0
+OutBelow N Whole = Unit
+OutBelow N (Out d) = d < N
+OutBelow N Lost = Unit
+
+pub record Limits (r : Record) : Type 0 where
+  pub array : Good (geometry r)
+  pub block-low : 1 ≤ r .block
+  pub block-high : r .block ≤ 4096
+  pub out : OutBelow (r .old + r .new) (r .health)

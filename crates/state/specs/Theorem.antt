@@ -1,0 +1,23 @@
+-- What is proved of the record, of every record and of every 16 bytes; `round-trip` and `good-is` of proofs/Theorem.antt prove it.
+use Prim.Native.Nat.{ℕ}
+use mathlib.Core.Path.{_≡_}
+use mathlib.Core.Bool.{true}
+use mathlib.Core.Logic.{_↔_}
+use mathlib.Core.List.{List}
+use lib.ListN.{length}
+use Rattle.state.specs.declared.Record.{Record}
+use Rattle.state.specs.Good.{good, Limits}
+use Rattle.state.specs.Bytes.{decode, plain, encode, AreBytes}
+
+-- "with the record as 16 bytes": in and out
+pub record RoundTrip : Type 0 where
+  pub record-back : (r : Record) → decode (encode r) ≡ r
+  pub bytes-back : (b : List ℕ) → AreBytes b → length b ≡ 16 → plain b ≡ true → encode (decode b) ≡ b
+  -- and 16 bytes that are not `plain` are those of no record
+  pub plain-only : (b : List ℕ) (r : Record) → encode r ≡ b → (length b ≡ 16) × (plain b ≡ true)
+
+-- "A record is good exactly if each field is in its limits .."
+pub record GoodIs (r : Record) : Type 0 where
+  pub exactly : (good r ≡ true) ↔ Limits r
+  -- its bytes are bytes
+  pub fits : Limits r → AreBytes (encode r)

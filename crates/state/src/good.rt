@@ -1,0 +1,119 @@
+// Which records are good. The limits of single fields are functions of their own: format and grow are held to them too.
+ghost use Prim.Native.Nat.{_≤_};
+ghost use mathlib.Core.Path.{_≡_};
+ghost use Rattle.state.specs.Good.{geometry, within, oldGood, newGood, blockGood, stripesGood, movesGood, healthGood, good};
+use crate::Health;
+use crate::Record;
+use layout::Geometry;
+use layout::total_of;
+
+// The array that a record speaks of.
+pub fn geometry_of(r: Record) -> Geometry
+    ensures { λ g. ⌜ g ≡ geometry r ⌝ }
+{
+    Geometry {
+        old: r.old as u64,
+        new: r.new as u64,
+        stripes: r.stripes as u64,
+        moves: r.moves as u64,
+    }
+}
+
+// Is x between the two, both included?
+fn is_within(low: u64, x: u64, high: u64) -> bool
+    ensures { λ r. ⌜ r ≡ within low x high ⌝ }
+{
+    if x < low {
+        return false;
+    }
+    x <= high
+}
+
+// May an array have n old disks?
+pub fn old_is_good(n: u64) -> bool
+    ensures { λ r. ⌜ r ≡ oldGood n ⌝ }
+{
+    is_within(3, n, 16)
+}
+
+// May m disks be added to n, over this many stripes?
+pub fn new_is_good(n: u64, m: u64, stripes: u64) -> bool
+    requires { ⌜ (3 ≤ n) × (n ≤ 16) ⌝ }
+    ensures { λ r. ⌜ r ≡ newGood n m stripes ⌝ }
+{
+    if !is_within(1, m, 16) {
+        return false;
+    }
+    stripes % (n * (n + m)) == 0
+}
+
+// May a block be this long?
+pub fn block_is_good(length: u64) -> bool
+    ensures { λ r. ⌜ r ≡ blockGood length ⌝ }
+{
+    is_within(1, length, 4096)
+}
+
+// May an array have this many stripes?
+pub fn stripes_are_good(stripes: u64) -> bool
+    ensures { λ r. ⌜ r ≡ stripesGood stripes ⌝ }
+{
+    is_within(1, stripes, 1048576)
+}
+
+// Can the array have come this far? The total is asked of the growth's start, which is good whatever the moves.
+fn moves_are_good(g: Geometry) -> bool
+    requires { ⌜ (3 ≤ g .old) × (g .old ≤ 16) × (1 ≤ g .stripes) × (g .stripes ≤ 1048576) ⌝ }
+    ensures { λ r. ⌜ r ≡ movesGood g ⌝ }
+{
+    let n = g.old;
+    let m = g.new;
+    let stripes = g.stripes;
+    let moves = g.moves;
+    if m == 0 {
+        return moves == 0;
+    }
+    if !new_is_good(n, m, stripes) {
+        return false;
+    }
+    let start = Geometry {
+        old: n,
+        new: m,
+        stripes: stripes,
+        moves: 0,
+    };
+    moves <= total_of(start)
+}
+
+// Is the disk that is out, if one is, a disk of the array?
+fn health_is_good(disks: u64, health: Health) -> bool
+    ensures { λ r. ⌜ r ≡ healthGood disks health ⌝ }
+{
+    match health {
+        Health::Whole => true,
+        Health::Out(d) => (d as u64) < disks,
+        Health::Lost => true,
+    }
+}
+
+// Is every field in its limits?
+pub fn is_good(r: Record) -> bool
+    ensures { λ x. ⌜ x ≡ good r ⌝ }
+{
+    let n = r.old as u64;
+    let m = r.new as u64;
+    let health = r.health;
+    if !old_is_good(n) {
+        return false;
+    }
+    if !block_is_good(r.block as u64) {
+        return false;
+    }
+    if !stripes_are_good(r.stripes as u64) {
+        return false;
+    }
+    if !moves_are_good(geometry_of(r)) {
+        return false;
+    }
+    health_is_good(n + m, health)
+}

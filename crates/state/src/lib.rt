@@ -1,0 +1,31 @@
+// The record of an array: its fields, which ones are good, and its 16 bytes. Contracts cite the definitions of specs/, which
+// follow document 01.
+mod bytes;
+mod good;
+
+pub use bytes::decode;
+pub use bytes::encode;
+pub use bytes::is_plain;
+pub use good::block_is_good;
+pub use good::geometry_of;
+pub use good::is_good;
+pub use good::new_is_good;
+pub use good::old_is_good;
+pub use good::stripes_are_good;
+
+// All disks are in; the one that is out; or two were out at once, and nothing can be read until a new format.
+pub enum Health {
+    Whole,
+    Out(u8),
+    Lost,
+}
+
+// n old disks, m new ones (0 before growth), B the block length, T stripes, t moves done.
+pub struct Record {
+    pub old: u8,
+    pub new: u8,
+    pub health: Health,
+    pub block: u16,
+    pub stripes: u32,
+    pub moves: u32,
+}
