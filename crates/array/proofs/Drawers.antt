@@ -5,13 +5,13 @@ use Rattle.layout.specs.Moves.{moveZone, moveTo, moveLag, moveWithin, moveStrip
 use Rattle.layout.specs.Closed.{lag, target, turn, isMoved, diskAt}
 use Rattle.layout.specs.Layout.{openStripes, capacity, grownPlace, grownParity}
 use Rattle.state.specs.Good.{newGood, movesGood, good}
-use Rattle.array.specs.Images.{seen, stored, recorded, fillDisk}
-use Rattle.array.specs.Table.{idle, table, refusal}
+use Rattle.array.specs.Images.{seen, stored, recorded, fillDisk, zeroDisks}
+use Rattle.array.specs.Table.{idle, formable, table, refusal}
 use Rattle.array.specs.Effect.{viewOf, scratchLeft, writeStores, moveStores, advanceStores, effect, called}
 use Rattle.array.specs.Drawers.{Drawers}
 
 pub drawers : Drawers
-unfolding dataDisk homeStripe homeDisk moveZone moveTo moveLag moveWithin moveStripe moveFrom total lag target turn isMoved diskAt openStripes capacity grownPlace grownParity newGood movesGood good seen stored recorded fillDisk idle table refusal viewOf scratchLeft writeStores moveStores advanceStores effect called
+unfolding dataDisk homeStripe homeDisk moveZone moveTo moveLag moveWithin moveStripe moveFrom total lag target turn isMoved diskAt openStripes capacity grownPlace grownParity newGood movesGood good seen stored recorded fillDisk zeroDisks idle formable table refusal viewOf scratchLeft writeStores moveStores advanceStores effect called
 drawers = record {
   move = refl;
   written = refl;
@@ -21,5 +21,10 @@ drawers = record {
   viewed = refl;
   viewed-degraded = refl;
   rebuilt = refl;
+  first-out = refl;
   second-out = refl;
+  grown = refl;
+  formatted = refl;
+  move-stores = refl;
+  write-stores = refl;
 }

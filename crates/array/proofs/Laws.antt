@@ -5,6 +5,7 @@ pub mod Stores
 pub mod Rows
 pub mod Table
 pub mod Acting
+pub mod OnBytes
 pub mod Holding
 pub mod Sound
 pub mod Lists

@@ -1,17 +1,18 @@
--- Demand 1, as far as the definitions go: `demand1`. Assumes nothing.
+-- Demand 1, as far as the definitions go: `demand1`; and `on-bytes`. Assumes nothing.
 use Prim.Native.Nat.{ℕ, zero, suc}
 use mathlib.Core.Path.{_≡_, refl}
 use mathlib.Core.Bool.{false}
 use mathlib.Core.Logic.{_↔_, _≢_}
-use mathlib.Core.List.{List}
+use mathlib.Core.List.{List, []}
 use native.Mathlib.Omega.{arith}
-use lib.ListN.{length}
+use lib.ListN.{length, replicate}
 use Rattle.state.specs.Bytes.{decode}
-use Rattle.array.specs.Call.{Event, fed, accepted, number}
+use Rattle.array.specs.Call.{Event, fed, accepted, number, shown, beside}
 use Rattle.array.specs.Table.{rowsBytes, refusalBytes}
 use Rattle.array.specs.Effect.{Left, act, untouched, settle, sealed, calledBytes}
-use Rattle.array.specs.Theorem.{Given, Demand1}
+use Rattle.array.specs.Theorem.{Given, Demand1, OnBytes}
 use Rattle.array.proofs.Laws.Rows.{rises, given}
+use Rattle.array.proofs.Laws.OnBytes as bytes
 use Rattle.array.proofs.Laws.Acting.{accepts, numbered}
 
 module _ (e : Event) (b : List ℕ) where
@@ -34,6 +35,14 @@ module _ (e : Event) (b : List ℕ) where
       go zero u = absurd (let y = accepts (e .call) (decode b) e in let w : _≡_ {A = ℕ} 0 1 = cc in omega arith)
       go (suc n) u = (refl, refl, refl)
 
+  zeros : (w : ℕ) → accepted (calledBytes e b .answer) ≡ false → (beside w (calledBytes e b .answer) ≡ replicate w 0) × (shown (calledBytes e b .answer) ≡ [])
+  unfolding calledBytes
+  zeros w = go (refusalBytes b (fed e))
+    where
+      go : (n : ℕ) → accepted (X n .answer) ≡ false → (beside w (X n .answer) ≡ replicate w 0) × (shown (X n .answer) ≡ [])
+      go zero u = absurd (let y = accepts (e .call) (decode b) e in let v : _≡_ {A = ℕ} 0 1 = cc in omega arith)
+      go (suc n) u = (refl, refl)
+
   refused : (accepted (calledBytes e b .answer) ≡ false) ↔ (refusalBytes b (fed e) ≢ 0)
   unfolding calledBytes
   refused = go (refusalBytes b (fed e))
@@ -47,4 +56,7 @@ module _ (e : Event) (b : List ℕ) where
   table-is = given (rowsBytes b (fed e)) (rises (e .call) _ _ _ _ (length (e .images)) (length (e .room)))
 
   pub demand1 : Demand1 e b
-  demand1 = record { number-is = number-is; table-is = table-is; untouched = kept; refused = refused }
+  demand1 = record { number-is = number-is; table-is = table-is; zeros = zeros; untouched = kept; refused = refused }
+
+pub on-bytes : OnBytes
+on-bytes = bytes.on-bytes

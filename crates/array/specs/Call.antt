@@ -1,11 +1,13 @@
 -- The eleven calls, what each is lent beside the record, and the answers.
 use Prim.Native.Nat.{ℕ}
 use mathlib.Core.Bool.{Bool, true, false}
-use mathlib.Core.List.{List}
-use lib.ListN.{length}
+use mathlib.Core.List.{List, [], _∷_}
+use lib.ListN.{length, replicate}
 use Rattle.layout.specs.declared.Place.{Place}
+use Rattle.layout.specs.declared.Role.the-variants.{Data, Parity, Blank}
 use Rattle.layout.specs.declared.Role.{Role}
 use Rattle.state.specs.declared.Health.{Health}
+use Rattle.state.specs.Bytes.{healthByte, diskByte}
 
 -- a call with the numbers that it is given, and a write's data
 pub data Call : Type 0 where
@@ -56,8 +58,8 @@ accepted (figures c t total h) = true
 accepted (placed q) = true
 accepted (owned o) = true
 
--- "0 is done. A refusal returns zeros beside its number, an empty view": the number, the count of advance and the bytes that
--- read fills in or view returns
+-- ---- an answer in numbers: "0 is done. A refusal returns zeros beside its number, an empty view"
+
 abbrev pub number : Answer → ℕ
 number (refused k) = k
 number done = 0
@@ -67,6 +69,17 @@ number (figures c t total h) = 0
 number (placed q) = 0
 number (owned o) = 0
 
+-- the bytes that view returns
+abbrev pub shown : Answer → List ℕ
+shown (refused k) = []
+shown done = []
+shown (bytes v) = v
+shown (made k) = []
+shown (figures c t total h) = []
+shown (placed q) = []
+shown (owned o) = []
+
+-- the count of advance
 abbrev pub count : Answer → ℕ
 count (refused k) = 0
 count done = 0
@@ -75,3 +88,25 @@ count (made k) = k
 count (figures c t total h) = 0
 count (placed q) = 0
 count (owned o) = 0
+
+-- a place's owner: blank 0, parity 1, data 2, and the block
+abbrev pub roleNumber : Role → ℕ
+roleNumber Blank = 0
+roleNumber Parity = 1
+roleNumber (Data b) = 2
+
+abbrev pub roleBlock : Role → ℕ
+roleBlock Blank = 0
+roleBlock Parity = 0
+roleBlock (Data b) = b
+
+-- the numbers beside the first, of a call that has w of them: advance's count; status's capacity, t, total, health and the disk that is out; locate's
+-- stripe and disk; owner's role and block
+abbrev pub beside : ℕ → Answer → List ℕ
+beside w (refused k) = replicate w 0
+beside w done = []
+beside w (bytes v) = []
+beside w (made k) = k ∷ []
+beside w (figures c t total h) = c ∷ t ∷ total ∷ healthByte h ∷ diskByte h ∷ []
+beside w (placed q) = q .stripe ∷ q .disk ∷ []
+beside w (owned o) = roleNumber o ∷ roleBlock o ∷ []

@@ -3,14 +3,19 @@
 use Prim.Native.Nat.{ℕ}
 use mathlib.Core.Path.{_≡_}
 use mathlib.Core.List.{List, [], _∷_, _++_}
+use Rattle.blocks.specs.Block.{zeros}
 use Rattle.state.specs.declared.Health.the-variants.{Whole, Out, Lost}
 use Rattle.state.specs.declared.Health.{Health}
 use Rattle.state.specs.declared.Record.{Record}
-use Rattle.array.specs.Call.{Call, read, view, write, advance, out, rebuild, Answer, bytes, made, done}
-use Rattle.array.specs.Effect.{Left, called}
+use Rattle.array.specs.Call.{Call, format, read, view, write, grow, advance, out, rebuild, Answer, bytes, made, done}
+use Rattle.array.specs.Images.{block, header}
+use Rattle.array.specs.Effect.{writeStores, moveStores, Left, called}
 
 abbrev pub cabinet : Health → ℕ → Record
 cabinet h t = record { old = 3; new = 1; health = h; block = 1; stripes = 12; moves = t }
+
+abbrev pub fresh : Record
+fresh = record { old = 3; new = 0; health = Whole; block = 1; stripes = 12; moves = 0 }
 
 -- a disk a line, stripe 0 first; the parity of stripes 3 and 7 stands on disk 3 already, and so do blocks 2 and 4
 abbrev pub disk0 : List ℕ
@@ -60,4 +65,11 @@ pub record Drawers : Type 0 where
   pub viewed : on standing (cabinet Whole 4) (view 6) ≡ left (cabinet Whole 4) standing (9 ∷ []) (bytes (7 ∷ []))
   pub viewed-degraded : on degraded (cabinet (Out 2) 4) (view 6) ≡ left (cabinet (Out 2) 4) degraded (7 ∷ []) (bytes (7 ∷ []))
   pub rebuilt : on degraded (cabinet (Out 2) 4) (rebuild 2) ≡ left (cabinet Whole 4) standing (9 ∷ []) done
+  pub first-out : on standing (cabinet Whole 4) (out 2) ≡ left (cabinet (Out 2) 4) standing (9 ∷ []) done
   pub second-out : on degraded (cabinet (Out 2) 4) (out 0) ≡ left (cabinet Lost 4) degraded (9 ∷ []) done
+  -- a new disk of garbage, zeroed; and a lost cabinet formatted anew
+  pub grown : on (disk0 ++ disk1 ++ disk2 ++ garbage) fresh (grow 1) ≡ left (cabinet Whole 0) (disk0 ++ disk1 ++ disk2 ++ zeros 12) (9 ∷ []) done
+  pub formatted : on (garbage ++ garbage ++ garbage) (cabinet Lost 4) (format 3 1 12) ≡ left fresh (zeros 36) (9 ∷ []) done
+  -- in order: the copy, the zeroes, the record; the parity, the data
+  pub move-stores : moveStores (cabinet Whole 4) standing ≡ block 6 3 (13 ∷ []) ∷ block 6 2 (0 ∷ []) ∷ header (cabinet Whole 5) ∷ []
+  pub write-stores : writeStores (cabinet Whole 4) standing 6 (200 ∷ []) ≡ block 3 3 (192 ∷ []) ∷ block 3 2 (200 ∷ []) ∷ []

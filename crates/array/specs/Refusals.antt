@@ -1,15 +1,61 @@
--- Every cell of the table of refusals, by example. For each call and each number that the table has for it: a case where the condition of that number and
+-- The table of refusals, read row by row, and every cell of it by example. For each call and each number that the table has for it: a case where the condition of that number and
 -- of every higher one holds, and no lower one's; for each number that the table does not have for it: a case where its condition
--- would hold, which is not refused; and both sides of each bound. `refusals` of proofs/Refusals.antt computes them.
-use Prim.Native.Nat.{ℕ}
+-- would hold, which is not refused; and both sides of each bound. `rowwise` and `refusals` of proofs/Refusals.antt compute them.
+use Prim.Native.Nat.{ℕ, suc}
 use mathlib.Core.Path.{_≡_}
-use mathlib.Core.List.{List, [], _∷_}
-use lib.ListN.{take}
+use mathlib.Core.Bool.{Bool, cond}
+use mathlib.Core.List.{List, [], _∷_, _++_}
+use lib.Dec.{eqb}
+use lib.ListN.{getD, take, replicate}
 use Rattle.state.specs.declared.Health.the-variants.{Whole, Out, Lost}
 use Rattle.state.specs.declared.Health.{Health}
+use Rattle.state.specs.declared.Record.{Record}
 use Rattle.state.specs.Bytes.{encode}
 use Rattle.array.specs.Call.{Call, format, read, view, write, grow, advance, out, rebuild, status, locate, owner}
-use Rattle.array.specs.Table.{refusalBytes}
+use Rattle.array.specs.Table.{Row, table, refusalBytes}
+
+-- ---- which calls each number is for: the table's last column, a line a number, a column a call. `rowwise` proves that the rows of each call are those
+-- marked here, whatever it is given.
+
+abbrev pub columnOf : Call → ℕ
+columnOf (format n B T) = 0
+columnOf (read b) = 1
+columnOf (view b) = 2
+columnOf (write b v) = 3
+columnOf (grow m) = 4
+columnOf (advance k) = 5
+columnOf (out d) = 6
+columnOf (rebuild d) = 7
+columnOf status = 8
+columnOf (locate b) = 9
+columnOf (owner S d) = 10
+
+abbrev pub marks : List (List ℕ)
+marks =
+    -- format, read, view, write, grow, advance, out, rebuild, status, locate, owner
+    (1 ∷ 1 ∷ 1 ∷ 1 ∷ 1 ∷ 1 ∷ 1 ∷ 1 ∷ 1 ∷ 1 ∷ 1 ∷ [])  -- 1 record
+    ∷ (0 ∷ 1 ∷ 1 ∷ 1 ∷ 1 ∷ 1 ∷ 1 ∷ 1 ∷ 0 ∷ 0 ∷ 0 ∷ [])  -- 2 lost
+    ∷ (0 ∷ 0 ∷ 0 ∷ 0 ∷ 1 ∷ 1 ∷ 0 ∷ 0 ∷ 0 ∷ 0 ∷ 0 ∷ [])  -- 3 degraded
+    ∷ (0 ∷ 0 ∷ 0 ∷ 0 ∷ 1 ∷ 0 ∷ 0 ∷ 0 ∷ 0 ∷ 0 ∷ 0 ∷ [])  -- 4 grown
+    ∷ (0 ∷ 0 ∷ 0 ∷ 0 ∷ 0 ∷ 1 ∷ 0 ∷ 0 ∷ 0 ∷ 0 ∷ 0 ∷ [])  -- 5 nothing to move
+    ∷ (1 ∷ 0 ∷ 0 ∷ 0 ∷ 1 ∷ 0 ∷ 0 ∷ 0 ∷ 0 ∷ 0 ∷ 0 ∷ [])  -- 6 geometry
+    ∷ (1 ∷ 1 ∷ 1 ∷ 1 ∷ 1 ∷ 1 ∷ 0 ∷ 1 ∷ 0 ∷ 0 ∷ 0 ∷ [])  -- 7 images
+    ∷ (0 ∷ 1 ∷ 1 ∷ 1 ∷ 0 ∷ 0 ∷ 0 ∷ 0 ∷ 0 ∷ 1 ∷ 1 ∷ [])  -- 8 past the end
+    ∷ (0 ∷ 1 ∷ 1 ∷ 1 ∷ 0 ∷ 0 ∷ 0 ∷ 0 ∷ 0 ∷ 0 ∷ 0 ∷ [])  -- 9 block length
+    ∷ (0 ∷ 0 ∷ 0 ∷ 0 ∷ 0 ∷ 0 ∷ 1 ∷ 1 ∷ 0 ∷ 0 ∷ 1 ∷ [])  -- 10 disk
+    ∷ []
+
+-- the numbers marked in a column, counted from k
+abbrev pub marked : ℕ → ℕ → List (List ℕ) → List ℕ
+marked column k [] = []
+marked column k (line ∷ lines) = cond (eqb (getD line column 0) 1) (k ∷ marked column (suc k) lines) (marked column (suc k) lines)
+
+abbrev pub numbers : List Row → List ℕ
+numbers [] = []
+numbers (x ∷ rows) = x .0 ∷ numbers rows
+
+abbrev pub Rowwise : Type 0
+Rowwise = (c : Call) (short bad : Bool) (r : Record) (cap len room : ℕ) → numbers (table c short bad r cap len room) ≡ marked (columnOf c) 1 marks
 
 -- ---- records, as bytes: 3 disks and 15 stripes of 2 bytes, of length 90 and capacity 30 ..
 abbrev pub small : List ℕ
@@ -23,8 +69,8 @@ grown h t = encode (record { old = 3; new = 2; health = h; block = 2; stripes = 
 abbrev pub bad : List ℕ
 bad = encode (record { old = 2; new = 0; health = Lost; block = 2; stripes = 15; moves = 0 })
 
-abbrev pub marked : List ℕ
-marked = 3 ∷ 0 ∷ 0 ∷ 0 ∷ 2 ∷ 0 ∷ 1 ∷ 0 ∷ 15 ∷ 0 ∷ 0 ∷ 0 ∷ 0 ∷ 0 ∷ 0 ∷ 0 ∷ []
+abbrev pub sixth : List ℕ
+sixth = 3 ∷ 0 ∷ 0 ∷ 0 ∷ 2 ∷ 0 ∷ 1 ∷ 0 ∷ 15 ∷ 0 ∷ 0 ∷ 0 ∷ 0 ∷ 0 ∷ 0 ∷ 0 ∷ []
 
 abbrev pub lost : List ℕ
 lost = grown Lost 17
@@ -32,15 +78,22 @@ lost = grown Lost 17
 abbrev pub short : List ℕ
 short = take 15 small
 
+abbrev pub long : List ℕ
+long = small ++ 0 ∷ []
+
 -- the number of a call on a record, lent images of len bytes and a block or scratch of room
 abbrev pub asks : List ℕ → Call → ℕ → ℕ → ℕ
 asks b c len room = refusalBytes b (record { call = c; images = len; room = room })
+
+-- a call that would be let through, on each kind of record that 1 is for
+abbrev pub ones : Call → ℕ → ℕ → List ℕ
+ones c len room = asks short c len room ∷ asks long c len room ∷ asks bad c len room ∷ asks sixth c len room ∷ asks [] c len room ∷ []
 
 -- read, view and write have the same rows: a call for a block and a length of its room or data
 abbrev pub reads : (ℕ → ℕ → Call) → List ℕ
 reads c =
     -- 1, 2
-    asks short (c 30 1) 89 1 ∷ asks bad (c 30 1) 89 1 ∷ asks marked (c 30 1) 89 1 ∷ asks lost (c 30 1) 149 1
+    asks short (c 30 1) 89 1 ∷ asks bad (c 30 1) 89 1 ∷ asks sixth (c 30 1) 89 1 ∷ asks lost (c 30 1) 149 1
     -- 7, 8, 9, none
     ∷ asks (grown Whole 17) (c 30 1) 149 1 ∷ asks (grown Whole 17) (c 30 1) 150 1 ∷ asks (grown Whole 17) (c 29 1) 150 1 ∷ asks (grown Whole 17) (c 29 2) 150 2
     -- degraded, grown and idle are no matter
@@ -57,10 +110,16 @@ abbrev pub bytes : ℕ → List ℕ
 bytes len = take len (5 ∷ 5 ∷ 5 ∷ [])
 
 pub record Refusals : Type 0 where
+  -- 1: all calls for its length, all but format for a record that is not good
+  pub row-1 :
+      ones (read 29) 90 2 ++ ones (view 29) 90 2 ++ ones (write 29 (bytes 2)) 90 0 ++ ones (grow 2) 150 0 ++ ones (advance 1) 90 0 ++ ones (out 2) 0 0 ++ ones (rebuild 2) 90 0
+      ++ ones status 0 0 ++ ones (locate 29) 0 0 ++ ones (owner 14 2) 0 0
+      ≡ replicate 50 1
+  pub row-1-format : ones (format 3 2 15) 90 0 ≡ 1 ∷ 1 ∷ 0 ∷ 0 ∷ 1 ∷ []
   -- 1 for its length alone; 6, 7; health lost, a bad record, m and t are no matter
   pub formats :
       asks short (format 2 2 15) 89 0 ∷ asks small (format 2 2 15) 89 0 ∷ asks small (format 3 2 15) 89 0 ∷ asks small (format 3 2 15) 90 0
-      ∷ asks bad (format 3 2 15) 90 0 ∷ asks marked (format 3 2 15) 90 0 ∷ asks lost (format 3 2 15) 90 0 ∷ asks (grown (Out 1) 18) (format 3 2 15) 90 0
+      ∷ asks bad (format 3 2 15) 90 0 ∷ asks sixth (format 3 2 15) 90 0 ∷ asks lost (format 3 2 15) 90 0 ∷ asks (grown (Out 1) 18) (format 3 2 15) 90 0
       ∷ asks small (format 17 2 15) 510 0 ∷ asks small (format 3 0 15) 0 0 ∷ asks small (format 3 2 0) 0 0
       ∷ []
       ≡ 1 ∷ 6 ∷ 7 ∷ 0 ∷ 0 ∷ 0 ∷ 0 ∷ 0 ∷ 6 ∷ 6 ∷ 6 ∷ []
@@ -96,7 +155,7 @@ pub record Refusals : Type 0 where
       ∷ []
       ≡ 1 ∷ 1 ∷ 2 ∷ 7 ∷ 10 ∷ 0 ∷ 10 ∷ []
   -- 1, and nothing else
-  pub statuses : asks short status 0 0 ∷ asks bad status 0 0 ∷ asks marked status 0 0 ∷ asks lost status 0 0 ∷ asks (grown (Out 4) 18) status 0 0 ∷ []
+  pub statuses : asks short status 0 0 ∷ asks bad status 0 0 ∷ asks sixth status 0 0 ∷ asks lost status 0 0 ∷ asks (grown (Out 4) 18) status 0 0 ∷ []
       ≡ 1 ∷ 1 ∷ 1 ∷ 0 ∷ 0 ∷ []
   -- 1, 8, none; health and images are no matter
   pub locates :

@@ -6,9 +6,12 @@ use mathlib.Core.Path.{_≡_}
 use mathlib.Core.Bool.{Bool, true, false}
 use mathlib.Core.Logic.{_↔_, _≢_}
 use mathlib.Core.List.{List, [], _∷_, _++_}
-use Rattle.array.specs.Call.{Event, fed, accepted, number}
+use lib.ListN.{replicate}
+use Rattle.state.specs.declared.Record.{Record}
+use Rattle.state.specs.Bytes.{encode}
+use Rattle.array.specs.Call.{Event, fed, accepted, number, shown, beside}
 use Rattle.array.specs.Table.{Row, word, rowsBytes, refusalBytes}
-use Rattle.array.specs.Effect.{calledBytes}
+use Rattle.array.specs.Effect.{called, sealed, calledBytes}
 
 -- no condition of these rows holds
 unfoldable pub NoneHolds : List Row → Type 0
@@ -26,6 +29,12 @@ pub record Demand1 (e : Event) (b : List ℕ) : Type 0 where
   -- the number returned is the table's ..
   pub number-is : number (calledBytes e b .answer) ≡ refusalBytes b (fed e)
   pub table-is : Given (rowsBytes b (fed e))
+  -- .. with "zeros beside its number, an empty view" ..
+  pub zeros : (w : ℕ) → accepted (calledBytes e b .answer) ≡ false → (beside w (calledBytes e b .answer) ≡ replicate w 0) × (shown (calledBytes e b .answer) ≡ [])
   -- .. and if it is not 0, record, images and block or scratch are as they were lent
   pub untouched : accepted (calledBytes e b .answer) ≡ false → (calledBytes e b .state ≡ b) × (calledBytes e b .images ≡ e .images) × (calledBytes e b .room ≡ e .room)
   pub refused : (accepted (calledBytes e b .answer) ≡ false) ↔ (refusalBytes b (fed e) ≢ 0)
+
+-- What is proved of calls on a record's bytes holds of calls on the record: `on-bytes`.
+abbrev pub OnBytes : Type 0
+OnBytes = (e : Event) (r : Record) → calledBytes e (encode r) ≡ sealed (called e r)

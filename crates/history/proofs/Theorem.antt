@@ -8,31 +8,34 @@ use native.Mathlib.Omega.{arith}
 use lib.Dec.{eqb}
 use lib.ListN.{length, length-append, List·getD-append}
 use lib.Seq.{ext-getD}
-use Rattle.layout.specs.Layout.{totalOf, capacity}
+use Rattle.layout.specs.Layout.{totalOf, capacity, layout}
 use Rattle.layout.specs.Limits.{Good}
 use Rattle.blocks.specs.Stripe.{offset}
 use Rattle.blocks.proofs.Laws.Stripe.{place-in, length-place, getD-place}
+use Rattle.state.specs.declared.Health.{Health}
 use Rattle.state.specs.declared.Record.{Record}
 use Rattle.state.specs.Good.{geometry}
 use Rattle.state.specs.Bytes.{decode, encode, goodBytes}
+use Rattle.state.proofs.Laws.Good.{within-limits}
 use Rattle.state.proofs.Laws.Bytes.{decode-encode}
-use Rattle.array.specs.Call.{Call, format, read, advance, out, Event, fed, Answer, bytes, accepted}
-use Rattle.array.specs.Health.{isLost, isDegraded}
+use Rattle.array.specs.Call.{Call, format, read, view, advance, out, Event, fed, Answer, bytes, accepted}
+use Rattle.array.specs.Health.{isLost, isDegraded, absent}
 use Rattle.array.specs.Images.{disksOf, size, placeIn}
 use Rattle.array.specs.Table.{idle, word, table, refusal, rowsBytes, refusalBytes}
-use Rattle.array.specs.Effect.{parityAfter, Left, act, untouched, settle, sealed, calledBytes}
+use Rattle.array.specs.Effect.{placeOf, parityAfter, Left, act, untouched, settle, sealed, calledBytes}
 use Rattle.array.specs.Sound.{Sound}
 use Rattle.array.proofs.Theorem.{demand1}
-use Rattle.array.proofs.Laws.Acting.{fills}
+use Rattle.array.proofs.Laws.Acting.{fills, shows, parity-first, parity-last}
+use Rattle.array.proofs.Laws.OnBytes.{good-encode}
 use Rattle.array.proofs.Laws.Table.{passes, equal, some-new}
 use Rattle.array.proofs.Laws.Holding.{Holding}
 use Rattle.array.proofs.Laws.Sound.{sound}
 use Rattle.array.proofs.Laws.Advance.{parity-kept}
 use Rattle.history.specs.Flat.{Flat, flatAct, flatSettle, flatStep}
 use Rattle.history.specs.Lent.{Cabinet, Takes, nothing, anything, those, takes, Keeps, Lent, Lends, leaves, stands, next}
-use Rattle.history.specs.Theorem.{tally, Claim, Claims, opening, Demand3, WhatStands, Fair, answers, flatAnswers, FlatList, SecondOut}
+use Rattle.history.specs.Theorem.{tally, Claim, Claims, opening, Demand3, WhatStands, AnyWhenLost, Fair, answers, flatAnswers, FlatList, SecondOut}
 use Rattle.history.proofs.Laws.Step.{Alike, Holds, alike, opens}
-use Rattle.history.proofs.Laws.Lost.{lost-then, no-reads}
+use Rattle.history.proofs.Laws.Lost.{lost-then, lost-reads}
 use Rattle.history.proofs.Laws.Tally.{Counted, counted-step, over-is}
 
 -- ---- what a call leaves, by its definition
@@ -41,13 +44,27 @@ module _ (e : Event) (a : Cabinet) where
   abbrev X : ℕ → Left (List ℕ)
   X n = settle n (untouched e (a .rec)) (sealed (act e (decode (a .rec))))
 
-  filled : (b : ℕ) → e .call ≡ read b → accepted (leaves e a .answer) ≡ true → leaves e a .answer ≡ bytes (leaves e a .room)
+  -- an accepted call leaves what its effect leaves
+  done : accepted (leaves e a .answer) ≡ true → leaves e a ≡ sealed (act e (decode (a .rec)))
   unfolding calledBytes
-  filled b q = go (refusalBytes (a .rec) (fed e))
+  done = go (refusalBytes (a .rec) (fed e))
     where
-      go : (n : ℕ) → accepted (X n .answer) ≡ true → X n .answer ≡ bytes (X n .room)
-      go zero u = fills e (decode (a .rec)) b q
+      go : (n : ℕ) → accepted (X n .answer) ≡ true → X n ≡ sealed (act e (decode (a .rec)))
+      go zero u = refl
       go (suc n) u = absurd (let w : _≡_ {A = ℕ} 0 1 = cc in omega arith)
+
+  filled : (b : ℕ) → e .call ≡ read b → accepted (leaves e a .answer) ≡ true → leaves e a .answer ≡ bytes (leaves e a .room)
+  filled b q u = rw (done u) (fills e (decode (a .rec)) b q)
+
+  shown : (b : ℕ) → e .call ≡ view b → accepted (leaves e a .answer) ≡ true →
+      (absent (decode (a .rec) .health) (placeOf (decode (a .rec)) b .stripe) (placeOf (decode (a .rec)) b .disk) ≡ true → leaves e a .answer ≡ bytes (leaves e a .room))
+      × (absent (decode (a .rec) .health) (placeOf (decode (a .rec)) b .stripe) (placeOf (decode (a .rec)) b .disk) ≡ false
+      → (leaves e a .answer ≡ bytes (placeIn (decode (a .rec)) (e .images) (placeOf (decode (a .rec)) b .stripe) (placeOf (decode (a .rec)) b .disk))) × (leaves e a .room ≡ e .room))
+  shown b q u = rw (done u) (shows e (decode (a .rec)) b q)
+
+  ends : (k S : ℕ) → e .call ≡ advance k → accepted (leaves e a .answer) ≡ true
+      → parityAfter k (decode (a .rec)) (e .images) S ≡ placeIn (decode (a .rec)) (leaves e a .images) S (layout (geometry (decode (leaves e a .state))) .parity S)
+  ends k S q u = rw (done u, decode-encode (act e (decode (a .rec)) .state)) (parity-last e (decode (a .rec)) k S q)
 
   stays : accepted (leaves e a .answer) ≡ false → next e a ≡ a
   unfolding next
@@ -105,10 +122,14 @@ claim e a f sum s h p =
     record {
       answer = s .answer;
       filled = filled e a;
+      shown = shown e a;
       fields = s .fields;
+      good-left = rw (s .fields) (good-encode (y .1 .numbers) ∙ within-limits (y .1 .numbers) (s .holding .limits));
       refused = demand1 e (a .rec) .untouched;
       stays = stays e a;
       parity = p;
+      parity-first = parity-first (decode (a .rec)) (e .images);
+      parity-last = ends e a;
       over = over-bytes (leaves e a .state) (y .1 .numbers) sum (s .fields) h;
       sound = sound-bytes (leaves e a .state) (y .1 .numbers) (next e a .img) (y .1 .blocks) (s .fields) (s .holding);
     }
@@ -187,6 +208,10 @@ pub what-stands : WhatStands
 unfolding Lends
 what-stands e r left behind long q = lent r left behind long (takes (e .call) r) (e .images) q
 
+pub any-when-lost : AnyWhenLost
+unfolding Keeps
+any-when-lost r left lent h S d lS ld q = absurd (let w : _≡_ {A = ℕ} 0 1 = cc (ap (λ (x : Health). absent x S d) h) in omega arith)
+
 -- ---- in short
 
 outcome : {x x′ : Answer} {r r′ : List ℕ} {l l′ : List (Answer × List ℕ)} → x ≡ x′ → r ≡ r′ → l ≡ l′ → _≡_ {A = List (Answer × List ℕ)} ((x, r) ∷ l) ((x′, r′) ∷ l′)
@@ -205,4 +230,5 @@ flat-list a f n B T img room u es l = same-answers (opening n B T img room ∷ e
 -- ---- a second disk out
 
 pub second-out : SecondOut
-second-out f first second len room h u es = no-reads es (flatStep (record { call = out second; images = len; room = room }) f .1) (lost-then f first second len room h u)
+second-out f first second len room g h u es =
+    lost-reads es (flatStep (record { call = out second; images = len; room = room }) f .1) (f .numbers) g (lost-then f first second len room g h u)

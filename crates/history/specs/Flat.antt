@@ -8,11 +8,11 @@ use lib.Dec.{eqb}
 use lib.ListN.{length, getD, set, replicate}
 use Rattle.layout.specs.Layout.{totalOf, layout}
 use Rattle.blocks.specs.Block.{zeros}
-use Rattle.state.specs.declared.Health.the-variants.{Whole}
+use Rattle.state.specs.declared.Health.the-variants.{Whole, Out, Lost}
+use Rattle.state.specs.declared.Health.{Health}
 use Rattle.state.specs.declared.Record.{Record}
 use Rattle.state.specs.Good.{geometry}
 use Rattle.array.specs.Call.{Call, format, read, view, write, grow, advance, out, rebuild, status, locate, owner, Fed, Answer, refused, done, bytes, made, figures, placed, owned}
-use Rattle.array.specs.Health.{afterOut, formatted, grownBy, withMoves, withHealth}
 use Rattle.array.specs.Table.{refusal}
 
 pub record Flat : Type 0 where
@@ -29,23 +29,33 @@ zeroBlocks c B = replicate c (zeros B)
 abbrev pub lengthened : Record → List (List ℕ) → List (List ℕ)
 lengthened r bs = cond (eqb (r .moves) (totalOf (geometry r))) (bs ++ zeroBlocks (r .stripes * r .new) (r .block)) bs
 
+-- "Out and rebuild: health as under Calls": "whole becomes out; out with another disk becomes lost"
+abbrev pub fallen : Health → ℕ → Health
+fallen Whole d = Out d
+fallen (Out o) d = Lost
+fallen Lost d = Lost
+
 unfoldable pub flatAct : Call → Record → List (List ℕ) → Answer × Flat
 -- "Format: n, B, T as given, m = t = 0, whole, T × (n − 1) zero blocks."
-flatAct (format n B T) r bs = (done, flat (formatted n B T) (zeroBlocks (T * (n - 1)) B))
+flatAct (format n B T) r bs =
+    (done, flat (record { old = n; new = 0; health = Whole; block = B; stripes = T; moves = 0 }) (zeroBlocks (T * (n - 1)) B))
 -- "Read and view give block b; write replaces it by the data."
 flatAct (read b) r bs = (bytes (getD bs b []), flat r bs)
 flatAct (view b) r bs = (bytes (getD bs b []), flat r bs)
 flatAct (write b v) r bs = (done, flat r (set bs b v))
 -- "Grow: m as given, t = 0."
-flatAct (grow m) r bs = let next = grownBy r m in (done, flat next (lengthened next bs))
+flatAct (grow m) r bs =
+    let next : Record = record { old = r .old; new = m; health = r .health; block = r .block; stripes = r .stripes; moves = 0 } in
+    (done, flat next (lengthened next bs))
 -- "Advance: the lesser of k and total − t is added to t and reported."
 flatAct (advance k) r bs =
     let c = min k (totalOf (geometry r) - r .moves) in
-    let next = withMoves r (r .moves + c) in
+    let next : Record = record { old = r .old; new = r .new; health = r .health; block = r .block; stripes = r .stripes; moves = r .moves + c } in
     (made c, flat next (lengthened next bs))
--- "Out and rebuild: health as under Calls."
-flatAct (out d) r bs = (done, flat (withHealth r (afterOut (r .health) d)) bs)
-flatAct (rebuild d) r bs = (done, flat (withHealth r Whole) bs)
+flatAct (out d) r bs =
+    (done, flat (record { old = r .old; new = r .new; health = fallen (r .health) d; block = r .block; stripes = r .stripes; moves = r .moves }) bs)
+flatAct (rebuild d) r bs =
+    (done, flat (record { old = r .old; new = r .new; health = Whole; block = r .block; stripes = r .stripes; moves = r .moves }) bs)
 -- "Status, locate and owner answer from these numbers, by Layout."
 flatAct status r bs = (figures (length bs) (r .moves) (totalOf (geometry r)) (r .health), flat r bs)
 flatAct (locate b) r bs = (placed (layout (geometry r) .place b), flat r bs)

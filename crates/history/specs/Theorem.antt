@@ -4,26 +4,26 @@
 -- refusal is exactly that of document 01's flat list, zero at first, of what each block was last given; each move keeps its
 -- stripe's parity value; and growth is over exactly when the moves reported since it began are T × n × m / (n + m) .. A second
 -- disk out while the first is not rebuilt refuses all reads until a new format."
--- `demand3`, `what-stands`, `flat-list` and `second-out` of proofs/Theorem.antt prove it, and assume nothing.
+-- `demand3`, `what-stands`, `any-when-lost`, `flat-list` and `second-out` of proofs/Theorem.antt prove it, and assume nothing.
 use Prim.Native.Nat.{ℕ, suc, _+_, _<_}
 use mathlib.Core.Path.{_≡_}
 use mathlib.Core.Bool.{true, false, cond}
 use mathlib.Core.Logic.{_↔_, _≢_}
 use mathlib.Core.List.{List, [], _∷_, _++_, map}
 use lib.ListN.{length}
-use Rattle.layout.specs.Layout.{totalOf}
-use Rattle.state.specs.declared.Health.the-variants.{Out}
+use Rattle.layout.specs.Layout.{totalOf, layout}
+use Rattle.state.specs.declared.Health.the-variants.{Out, Lost}
 use Rattle.state.specs.declared.Record.{Record}
-use Rattle.state.specs.Good.{geometry}
-use Rattle.state.specs.Bytes.{decode, encode}
-use Rattle.array.specs.Call.{Call, format, read, view, write, grow, advance, out, rebuild, status, locate, owner, Event, Fed, fed, Answer, bytes, accepted, count}
-use Rattle.array.specs.Health.{isLost}
-use Rattle.array.specs.Images.{size}
+use Rattle.state.specs.Good.{geometry, good}
+use Rattle.state.specs.Bytes.{decode, goodBytes, encode}
+use Rattle.array.specs.Call.{Call, format, read, view, write, grow, advance, out, rebuild, status, locate, owner, Event, Fed, fed, Answer, refused, bytes, accepted, count}
+use Rattle.array.specs.Health.{isLost, absent}
+use Rattle.array.specs.Images.{size, placeIn}
 use Rattle.array.specs.Table.{idle}
-use Rattle.array.specs.Effect.{parityAfter}
+use Rattle.array.specs.Effect.{placeOf, parityAfter}
 use Rattle.array.specs.Sound.{Sound}
 use Rattle.history.specs.Flat.{Flat, flatStep}
-use Rattle.history.specs.Lent.{Cabinet, Lends, leaves, next}
+use Rattle.history.specs.Lent.{Cabinet, Keeps, Lends, leaves, next}
 
 -- "The moves of a growth are the sum of the counts that advance reported since that grow was accepted, no format and no further
 -- grow accepted since": the sum after a call, from the one before it
@@ -46,15 +46,27 @@ pub record Claim (e : Event) (a : Cabinet) (f : Flat) (sum : ℕ) : Type 0 where
   -- "the number; the bytes that read fills in or view returns; the count of advance; the answers of status, locate and owner"
   pub answer : leaves e a .answer ≡ flatStep (fed e) f .0
   pub filled : (b : ℕ) → e .call ≡ read b → accepted (leaves e a .answer) ≡ true → leaves e a .answer ≡ bytes (leaves e a .room)
+  -- "as a part of the images, or, if its disk is out, as the lent scratch filled with it. Scratch is else untouched."
+  pub shown : (b : ℕ) → e .call ≡ view b → accepted (leaves e a .answer) ≡ true →
+      let r = decode (a .rec) in
+      let q = placeOf r b in
+      (absent (r .health) (q .stripe) (q .disk) ≡ true → leaves e a .answer ≡ bytes (leaves e a .room))
+      × (absent (r .health) (q .stripe) (q .disk) ≡ false → (leaves e a .answer ≡ bytes (placeIn r (e .images) (q .stripe) (q .disk))) × (leaves e a .room ≡ e .room))
   -- "and the fields of the record left"
   pub fields : leaves e a .state ≡ encode (flatStep (fed e) f .1 .numbers)
+  -- which is good, so that refusal 1 is never given
+  pub good-left : goodBytes (leaves e a .state) ≡ true
   -- a refused call leaves the record, the images and the block or scratch as they were lent
   pub refused : accepted (leaves e a .answer) ≡ false → (leaves e a .state ≡ a .rec) × (leaves e a .images ≡ e .images) × (leaves e a .room ≡ e .room)
   -- "After a refused call the next is lent what stood before it"
   pub stays : accepted (leaves e a .answer) ≡ false → next e a ≡ a
-  -- "Each move that an advance makes leaves them the same, wherever the parity then stands": the one behind the first i, in every stripe
+  -- "Each move that an advance makes leaves them the same, wherever the parity then stands": the one behind the first i, in every stripe;
+  -- behind none stand the images lent, behind the last of them those left
   pub parity : (k i S : ℕ) → e .call ≡ advance k → accepted (leaves e a .answer) ≡ true → S < decode (a .rec) .stripes
       → parityAfter (suc i) (decode (a .rec)) (e .images) S ≡ parityAfter i (decode (a .rec)) (e .images) S
+  pub parity-first : (S : ℕ) → parityAfter 0 (decode (a .rec)) (e .images) S ≡ placeIn (decode (a .rec)) (e .images) S (layout (geometry (decode (a .rec))) .parity S)
+  pub parity-last : (k S : ℕ) → e .call ≡ advance k → accepted (leaves e a .answer) ≡ true
+      → parityAfter k (decode (a .rec)) (e .images) S ≡ placeIn (decode (a .rec)) (leaves e a .images) S (layout (geometry (decode (leaves e a .state))) .parity S)
   -- "The growth is over, so that 5's condition holds, exactly when the sum is the total."
   pub over : let r = decode (leaves e a .state) in r .new ≢ 0 → (idle (geometry r) ≡ true) ↔ (sum ≡ totalOf (geometry r))
   -- "From a format on, unless health is lost, all stripes are sound, the out disk taken as the xor of the others."
@@ -82,6 +94,10 @@ Demand3 =
 abbrev pub WhatStands : Type 0
 WhatStands = (e : Event) (r : Record) (left behind : List ℕ) → length left ≡ size r → e .images ≡ left ++ behind → Lends e r left
 
+-- Where health is lost no disk is held to anything.
+abbrev pub AnyWhenLost : Type 0
+AnyWhenLost = (r : Record) (left lent : List ℕ) → r .health ≡ Lost → Keeps r left lent
+
 -- ---- in short: the answers of a fair history, and the record's bytes after each call, are those of the flat list
 
 unfoldable pub Fair : List Event → Cabinet → Flat → Type 0
@@ -105,17 +121,17 @@ FlatList =
 -- ---- "A second disk out while the first is not rebuilt refuses all reads until a new format." (Said of the flat list, whose answers
 -- are the array's.)
 
--- no read and no view of a list is answered before a format is accepted
+-- every read and view of a list is refused, as lost, until a format is accepted
 unfoldable pub NoReads : List Fed → Flat → Type 0
 NoReads [] f = Unit
 NoReads (e ∷ es) f =
     let y = flatStep e f in
-    ((b : ℕ) → e .call ≡ read b → accepted (y .0) ≡ false)
-    × ((b : ℕ) → e .call ≡ view b → accepted (y .0) ≡ false)
+    ((b : ℕ) → e .call ≡ read b → y .0 ≡ refused 2)
+    × ((b : ℕ) → e .call ≡ view b → y .0 ≡ refused 2)
     × (((n B T : ℕ) → e .call ≡ format n B T → accepted (y .0) ≡ false) → NoReads es (y .1))
 
 abbrev pub SecondOut : Type 0
 SecondOut =
     (f : Flat) (first second len room : ℕ) →
     let y = flatStep (record { call = out second; images = len; room = room }) f in
-    f .numbers .health ≡ Out first → accepted (y .0) ≡ true → (es : List Fed) → NoReads es (y .1)
+    good (f .numbers) ≡ true → f .numbers .health ≡ Out first → accepted (y .0) ≡ true → (es : List Fed) → NoReads es (y .1)

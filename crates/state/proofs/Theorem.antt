@@ -1,6 +1,6 @@
 -- What is proved of the record: `round-trip` and `good-is`. Assumes nothing.
 use Prim.Native.Nat.{ℕ, _+_, _*_, _≤_}
-use mathlib.Core.Path.{_≡_, subst}
+use mathlib.Core.Path.{_≡_, refl, subst}
 use mathlib.Core.Bool.{true}
 use mathlib.Core.List.{List}
 use native.Mathlib.Nat.{div-le-self}
@@ -13,17 +13,20 @@ use Rattle.state.specs.declared.Health.the-variants.{Whole, Out, Lost}
 use Rattle.state.specs.declared.Health.{Health}
 use Rattle.state.specs.declared.Record.{Record}
 use Rattle.state.specs.Good.{geometry, OutBelow, Limits}
-use Rattle.state.specs.Bytes.{plain}
+use Rattle.state.specs.Bytes.{plain, encode}
 use Rattle.state.specs.Theorem.{RoundTrip, GoodIs}
 use Rattle.state.proofs.Laws.Good.{limits, within-limits}
 use Rattle.state.proofs.Laws.Bytes.{decode-encode, length-encode, plain-encode, Fits, bytes-encode, encode-decode}
 
 pub round-trip : RoundTrip
+unfolding encode
 round-trip =
     record {
       record-back = decode-encode;
       bytes-back = encode-decode;
       plain-only = λ b r e. (subst (λ (x : List ℕ). length x ≡ 16) e (length-encode r), subst (λ (x : List ℕ). plain x ≡ true) e (plain-encode r));
+      example = refl;
+      whole-and-lost = (refl, refl, refl, refl);
     }
 
 -- a good record's fields fit their bytes

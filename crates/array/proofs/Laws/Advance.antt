@@ -31,7 +31,7 @@ use Rattle.array.proofs.Laws.Column.{Agree, Stored, relent, reowned, fi
 use Rattle.array.proofs.Laws.Carry.{carry, stored-carry, parity-carry}
 use Rattle.array.proofs.Laws.Stores.{Within, column, length-stored, cell-stored, stored-append, recorded-append}
 use Rattle.array.proofs.Laws.Table.{passes, equal, some-new, some-left, none-left}
-use Rattle.array.proofs.Laws.Lists.{lengthened, bytes-lengthened, count-lengthened, whole-lengthened, stored-lengthened}
+use Rattle.array.proofs.Laws.Lists.{with-new, bytes-with-new, count-with-new, whole-with-new, stored-with-new}
 use Rattle.array.proofs.Laws.Holding.{Holding, Leaves, bytesAt, cellIn}
 use Rattle.array.proofs.Laws.Grow.{all-in}
 
@@ -221,7 +221,7 @@ module _ (r : Record) (img room : List ℕ) (bs : List (List ℕ)) (lends : leng
 
   pub advances : word (table (advance k) short bad r cap (length img) len) ≡ 0
       → Leaves (act (record { call = advance k; images = img; room = room }) r) (made (min k (totalOf (geometry r) - r .moves))) (advanced k r)
-      (lengthened (geometry (advanced k r)) (r .block) bs)
+      (with-new (geometry (advanced k r)) (r .block) bs)
   unfolding table effect Standing
   advances z =
       let (u, z₁) = passes (short || bad) 0 _ z in
@@ -254,11 +254,11 @@ module _ (r : Record) (img room : List ℕ) (bs : List (List ℕ)) (lends : leng
             record {
               limits = record { array = good; block-low = h .limits .block-low; block-high = h .limits .block-high; out = rw hw tt };
               long = p .0;
-              count = count-lengthened (geometry r′) (r .block) bs count-old;
-              whole = whole-lengthened (geometry r′) (r .block) bs (h .whole);
+              count = count-with-new (geometry r′) (r .block) bs count-old;
+              whole = whole-with-new (geometry r′) (r .block) bs (h .whole);
               stored = λ nl′ j lj.
                   unmasked (r .health) hw
-                  (rw (bytes-lengthened (geometry r′) (r .block) bs j)
-                  (stored-lengthened (geometry r′) good (λ S d. false) (cellIn r J j) (bytesAt j bs) (length-map bs (λ (x : List ℕ). getD x j 0) ∙ count-old) (p .1 j lj)));
+                  (rw (bytes-with-new (geometry r′) (r .block) bs j)
+                  (stored-with-new (geometry r′) good (λ S d. false) (cellIn r J j) (bytesAt j bs) (length-map bs (λ (x : List ℕ). getD x j 0) ∙ count-old) (p .1 j lj)));
             };
       }

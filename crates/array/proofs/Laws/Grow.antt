@@ -30,7 +30,7 @@ use Rattle.array.specs.Effect.{effect, act}
 use Rattle.array.proofs.Laws.Column.{Mask, Fits, fits-of, Agree, Even, Holds, Stored, relent}
 use Rattle.array.proofs.Laws.Stores.{Within, length-stored, cell-stored, stored-last, recorded-last, column-below, column-zero, within-zero}
 use Rattle.array.proofs.Laws.Table.{passes, equal}
-use Rattle.array.proofs.Laws.Lists.{lengthened, bytes-lengthened, count-lengthened, whole-lengthened, stored-lengthened}
+use Rattle.array.proofs.Laws.Lists.{with-new, bytes-with-new, count-with-new, whole-with-new, stored-with-new}
 use Rattle.array.proofs.Laws.Holding.{Holding, Leaves, Kept, bytesAt, cellIn}
 
 -- every disk is in
@@ -98,7 +98,7 @@ module _ (r : Record) (left img room : List ℕ) (bs : List (List ℕ)) (h : Hol
   count-old z = h .count ∙ omega (arith, ap (λ (x : ℕ). openStripes g * x) z)
 
   pub grows : word (table (grow m) short bad r c (length img) k) ≡ 0
-      → Leaves (act (record { call = grow m; images = img; room = room }) r) done (grownBy r m) (lengthened g′ (r .block) bs)
+      → Leaves (act (record { call = grow m; images = img; room = room }) r) done (grownBy r m) (with-new g′ (r .block) bs)
   unfolding table effect Agree
   grows z =
       let (u, z₁) = passes (short || bad) 0 _ z in
@@ -118,7 +118,7 @@ module _ (r : Record) (left img room : List ℕ) (bs : List (List ℕ)) (h : Hol
       let w : Within (r .old + m) (r .block) (r .stripes) ps = within-zero (r .block) (r .stripes) (r .old) (r .old + m) m (omega arith) in
       let J : List ℕ = stored (r .block) (r .stripes) ps img in
       let in-all : (S d : ℕ) → absent (r .health) S d ≡ false = λ S d. rw hw refl in
-      let held : (j : ℕ) → j < r .block → Stored (r .old + m) (r .stripes) (layout g′ .owner) (absent (r .health)) (cellIn r J j) (bytesAt j (lengthened g′ (r .block) bs)) =
+      let held : (j : ℕ) → j < r .block → Stored (r .old + m) (r .stripes) (layout g′ .owner) (absent (r .health)) (cellIn r J j) (bytesAt j (with-new g′ (r .block) bs)) =
       λ j lj.
       let s₁ : Stored (disksOf r) (r .stripes) (layout g .owner) (absent (r .health)) (cellIn r img j) (bytesAt j bs) =
       relent (disksOf r) (r .stripes) (layout g .owner) (absent (r .health)) (cellIn r left j) (cellIn r img j) (bytesAt j bs) (h .stored nl j lj) (λ S d lS ld q. lends long S d j lS ld lj q) in
@@ -129,8 +129,8 @@ module _ (r : Record) (left img room : List ℕ) (bs : List (List ℕ)) (h : Hol
       (λ S d l. starts-blank g′ good refl S d l) (absent (r .health)) (cellIn r img j) (cellIn r J j) (bytesAt j bs) in-all s₂
       (λ S d lS ld. cell-stored (r .block) (r .stripes) (r .old + m) ps img w long j S d lj lS ∙ column-below (r .block) (r .stripes) (r .old) j m (cellIn r img j) S d lS ld)
       (λ S d lS lo hi. cell-stored (r .block) (r .stripes) (r .old + m) ps img w long j S d lj lS ∙ column-zero (r .block) (r .stripes) (r .old) j m (cellIn r img j) S d lS lo hi) in
-      rw (bytes-lengthened g′ (r .block) bs j)
-      (stored-lengthened g′ good (absent (r .health)) (cellIn r J j) (bytesAt j bs) (length-map bs (λ (y : List ℕ). getD y j 0) ∙ count-old mz) s₃) in
+      rw (bytes-with-new g′ (r .block) bs j)
+      (stored-with-new g′ good (absent (r .health)) (cellIn r J j) (bytesAt j bs) (length-map bs (λ (y : List ℕ). getD y j 0) ∙ count-old mz) s₃) in
       record {
         answer = refl;
         state = recorded-last ps x r;
@@ -138,8 +138,8 @@ module _ (r : Record) (left img room : List ℕ) (bs : List (List ℕ)) (h : Hol
             record {
               limits = record { array = good; block-low = h .limits .block-low; block-high = h .limits .block-high; out = rw hw tt };
               long = rw (stored-last (r .block) (r .stripes) ps x img) (length-stored (r .block) (r .stripes) ps img ∙ long);
-              count = count-lengthened g′ (r .block) bs (count-old mz);
-              whole = whole-lengthened g′ (r .block) bs (h .whole);
+              count = count-with-new g′ (r .block) bs (count-old mz);
+              whole = whole-with-new g′ (r .block) bs (h .whole);
               stored = λ nl′ j lj. rw (stored-last (r .block) (r .stripes) ps x img) (held j lj);
             };
       }

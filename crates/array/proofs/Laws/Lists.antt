@@ -27,9 +27,9 @@ use Rattle.array.proofs.Laws.Holding.{bytesAt}
 abbrev pub blank-blocks : ℕ → ℕ → List (List ℕ)
 blank-blocks c B = replicate c (zeros B)
 
--- the list once t is the total: T × m zero blocks behind it
-abbrev pub lengthened : Geometry → ℕ → List (List ℕ) → List (List ℕ)
-lengthened g B bs = cond (eqb (g .moves) (totalOf g)) (bs ++ blank-blocks (g .stripes * g .new) B) bs
+-- a list with the new blocks, once t is the total: T × m zero blocks behind it (the flat list has its own word for this)
+abbrev pub with-new : Geometry → ℕ → List (List ℕ) → List (List ℕ)
+with-new g B bs = cond (eqb (g .moves) (totalOf g)) (bs ++ blank-blocks (g .stripes * g .new) B) bs
 
 map-replicate : {A B : Type 0} (f : A → B) (n : ℕ) (x : A) → map f (replicate n x) ≡ replicate n (f x)
 map-replicate f zero x = refl
@@ -45,16 +45,16 @@ module _ (g : Geometry) (B : ℕ) (bs : List (List ℕ)) where
   abbrev more : List (List ℕ)
   more = blank-blocks (g .stripes * g .new) B
 
-  pub bytes-lengthened : (j : ℕ) → bytesAt j (lengthened g B bs) ≡ cond (eqb (g .moves) (totalOf g)) (bytesAt j bs ++ zeros (g .stripes * g .new)) (bytesAt j bs)
-  bytes-lengthened j = go (eqb (g .moves) (totalOf g))
+  pub bytes-with-new : (j : ℕ) → bytesAt j (with-new g B bs) ≡ cond (eqb (g .moves) (totalOf g)) (bytesAt j bs ++ zeros (g .stripes * g .new)) (bytesAt j bs)
+  bytes-with-new j = go (eqb (g .moves) (totalOf g))
     where
       go : (b : Bool) → bytesAt j (cond b (bs ++ more) bs) ≡ cond b (bytesAt j bs ++ zeros (g .stripes * g .new)) (bytesAt j bs)
       go true = map-append (λ (v : List ℕ). getD v j 0) bs more ∙ ap (λ (x : List ℕ). bytesAt j bs ++ x) (bytes-blank (g .stripes * g .new) B j)
       go false = refl
 
-  pub count-lengthened : length bs ≡ oldBlocks g → length (lengthened g B bs) ≡ capacity g
+  pub count-with-new : length bs ≡ oldBlocks g → length (with-new g B bs) ≡ capacity g
   unfolding capacity
-  count-lengthened e = go (eqb (g .moves) (totalOf g)) refl
+  count-with-new e = go (eqb (g .moves) (totalOf g)) refl
     where
       go : (b : Bool) → eqb (g .moves) (totalOf g) ≡ b → length (cond b (bs ++ more) bs) ≡ capacity g
       go true q =
@@ -62,8 +62,8 @@ module _ (g : Geometry) (B : ℕ) (bs : List (List ℕ)) where
           (ap (λ (x : ℕ). oldBlocks g + x * g .new) (open-all g (eqb-true _ _ q)))
       go false q = e ∙ omega (arith, ap (λ (x : ℕ). x * g .new) (open-none g (eqb-false _ _ q)))
 
-  pub whole-lengthened : ((b : ℕ) → b < length bs → length (getD bs b []) ≡ B) → (b : ℕ) → b < length (lengthened g B bs) → length (getD (lengthened g B bs) b []) ≡ B
-  whole-lengthened f = go (eqb (g .moves) (totalOf g))
+  pub whole-with-new : ((b : ℕ) → b < length bs → length (getD bs b []) ≡ B) → (b : ℕ) → b < length (with-new g B bs) → length (getD (with-new g B bs) b []) ≡ B
+  whole-with-new f = go (eqb (g .moves) (totalOf g))
     where
       behind : (b : ℕ) → b < length (bs ++ more) → Dec (b < length bs) → length (getD (bs ++ more) b []) ≡ B
       behind b h (yes l) = rw (List·getD-append bs more [] b l) (f b l)
@@ -91,9 +91,9 @@ fits-opened bs old c e {o = Blank} x kept h f = f
 fits-opened bs old c e x (new b l) h f = f ∙ sym (zero-behind bs c b (rw e l))
 
 -- the new blocks stand on blanks, and are zero
-pub stored-lengthened : (g : Geometry) → Good g → (a : Mask) (I : Grid) (bs : List ℕ) → length bs ≡ oldBlocks g → Stored (disks g) (g .stripes) (standing g) a I bs
+pub stored-with-new : (g : Geometry) → Good g → (a : Mask) (I : Grid) (bs : List ℕ) → length bs ≡ oldBlocks g → Stored (disks g) (g .stripes) (standing g) a I bs
     → Stored (disks g) (g .stripes) (layout g .owner) a I (cond (eqb (g .moves) (totalOf g)) (bs ++ zeros (g .stripes * g .new)) bs)
-stored-lengthened g good a I bs e s = go (eqb (g .moves) (totalOf g)) refl
+stored-with-new g good a I bs e s = go (eqb (g .moves) (totalOf g)) refl
   where
     go : (b : Bool) → eqb (g .moves) (totalOf g) ≡ b → Stored (disks g) (g .stripes) (layout g .owner) a I (cond b (bs ++ zeros (g .stripes * g .new)) bs)
     go true q =

@@ -8,15 +8,19 @@ use lib.Dec.{eqb}
 use lib.ListN.{length, getD}
 use Rattle.layout.specs.Layout.{capacity}
 use Rattle.blocks.proofs.Laws.Stripe.{getD-place}
+use Rattle.state.specs.declared.Health.the-variants.{Whole, Out, Lost}
+use Rattle.state.specs.declared.Health.{Health}
 use Rattle.state.specs.declared.Record.{Record}
 use Rattle.state.specs.Good.{geometry, good}
-use Rattle.state.specs.Bytes.{decode, encode, goodBytes}
-use Rattle.state.proofs.Laws.Bytes.{decode-encode, length-encode, plain-encode}
-use Rattle.array.specs.Call.{Call, format, read, view, write, grow, advance, out, rebuild, status, locate, owner, Event, Fed, fed, Answer, accepted}
+use Rattle.state.specs.Bytes.{decode, encode}
+use Rattle.state.proofs.Laws.Bytes.{decode-encode}
+use Rattle.array.specs.Call.{Call, format, read, view, write, grow, advance, out, rebuild, status, locate, owner, Event, fed, Answer, accepted}
+use Rattle.array.specs.Health.{afterOut, withHealth}
 use Rattle.array.specs.Images.{size, stored, recorded}
 use Rattle.array.specs.Table.{word, table, refusal, rowsBytes, refusalBytes}
 use Rattle.array.specs.Effect.{effect, Left, act, untouched, settle, sealed, calledBytes}
-use Rattle.array.proofs.Laws.Holding.{Holding, Kept, relends}
+use Rattle.array.proofs.Laws.OnBytes.{refusal-encode}
+use Rattle.array.proofs.Laws.Holding.{Holding, Leaves, Kept, relends}
 use Rattle.array.proofs.Laws.Format.{formats}
 use Rattle.array.proofs.Laws.Read.{reads, views}
 use Rattle.array.proofs.Laws.Write.{writes}
@@ -24,7 +28,7 @@ use Rattle.array.proofs.Laws.Grow.{grows}
 use Rattle.array.proofs.Laws.Advance.{advances}
 use Rattle.array.proofs.Laws.Out.{outs}
 use Rattle.array.proofs.Laws.Rebuild.{rebuilds}
-use Rattle.history.specs.Flat.{Flat, flatAct, flatSettle, flatStep}
+use Rattle.history.specs.Flat.{Flat, flat, fallen, flatAct, flatSettle, flatStep}
 use Rattle.history.specs.Lent.{Cabinet, takes, Keeps, Lends, leaves, stands, next}
 
 -- ---- an accepted call
@@ -42,6 +46,12 @@ unfolding Keeps
 kept-bytes r left lent k S d j lS ld lj q =
     sym (getD-place (r .block) (r .stripes) lent S d j lj) ∙ ap (λ (v : List ℕ). getD v j 0) (k S d lS ld q) ∙ getD-place (r .block) (r .stripes) left S d j lj
 
+-- both machines say the same of health
+same-health : (x : Health) (d : ℕ) → afterOut x d ≡ fallen x d
+same-health Whole d = refl
+same-health (Out o) d = refl
+same-health Lost d = refl
+
 abbrev event : Call → List ℕ → List ℕ → Event
 event c img room = record { call = c; images = img; room = room }
 
@@ -53,21 +63,23 @@ module _ (r : Record) (left : List ℕ) (bs : List (List ℕ)) (h : Holding r le
   lent : (length img ≡ size r → Keeps r left img) → length img ≡ size r → Holding r img bs
   lent k z = relends r left bs h img z (kept-bytes r left img (k z))
 
+  -- a call that takes images leaves them standing
+  left-by : (c : Call) {x : Left Record} {a : Answer} {r′ : Record} {cs : List (List ℕ)} → stands true (takes c r) left (x .images) ≡ x .images → accepted a ≡ true
+      → Leaves x a r′ cs → Acted c x r left (a, flat r′ cs)
+  left-by c same ok l = record { answer = l .answer; taken = ok; state = l .state; holding = rw same (l .holding) }
+
   acts : (c : Call) → Lends (event c img room) r left → Passes c → Acted c (act (event c img room) r) r left (flatAct c r bs)
   unfolding Lends takes flatAct effect stored recorded
-  acts (format n B T) l z = let x = formats n B T img room false (not (good r)) r (capacity (geometry r)) (length room) z in record { answer = x .answer; taken = refl; state = x .state; holding = x .holding }
-  acts (read b) l z = let x = reads r img room bs (lent l) b false (not (good r)) z in record { answer = x .answer; taken = refl; state = x .state; holding = x .holding }
-  acts (view b) l z = let x = views r img room bs (lent l) b false (not (good r)) z in record { answer = x .answer; taken = refl; state = x .state; holding = x .holding }
-  acts (write b v) l z = let x = writes r img room bs (lent l) b v false (not (good r)) (length room) z in record { answer = x .answer; taken = refl; state = x .state; holding = x .holding }
-  acts (grow m) l z =
-      let x = grows r left img room bs h m (λ q. kept-bytes r left img (l q)) false (not (good r)) (capacity (geometry r)) (length room) z in
-      record { answer = x .answer; taken = refl; state = x .state; holding = x .holding }
-  acts (advance k) l z =
-      let x = advances r img room bs (lent l) k false (not (good r)) (capacity (geometry r)) (length room) z in record { answer = x .answer; taken = refl; state = x .state; holding = x .holding }
+  acts (format n B T) l z = left-by (format n B T) refl refl (formats n B T img room false (not (good r)) r (capacity (geometry r)) (length room) z)
+  acts (read b) l z = left-by (read b) refl refl (reads r img room bs (lent l) b false (not (good r)) z)
+  acts (view b) l z = left-by (view b) refl refl (views r img room bs (lent l) b false (not (good r)) z)
+  acts (write b v) l z = left-by (write b v) refl refl (writes r img room bs (lent l) b v false (not (good r)) (length room) z)
+  acts (grow m) l z = left-by (grow m) refl refl (grows r left img room bs h m (λ q. kept-bytes r left img (l q)) false (not (good r)) (capacity (geometry r)) (length room) z)
+  acts (advance k) l z = left-by (advance k) refl refl (advances r img room bs (lent l) k false (not (good r)) (capacity (geometry r)) (length room) z)
   acts (out d) l z =
-      record { answer = refl; taken = refl; state = refl; holding = outs r left bs h d false (not (good r)) (capacity (geometry r)) (length img) (length room) z }
-  acts (rebuild d) l z =
-      let x = rebuilds r img room bs (lent l) d false (not (good r)) (capacity (geometry r)) (length room) z in record { answer = x .answer; taken = refl; state = x .state; holding = x .holding }
+      let x : Holding (withHealth r (afterOut (r .health) d)) left bs = outs r left bs h d false (not (good r)) (capacity (geometry r)) (length img) (length room) z in
+      record { answer = refl; taken = refl; state = ap (withHealth r) (same-health (r .health) d); holding = rw (same-health (r .health) d) at x }
+  acts (rebuild d) l z = left-by (rebuild d) refl refl (rebuilds r img room bs (lent l) d false (not (good r)) (capacity (geometry r)) (length room) z)
   acts status l z = record { answer = rw (h .count); taken = refl; state = refl; holding = h }
   acts (locate b) l z = record { answer = refl; taken = refl; state = refl; holding = h }
   acts (owner S d) l z = record { answer = refl; taken = refl; state = refl; holding = h }
@@ -87,14 +99,6 @@ record Settled (e : Event) (b before : List ℕ) (x : Left (List ℕ)) (y : Answ
   answer : x .answer ≡ y .0
   fields : x .state ≡ encode (y .1 .numbers)
   holding : Holding (y .1 .numbers) (stands (accepted (x .answer)) (takes (e .call) (decode b)) before (x .images)) (y .1 .blocks)
-
--- the table reads the record's bytes as it reads the record
-good-encode : (r : Record) → goodBytes (encode r) ≡ good r
-good-encode r = rw (plain-encode r, decode-encode r)
-
-number-is : (r : Record) (e : Fed) → refusalBytes (encode r) e ≡ refusal r (capacity (geometry r)) e
-unfolding refusalBytes rowsBytes refusal
-number-is r e = rw (length-encode r, good-encode r, decode-encode r)
 
 module _ (r : Record) (left : List ℕ) (bs : List (List ℕ)) (h : Holding r left bs) (e : Event) (l : Lends e r left) where
   abbrev f : Flat
@@ -116,7 +120,7 @@ module _ (r : Record) (left : List ℕ) (bs : List (List ℕ)) (h : Holding r le
   unfolding flatStep calledBytes next
   alike-here =
       let x : Settled e (encode r) left (settle (refusalBytes (encode r) (fed e)) (untouched e (encode r)) (sealed (act e (decode (encode r)))))
-      (flatSettle (refusal r (length bs) (fed e)) f (flatAct (e .call) r bs)) = rw (number-is r (fed e), decode-encode r, h .count) settled in
+      (flatSettle (refusal r (length bs) (fed e)) f (flatAct (e .call) r bs)) = rw (refusal-encode r (fed e), decode-encode r, h .count) settled in
       record { answer = x .answer; fields = x .fields; holding = x .holding }
 
 -- from a cabinet that holds the flat list
