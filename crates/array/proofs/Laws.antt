@@ -4,6 +4,7 @@ pub mod Carry
 pub mod Stores
 pub mod Rows
 pub mod Table
+pub mod Passed
 pub mod Acting
 pub mod OnBytes
 pub mod Holding
@@ -16,3 +17,4 @@ pub mod Grow
 pub mod Advance
 pub mod Out
 pub mod Rebuild
+pub mod Kept

@@ -3,3 +3,4 @@ pub mod Refusals
 pub mod Drawers
 pub mod Laws
 pub mod Theorem
+pub mod Alone

@@ -2,3 +2,4 @@
 pub mod Step
 pub mod Tally
 pub mod Lost
+pub mod Last

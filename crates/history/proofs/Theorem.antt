@@ -1,7 +1,7 @@
--- Demand 3, proved: `demand3`, `flat-list` and `second-out`. Assumes nothing.
+-- Demand 3, proved: `demand3`, `flat-list`, `last-given`, `zero-at-first` and `second-out`. Assumes nothing.
 use Prim.Native.Nat.{ℕ, zero, suc, _+_, _≤_, _<_}
 use mathlib.Core.Path.{_≡_, refl, sym, ap, ap₂, _∙_, subst}
-use mathlib.Core.Bool.{Bool, true, false, not, _||_}
+use mathlib.Core.Bool.{Bool, true, false, not}
 use mathlib.Core.Logic.{_↔_, _≢_}
 use mathlib.Core.List.{List, [], _∷_, _++_, map}
 use native.Mathlib.Omega.{arith}
@@ -10,6 +10,7 @@ use lib.ListN.{length, length-append, List·getD-append}
 use lib.Seq.{ext-getD}
 use Rattle.layout.specs.Layout.{totalOf, capacity, layout}
 use Rattle.layout.specs.Limits.{Good}
+use Rattle.blocks.specs.Block.{zeros}
 use Rattle.blocks.specs.Stripe.{offset}
 use Rattle.blocks.proofs.Laws.Stripe.{place-in, length-place, getD-place}
 use Rattle.state.specs.declared.Health.{Health}
@@ -18,8 +19,8 @@ use Rattle.state.specs.Good.{geometry}
 use Rattle.state.specs.Bytes.{decode, encode, goodBytes}
 use Rattle.state.proofs.Laws.Good.{within-limits}
 use Rattle.state.proofs.Laws.Bytes.{decode-encode}
-use Rattle.array.specs.Call.{Call, format, read, view, advance, out, Event, fed, Answer, bytes, accepted}
-use Rattle.array.specs.Health.{isLost, isDegraded, absent}
+use Rattle.array.specs.Call.{Call, format, read, view, write, advance, out, Event, fed, Answer, bytes, accepted}
+use Rattle.array.specs.Health.{isLost, absent}
 use Rattle.array.specs.Images.{disksOf, size, placeIn}
 use Rattle.array.specs.Table.{idle, word, table, refusal, rowsBytes, refusalBytes}
 use Rattle.array.specs.Effect.{placeOf, parityAfter, Left, act, untouched, settle, sealed, calledBytes}
@@ -27,14 +28,16 @@ use Rattle.array.specs.Sound.{Sound}
 use Rattle.array.proofs.Theorem.{demand1}
 use Rattle.array.proofs.Laws.Acting.{fills, shows, parity-first, parity-last}
 use Rattle.array.proofs.Laws.OnBytes.{good-encode}
-use Rattle.array.proofs.Laws.Table.{passes, equal, some-new}
+use Rattle.array.proofs.Laws.Table.{some-new}
+use Rattle.array.proofs.Laws.Passed.{moves}
 use Rattle.array.proofs.Laws.Holding.{Holding}
 use Rattle.array.proofs.Laws.Sound.{sound}
 use Rattle.array.proofs.Laws.Advance.{parity-kept}
 use Rattle.history.specs.Flat.{Flat, flatAct, flatSettle, flatStep}
 use Rattle.history.specs.Lent.{Cabinet, Takes, nothing, anything, those, takes, Keeps, Lent, Lends, leaves, stands, next}
-use Rattle.history.specs.Theorem.{tally, Claim, Claims, opening, Demand3, WhatStands, AnyWhenLost, Fair, answers, flatAnswers, FlatList, SecondOut}
+use Rattle.history.specs.Theorem.{tally, Claim, Claims, opening, Demand3, WhatStands, AnyWhenLost, Fair, answers, flatAnswers, FlatList, LastGiven, ZeroAtFirst, SecondOut}
 use Rattle.history.proofs.Laws.Step.{Alike, Holds, alike, opens}
+use Rattle.history.proofs.Laws.Last.{gives, is-written, is-zero}
 use Rattle.history.proofs.Laws.Lost.{lost-then, lost-reads}
 use Rattle.history.proofs.Laws.Tally.{Counted, counted-step, over-is}
 
@@ -83,21 +86,16 @@ module _ (e : Event) (a : Cabinet) where
 
   parities : Good (geometry (decode (a .rec))) → (k i S : ℕ) → e .call ≡ advance k → accepted (leaves e a .answer) ≡ true → S < decode (a .rec) .stripes
       → parityAfter (suc i) (decode (a .rec)) (e .images) S ≡ parityAfter i (decode (a .rec)) (e .images) S
-  unfolding rowsBytes table
+  unfolding rowsBytes
   parities gd k i S q u lS =
       let r : Record = decode (a .rec) in
       let short : Bool = not (eqb (length (a .rec)) 16) in
       let bad : Bool = not (goodBytes (a .rec)) in
       let z : word (table (advance k) short bad r (capacity (geometry r)) (length (e .images)) (length (e .room))) ≡ 0 =
       subst (λ (c : Call). word (table c short bad r (capacity (geometry r)) (length (e .images)) (length (e .room))) ≡ 0) q (passed u) in
-      let (p₁, z₁) = passes (short || bad) 0 _ z in
-      let (p₂, z₂) = passes (isLost (r .health)) 1 _ z₁ in
-      let (p₃, z₃) = passes (isDegraded (r .health)) 2 _ z₂ in
-      let (busy, z₄) = passes (idle (geometry r)) 4 _ z₃ in
-      let (p₅, z₅) = passes (not (eqb (length (e .images)) (size r))) 6 _ z₄ in
-      let long : length (e .images) ≡ size r = equal (length (e .images)) (size r) p₅ in
-      let nz : r .new ≢ 0 = some-new (geometry r) busy in
-      parity-kept (suc i) r (e .images) gd nz long S lS ∙ sym (parity-kept i r (e .images) gd nz long S lS)
+      let w = moves short bad r (capacity (geometry r)) (length (e .images)) (length (e .room)) k z in
+      let nz : r .new ≢ 0 = some-new (geometry r) (w .busy) in
+      parity-kept (suc i) r (e .images) gd nz (w .long) S lS ∙ sym (parity-kept i r (e .images) gd nz (w .long) S lS)
 
 -- ---- the record's bytes read back
 
@@ -226,6 +224,14 @@ same-answers (e ∷ es) a f sum h l =
 
 pub flat-list : FlatList
 flat-list a f n B T img room u es l = same-answers (opening n B T img room ∷ es) a f 0 (demand3 a f 0 n B T img room u es) l
+
+-- ---- what a block was last given
+
+pub last-given : LastGiven
+last-given f b v len room u es n = gives b v (flatStep (record { call = write b v; images = len; room = room }) f .1) es n (is-written f b v len room u)
+
+pub zero-at-first : ZeroAtFirst
+zero-at-first f n B T len room u b es ng = gives b (zeros B) (flatStep (record { call = format n B T; images = len; room = room }) f .1) es ng (is-zero f n B T len room b u)
 
 -- ---- a second disk out
 

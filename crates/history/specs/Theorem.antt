@@ -4,14 +4,16 @@
 -- refusal is exactly that of document 01's flat list, zero at first, of what each block was last given; each move keeps its
 -- stripe's parity value; and growth is over exactly when the moves reported since it began are T × n × m / (n + m) .. A second
 -- disk out while the first is not rebuilt refuses all reads until a new format."
--- `demand3`, `what-stands`, `any-when-lost`, `flat-list` and `second-out` of proofs/Theorem.antt prove it, and assume nothing.
+-- `demand3`, `what-stands`, `any-when-lost`, `flat-list`, `last-given`, `zero-at-first` and `second-out` of
+-- proofs/Theorem.antt prove it, and assume nothing.
 use Prim.Native.Nat.{ℕ, suc, _+_, _<_}
 use mathlib.Core.Path.{_≡_}
 use mathlib.Core.Bool.{true, false, cond}
-use mathlib.Core.Logic.{_↔_, _≢_}
+use mathlib.Core.Logic.{_⊎_, _↔_, _≢_}
 use mathlib.Core.List.{List, [], _∷_, _++_, map}
 use lib.ListN.{length}
 use Rattle.layout.specs.Layout.{totalOf, layout}
+use Rattle.blocks.specs.Block.{zeros}
 use Rattle.state.specs.declared.Health.the-variants.{Out, Lost}
 use Rattle.state.specs.declared.Record.{Record}
 use Rattle.state.specs.Good.{geometry, good}
@@ -118,8 +120,41 @@ FlatList =
     → (es : List Event) → Fair (opening n B T img room ∷ es) a f
     → answers (opening n B T img room ∷ es) a ≡ flatAnswers (map fed (opening n B T img room ∷ es)) f
 
--- ---- "A second disk out while the first is not rebuilt refuses all reads until a new format." (Said of the flat list, whose answers
--- are the array's.)
+-- ---- in the mills' words: the flat list is, "zero at first, of what each block was last given". (Said of the flat list, whose answers are the
+-- array's, and so is what follows.)
+
+-- no call of a list gives block b anything: no format and no write of b is accepted
+unfoldable pub NotGiven : ℕ → List Fed → Flat → Type 0
+NotGiven b [] f = Unit
+NotGiven b (e ∷ es) f =
+    let y = flatStep e f in
+    ((n B T : ℕ) → e .call ≡ format n B T → accepted (y .0) ≡ false)
+    × ((v : List ℕ) → e .call ≡ write b v → accepted (y .0) ≡ false)
+    × NotGiven b es (y .1)
+
+-- the flat list behind a list of calls
+unfoldable pub behind : List Fed → Flat → Flat
+behind [] f = f
+behind (e ∷ es) f = behind es (flatStep e f .1)
+
+-- read and view of block b give v
+unfoldable pub Gives : ℕ → List ℕ → Flat → Type 0
+Gives b v f = (e : Fed) → (e .call ≡ read b) ⊎ (e .call ≡ view b) → accepted (flatStep e f .0) ≡ true → flatStep e f .0 ≡ bytes v
+
+abbrev pub LastGiven : Type 0
+LastGiven =
+    (f : Flat) (b : ℕ) (v : List ℕ) (len room : ℕ) →
+    let y = flatStep (record { call = write b v; images = len; room = room }) f in
+    accepted (y .0) ≡ true → (es : List Fed) → NotGiven b es (y .1) → Gives b v (behind es (y .1))
+
+-- a block that is new at the end of a growth too
+abbrev pub ZeroAtFirst : Type 0
+ZeroAtFirst =
+    (f : Flat) (n B T len room : ℕ) →
+    let y = flatStep (record { call = format n B T; images = len; room = room }) f in
+    accepted (y .0) ≡ true → (b : ℕ) (es : List Fed) → NotGiven b es (y .1) → Gives b (zeros B) (behind es (y .1))
+
+-- ---- "A second disk out while the first is not rebuilt refuses all reads until a new format."
 
 -- every read and view of a list is refused, as lost, until a format is accepted
 unfoldable pub NoReads : List Fed → Flat → Type 0

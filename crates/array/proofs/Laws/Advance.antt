@@ -1,12 +1,11 @@
 -- Advance: k moves, or as many as are left. Each leaves every stripe's parity value, and the images hold the same list, longer once the growth is over. Assumes nothing.
 use Prim.Native.Nat.{ℕ, zero, suc, _+_, _-_, _<_, min}
 use mathlib.Core.Path.{_≡_, refl, sym, ap, _∙_, subst}
-use mathlib.Core.Bool.{Bool, true, false, not, _||_}
+use mathlib.Core.Bool.{Bool, true, false}
 use mathlib.Core.Logic.{_≢_}
 use mathlib.Core.List.{List, [], _++_, append-assoc}
 use native.Mathlib.Nat.{zero-add, suc-add}
 use native.Mathlib.Omega.{arith}
-use lib.Dec.{eqb}
 use lib.ListN.{length, getD, length-map, length-replicate}
 use lib.Seq.{ext-getD}
 use Rattle.layout.specs.declared.Geometry.{Geometry}
@@ -23,17 +22,17 @@ use Rattle.state.specs.declared.Health.{Health}
 use Rattle.state.specs.declared.Record.{Record}
 use Rattle.state.specs.Good.{geometry}
 use Rattle.array.specs.Call.{advance, made}
-use Rattle.array.specs.Health.{isLost, isDegraded, absent, withMoves}
+use Rattle.array.specs.Health.{isLost, absent, withMoves}
 use Rattle.array.specs.Images.{disksOf, size, placeIn, Store, block, stored, recorded}
 use Rattle.array.specs.Table.{idle, table, word}
 use Rattle.array.specs.Effect.{moveStores, advanceStores, parityAfter, effect, act}
 use Rattle.array.proofs.Laws.Column.{Agree, Stored, relent, reowned, fits-of}
 use Rattle.array.proofs.Laws.Carry.{carry, stored-carry, parity-carry}
 use Rattle.array.proofs.Laws.Stores.{Within, column, length-stored, cell-stored, stored-append, recorded-append}
-use Rattle.array.proofs.Laws.Table.{passes, equal, some-new, some-left, none-left}
+use Rattle.array.proofs.Laws.Table.{some-new, some-left, none-left}
 use Rattle.array.proofs.Laws.Lists.{with-new, bytes-with-new, count-with-new, whole-with-new, stored-with-new}
 use Rattle.array.proofs.Laws.Holding.{Holding, Leaves, bytesAt, cellIn}
-use Rattle.array.proofs.Laws.Grow.{all-in}
+use Rattle.array.proofs.Laws.Passed as passed
 
 -- one move more
 abbrev pub moved : Record → Record
@@ -43,7 +42,7 @@ moved r = withMoves r (suc (r .moves))
 abbrev pub advanced : ℕ → Record → Record
 advanced k r = withMoves r (r .moves + min k (totalOf (geometry r) - r .moves))
 
-good-moved : (r : Record) → Good (geometry r) → idle (geometry r) ≡ false → Good (geometry (moved r))
+pub good-moved : (r : Record) → Good (geometry r) → idle (geometry r) ≡ false → Good (geometry (moved r))
 good-moved r good busy =
     record {
       disks = good .disks;
@@ -139,7 +138,7 @@ module _ (r : Record) (img : List ℕ) (good : Good (geometry r)) (busy : idle (
   abbrev J : List ℕ
   J = stored (r .block) (r .stripes) (moveStores r img) img
 
-  within-move : Within (disksOf r) (r .block) (r .stripes) (moveStores r img)
+  pub within-move : Within (disksOf r) (r .block) (r .stripes) (moveStores r img)
   unfolding moveStores Within
   within-move = (
     c .stripe-lt,
@@ -148,7 +147,7 @@ module _ (r : Record) (img : List ℕ) (good : Good (geometry r)) (busy : idle (
     (c .stripe-lt, c .from-lt, length-replicate {A = ℕ} (r .block) 0, tt),
   )
 
-  long-move : length J ≡ size (moved r)
+  pub long-move : length J ≡ size (moved r)
   long-move = length-stored (r .block) (r .stripes) (moveStores r img) img ∙ long
 
   cell-move : (j : ℕ) → j < r .block → (S d : ℕ) → S < r .stripes → cellIn r J j S d ≡ carry (cellIn r img j) (nextStripe g) (nextFrom g) (nextTo g) S d
@@ -222,15 +221,13 @@ module _ (r : Record) (img room : List ℕ) (bs : List (List ℕ)) (lends : leng
   pub advances : word (table (advance k) short bad r cap (length img) len) ≡ 0
       → Leaves (act (record { call = advance k; images = img; room = room }) r) (made (min k (totalOf (geometry r) - r .moves))) (advanced k r)
       (with-new (geometry (advanced k r)) (r .block) bs)
-  unfolding table effect Standing
+  unfolding effect Standing
   advances z =
-      let (u, z₁) = passes (short || bad) 0 _ z in
-      let (nl, z₂) = passes (isLost (r .health)) 1 _ z₁ in
-      let (nd, z₃) = passes (isDegraded (r .health)) 2 _ z₂ in
-      let (busy, z₄) = passes (idle (geometry r)) 4 _ z₃ in
-      let (e, z₅) = passes (not (eqb (length img) (size r))) 6 _ z₄ in
-      let hw : r .health ≡ Whole = all-in (r .health) nd in
-      let long : length img ≡ size r = equal (length img) (size r) e in
+      let q = passed.moves short bad r cap (length img) len k z in
+      let busy : idle (geometry r) ≡ false = q .busy in
+      let hw : r .health ≡ Whole = q .all-in in
+      let nl : isLost (r .health) ≡ false = rw hw refl in
+      let long : length img ≡ size r = q .long in
       let h : Holding r img bs = lends long in
       let g : Geometry = geometry r in
       let left : r .moves < totalOf g = some-left g (h .limits .array) busy in

@@ -1,13 +1,11 @@
 -- Format: the images left hold T × (n − 1) blocks of zeroes, whatever it was lent. Assumes nothing.
 use Prim.Native.Nat.{ℕ, _-_, _*_, _<_}
 use mathlib.Core.Path.{_≡_, refl, sym, _∙_}
-use mathlib.Core.Bool.{Bool, true, not, _&&_}
+use mathlib.Core.Bool.{Bool, true, _&&_}
 use mathlib.Core.List.{List}
 use native.Mathlib.Omega.{arith}
 use native.Mathlib.Nat.{add-zero}
-use lib.Dec.{eqb}
 use lib.ListN.{length, length-replicate}
-use borrow.Author.Tests.{not-false}
 use Rattle.layout.specs.declared.Role.the-variants.{Data, Parity, Blank}
 use Rattle.layout.specs.declared.Role.{Role}
 use Rattle.layout.specs.Layout.{capacity, layout}
@@ -26,9 +24,9 @@ use Rattle.array.specs.Table.{formable, table, word}
 use Rattle.array.specs.Effect.{effect, act}
 use Rattle.array.proofs.Laws.Column.{Mask, Fits, Agree, Even, Holds, Stored}
 use Rattle.array.proofs.Laws.Stores.{Within, length-stored, cell-stored, stored-last, recorded-last, column-zero, within-zero}
-use Rattle.array.proofs.Laws.Table.{passes, equal}
 use Rattle.array.proofs.Laws.Lists.{blank-blocks, bytes-blank, whole-blank}
 use Rattle.array.proofs.Laws.Holding.{cellIn, Leaves}
+use Rattle.array.proofs.Laws.Passed as passed
 
 -- ---- on one byte of every place
 
@@ -76,12 +74,10 @@ module _ (n B T : ℕ) where
 
   module _ (img room : List ℕ) (short bad : Bool) (x : Record) (c k : ℕ) (z : word (table (format n B T) short bad x c (length img) k) ≡ 0) where
     pub formats : Leaves (act (record { call = format n B T; images = img; room = room }) x) done r (blank-blocks (T * (n - 1)) B)
-    unfolding table effect
+    unfolding effect
     formats =
-        let (u, z₁) = passes short 0 _ z in
-        let (f, z₂) = passes (not (formable n B T)) 5 _ z₁ in
-        let (e, z₃) = passes (not (eqb (length img) (n * (T * B)))) 6 _ z₂ in
-        let long : length img ≡ size r = equal (length img) (n * (T * B)) e ∙ rw (add-zero n) in
+        let q = passed.formats short bad x c (length img) k n B T z in
+        let long : length img ≡ size r = q .long ∙ rw (add-zero n) in
         let ps : List Store = zeroDisks B T 0 n in
         let w : Within (disksOf r) B T ps = within-zero B T 0 (disksOf r) n (omega arith) in
         record {
@@ -89,7 +85,7 @@ module _ (n B T : ℕ) where
           state = recorded-last ps r x;
           holding =
               record {
-                limits = limits (not-false _ f);
+                limits = limits (q .fits);
                 long = rw (stored-last B T ps r img) (length-stored B T ps img ∙ long);
                 count = length-replicate (T * (n - 1)) (zeros B) ∙ empty;
                 whole = λ b h. whole-blank (T * (n - 1)) B b (rw (length-replicate (T * (n - 1)) (zeros B)) at h);

@@ -1,13 +1,13 @@
 -- Grow: the images left hold the same list on n + m disks, longer at once if there is nothing to move. Assumes nothing.
 use Prim.Native.Nat.{ℕ, _+_, _*_, _≤_, _<_}
 use mathlib.Core.Path.{_≡_, refl, sym, ap, _∙_, subst}
-use mathlib.Core.Bool.{Bool, true, false, cond, not, _||_}
+use mathlib.Core.Bool.{Bool, true, false, cond}
 use mathlib.Core.List.{List}
 use native.Mathlib.Decide.{decLt}
 use native.Mathlib.Omega.{arith}
-use lib.Dec.{eqb, ltb}
+use lib.Dec.{ltb}
 use lib.ListN.{length, getD, length-map}
-use borrow.Author.Tests.{lt-ltb, le-ltb, not-false}
+use borrow.Author.Tests.{lt-ltb, le-ltb}
 use Rattle.layout.specs.declared.Geometry.{Geometry}
 use Rattle.layout.specs.declared.Role.the-variants.{Blank}
 use Rattle.layout.specs.declared.Role.{Role}
@@ -17,27 +17,20 @@ use Rattle.layout.proofs.Laws.Standing.{standing, starts, starts-owned, starts-
 use Rattle.layout.proofs.Laws.Zones.{total-none}
 use Rattle.blocks.proofs.Laws.Grid.{Grid}
 use Rattle.blocks.proofs.Laws.Rows.{sum-ext, sum-extend}
-use Rattle.state.specs.declared.Health.the-variants.{Whole, Out, Lost}
-use Rattle.state.specs.declared.Health.{Health}
+use Rattle.state.specs.declared.Health.the-variants.{Whole}
 use Rattle.state.specs.declared.Record.{Record}
 use Rattle.state.specs.Good.{geometry, newGood}
 use Rattle.state.proofs.Laws.Good.{new-good}
 use Rattle.array.specs.Call.{grow, done}
-use Rattle.array.specs.Health.{isLost, isDegraded, absent, grownBy}
+use Rattle.array.specs.Health.{isLost, absent, grownBy}
 use Rattle.array.specs.Images.{disksOf, sizeWith, Store, stored, zeroDisks}
 use Rattle.array.specs.Table.{table, word}
 use Rattle.array.specs.Effect.{effect, act}
 use Rattle.array.proofs.Laws.Column.{Mask, Fits, fits-of, Agree, Even, Holds, Stored, relent}
 use Rattle.array.proofs.Laws.Stores.{Within, length-stored, cell-stored, stored-last, recorded-last, column-below, column-zero, within-zero}
-use Rattle.array.proofs.Laws.Table.{passes, equal}
 use Rattle.array.proofs.Laws.Lists.{with-new, bytes-with-new, count-with-new, whole-with-new, stored-with-new}
 use Rattle.array.proofs.Laws.Holding.{Holding, Leaves, Kept, bytesAt, cellIn}
-
--- every disk is in
-pub all-in : (h : Health) → isDegraded h ≡ false → h ≡ Whole
-all-in Whole e = refl
-all-in (Out d) e = let z : Out d ≡ Whole = cc in z
-all-in Lost e = let z : Lost ≡ Whole = cc in z
+use Rattle.array.proofs.Laws.Passed as passed
 
 -- ---- on one byte of every place: m disks of zeroes behind the first n
 
@@ -99,20 +92,16 @@ module _ (r : Record) (left img room : List ℕ) (bs : List (List ℕ)) (h : Hol
 
   pub grows : word (table (grow m) short bad r c (length img) k) ≡ 0
       → Leaves (act (record { call = grow m; images = img; room = room }) r) done (grownBy r m) (with-new g′ (r .block) bs)
-  unfolding table effect Agree
+  unfolding effect Agree
   grows z =
-      let (u, z₁) = passes (short || bad) 0 _ z in
-      let (nl, z₂) = passes (isLost (r .health)) 1 _ z₁ in
-      let (nd, z₃) = passes (isDegraded (r .health)) 2 _ z₂ in
-      let (ng, z₄) = passes (not (eqb (r .new) 0)) 3 _ z₃ in
-      let (ge, z₅) = passes (not (newGood (r .old) m (r .stripes))) 5 _ z₄ in
-      let (e, z₆) = passes (not (eqb (length img) (sizeWith r m))) 6 _ z₅ in
-      let hw : r .health ≡ Whole = all-in (r .health) nd in
-      let mz : r .new ≡ 0 = equal (r .new) 0 ng in
+      let q = passed.grows short bad r c (length img) k m z in
+      let hw : r .health ≡ Whole = q .all-in in
+      let nl : isLost (r .health) ≡ false = rw hw refl in
+      let mz : r .new ≡ 0 = q .first in
       let tz : r .moves ≡ 0 = none-done mz in
-      let long : length img ≡ (r .old + m) * (r .stripes * r .block) = equal (length img) (sizeWith r m) e in
+      let long : length img ≡ sizeWith r m = q .long in
       let N-is : disksOf r ≡ r .old = omega arith in
-      let good : Good g′ = good′ (not-false _ ge) in
+      let good : Good g′ = good′ (q .fits) in
       let x : Record = grownBy r m in
       let ps : List Store = zeroDisks (r .block) (r .stripes) (r .old) m in
       let w : Within (r .old + m) (r .block) (r .stripes) ps = within-zero (r .block) (r .stripes) (r .old) (r .old + m) m (omega arith) in
@@ -121,7 +110,7 @@ module _ (r : Record) (left img room : List ℕ) (bs : List (List ℕ)) (h : Hol
       let held : (j : ℕ) → j < r .block → Stored (r .old + m) (r .stripes) (layout g′ .owner) (absent (r .health)) (cellIn r J j) (bytesAt j (with-new g′ (r .block) bs)) =
       λ j lj.
       let s₁ : Stored (disksOf r) (r .stripes) (layout g .owner) (absent (r .health)) (cellIn r img j) (bytesAt j bs) =
-      relent (disksOf r) (r .stripes) (layout g .owner) (absent (r .health)) (cellIn r left j) (cellIn r img j) (bytesAt j bs) (h .stored nl j lj) (λ S d lS ld q. lends long S d j lS ld lj q) in
+      relent (disksOf r) (r .stripes) (layout g .owner) (absent (r .health)) (cellIn r left j) (cellIn r img j) (bytesAt j bs) (h .stored nl j lj) (λ S d lS ld u. lends long S d j lS ld lj u) in
       let s₂ : Stored (r .old) (r .stripes) (layout g .owner) (absent (r .health)) (cellIn r img j) (bytesAt j bs) =
       subst (λ (y : ℕ). Stored y (r .stripes) (layout g .owner) (absent (r .health)) (cellIn r img j) (bytesAt j bs)) N-is s₁ in
       let s₃ : Stored (r .old + m) (r .stripes) (standing g′) (absent (r .health)) (cellIn r J j) (bytesAt j bs) =

@@ -1,10 +1,9 @@
 -- Out: with one disk out the images hold the same list, whatever that disk then holds; a second one out is lost. Assumes nothing.
 use Prim.Native.Nat.{ℕ, _<_}
 use mathlib.Core.Path.{_≡_, refl}
-use mathlib.Core.Bool.{Bool, false, cond, not, _||_}
+use mathlib.Core.Bool.{Bool, false, cond}
 use mathlib.Core.List.{List}
 use native.Mathlib.Omega.{arith}
-use lib.Dec.{ltb}
 use Rattle.layout.specs.Layout.{layout}
 use Rattle.blocks.proofs.Laws.Rows.{rest}
 use Rattle.state.specs.declared.Health.the-variants.{Whole, Out, Lost}
@@ -12,12 +11,12 @@ use Rattle.state.specs.declared.Health.{Health}
 use Rattle.state.specs.declared.Record.{Record}
 use Rattle.state.specs.Good.{geometry, OutBelow}
 use Rattle.array.specs.Call.{out}
-use Rattle.array.specs.Health.{isLost, isOut, absent, afterOut, withHealth}
+use Rattle.array.specs.Health.{isLost, absent, afterOut, withHealth}
 use Rattle.array.specs.Images.{disksOf}
 use Rattle.array.specs.Table.{table, word}
 use Rattle.array.proofs.Laws.Column.{reseen}
-use Rattle.array.proofs.Laws.Table.{passes, below, neither}
 use Rattle.array.proofs.Laws.Holding.{Holding, bytesAt, cellIn, single}
+use Rattle.array.proofs.Laws.Passed as passed
 
 -- "out with another disk becomes lost"
 pub lost-by : (o d : ℕ) → afterOut (Out o) d ≡ Lost
@@ -37,18 +36,14 @@ module _ (r : Record) (left : List ℕ) (bs : List (List ℕ)) (h : Holding r le
   same-seen Lost u j S e q = absurd (let w : _≡_ {A = ℕ} 0 1 = cc in omega arith)
 
   pub outs : word (table (out d) short bad r c len room) ≡ 0 → Holding (withHealth r (afterOut (r .health) d)) left bs
-  unfolding table
   outs z =
-      let (g, z₁) = passes (short || bad) 0 _ z in
-      let (nl, z₂) = passes (isLost (r .health)) 1 _ z₁ in
-      let (o, z₃) = passes (not (ltb d (disksOf r)) || isOut (r .health) d) 9 _ z₂ in
-      let (l, p) = neither (not (ltb d (disksOf r))) (isOut (r .health) d) o in
+      let q = passed.falls short bad r c len room d z in
       record {
-        limits = record { array = h .limits .array; block-low = h .limits .block-low; block-high = h .limits .block-high; out = out-below (r .health) (below d (disksOf r) l) };
+        limits = record { array = h .limits .array; block-low = h .limits .block-low; block-high = h .limits .block-high; out = out-below (r .health) (q .disk-lt) };
         long = h .long;
         count = h .count;
         whole = h .whole;
         stored = λ u j lj.
             reseen (disksOf r) (r .stripes) (layout (geometry r) .owner) (absent (r .health)) (absent (afterOut (r .health) d)) (cellIn r left j) (cellIn r left j) (bytesAt j bs)
-            (single (disksOf r) (r .stripes) (r .health) nl) (h .stored nl j lj) (λ S e lS le q. same-seen (r .health) u j S e q);
+            (single (disksOf r) (r .stripes) (r .health) (q .here)) (h .stored (q .here) j lj) (λ S e lS le x. same-seen (r .health) u j S e x);
       }

@@ -1,29 +1,29 @@
 -- Rebuild: the disk that was out is written as it was seen, and every disk is in again. Assumes nothing.
 use Prim.Native.Nat.{ℕ, _<_}
-use mathlib.Core.Path.{_≡_, refl, sym, ap, _∙_, subst}
-use mathlib.Core.Bool.{Bool, true, false, cond, not, _||_}
+use mathlib.Core.Path.{_≡_, refl, ap, _∙_, subst}
+use mathlib.Core.Bool.{Bool, false, cond}
 use mathlib.Core.List.{List}
 use native.Mathlib.Decide.{ℕ-discrete}
 use native.Mathlib.Omega.{arith}
 use lib.Dec.{eqb}
 use lib.ListN.{length}
-use borrow.Author.Tests.{eqb-true, eq-eqb, ne-eqb, not-false}
+use borrow.Author.Tests.{eq-eqb, ne-eqb}
 use Rattle.layout.specs.Layout.{layout}
 use Rattle.blocks.proofs.Laws.Rows.{put, rest, put-same, put-other}
 use Rattle.blocks.proofs.Laws.Stripe.{length-others, getD-others}
-use Rattle.state.specs.declared.Health.the-variants.{Whole, Out, Lost}
+use Rattle.state.specs.declared.Health.the-variants.{Whole, Out}
 use Rattle.state.specs.declared.Health.{Health}
 use Rattle.state.specs.declared.Record.{Record}
 use Rattle.state.specs.Good.{geometry, OutBelow}
 use Rattle.array.specs.Call.{rebuild, done}
-use Rattle.array.specs.Health.{isLost, isOut, absent, withHealth}
+use Rattle.array.specs.Health.{isLost, absent, withHealth}
 use Rattle.array.specs.Images.{disksOf, size, othersIn, Store, stored, fillDisk}
 use Rattle.array.specs.Table.{table, word}
 use Rattle.array.specs.Effect.{effect, act}
 use Rattle.array.proofs.Laws.Column.{reseen}
 use Rattle.array.proofs.Laws.Stores.{length-stored, cell-stored, stored-last, recorded-last, column-fill, within-fill}
-use Rattle.array.proofs.Laws.Table.{passes, equal}
 use Rattle.array.proofs.Laws.Holding.{Holding, Leaves, bytesAt, cellIn, single}
+use Rattle.array.proofs.Laws.Passed as passed
 
 -- a disk written anew is as it was seen
 put-seen : (N : ℕ) (I : ℕ → ℕ) (d e : ℕ) → put I d (rest N d I) e ≡ cond (eqb e d) (rest N e I) (I e)
@@ -32,12 +32,6 @@ put-seen N I d e = go (ℕ-discrete e d)
     go : Dec (e ≡ d) → put I d (rest N d I) e ≡ cond (eqb e d) (rest N e I) (I e)
     go (yes q) = rw (q, put-same I d (rest N d I), eq-eqb d d refl)
     go (no n) = rw (put-other I d (rest N d I) e n, ne-eqb e d n)
-
--- the disk that is out
-which : (h : Health) (d : ℕ) → isLost h ≡ false → isOut h d ≡ true → h ≡ Out d
-which Whole d nl u = absurd (let w : _≡_ {A = ℕ} 0 1 = cc in omega arith)
-which (Out o) d nl u = ap Out (sym (eqb-true d o u))
-which Lost d nl u = absurd (let w : _≡_ {A = ℕ} 0 1 = cc in omega arith)
 
 module _ (r : Record) (img room : List ℕ) (bs : List (List ℕ)) (lends : length img ≡ size r → Holding r img bs) (d : ℕ) (short bad : Bool) (c k : ℕ) where
   abbrev ps : List Store
@@ -55,15 +49,13 @@ module _ (r : Record) (img room : List ℕ) (bs : List (List ℕ)) (lends : leng
 
   pub rebuilds : word (table (rebuild d) short bad r c (length img) k) ≡ 0
       → Leaves (act (record { call = rebuild d; images = img; room = room }) r) done (withHealth r Whole) bs
-  unfolding table effect
+  unfolding effect
   rebuilds z =
-      let (g, z₁) = passes (short || bad) 0 _ z in
-      let (nl, z₂) = passes (isLost (r .health)) 1 _ z₁ in
-      let (e, z₃) = passes (not (eqb (length img) (size r))) 6 _ z₂ in
-      let (o, z₄) = passes (not (isOut (r .health) d)) 9 _ z₃ in
-      let long : length img ≡ size r = equal (length img) (size r) e in
+      let q = passed.rebuilds short bad r c (length img) k d z in
+      let long : length img ≡ size r = q .long in
       let h : Holding r img bs = lends long in
-      let hd : r .health ≡ Out d = which (r .health) d nl (not-false _ o) in
+      let hd : r .health ≡ Out d = q .is-out in
+      let nl : isLost (r .health) ≡ false = rw hd refl in
       let ld : d < disksOf r = subst (λ (x : Health). OutBelow (disksOf r) x) hd (h .limits .out) in
       let x : Record = withHealth r Whole in
       record {
@@ -78,6 +70,6 @@ module _ (r : Record) (img room : List ℕ) (bs : List (List ℕ)) (lends : leng
               stored = λ u j lj.
                   rw (stored-last (r .block) (r .stripes) ps x img)
                   (reseen (disksOf r) (r .stripes) (layout (geometry r) .owner) (absent (r .health)) (absent Whole) (cellIn r img j) (cellIn r (stored (r .block) (r .stripes) ps img) j) (bytesAt j bs)
-                  (single (disksOf r) (r .stripes) (r .health) nl) (h .stored nl j lj) (λ S e′ lS le q. rw hd (rebuilt long ld j S e′ lj lS)));
+                  (single (disksOf r) (r .stripes) (r .health) nl) (h .stored nl j lj) (λ S e′ lS le u′. rw hd (rebuilt long ld j S e′ lj lS)));
             };
       }

@@ -1,12 +1,11 @@
 -- A write: the images left hold the list with the block replaced, whatever disk is out. Assumes nothing.
 use Prim.Native.Nat.{ℕ, zero, suc, _<_}
 use mathlib.Core.Path.{_≡_, refl, sym, ap, ap₂, _∙_, subst}
-use mathlib.Core.Bool.{Bool, false, not, _||_}
+use mathlib.Core.Bool.{Bool, false}
 use mathlib.Core.Logic.{_≢_}
 use mathlib.Core.List.{List, [], _∷_, _++_, map}
 use native.Mathlib.Decide.{ℕ-discrete}
 use native.Mathlib.Omega.{arith}
-use lib.Dec.{eqb, ltb}
 use lib.ListN.{length, getD, set, length-set, length-map}
 use lib.Seq.{getD-set-same, getD-set-other}
 use Rattle.layout.specs.declared.Geometry.{Geometry}
@@ -20,7 +19,7 @@ use Rattle.blocks.proofs.Laws.Grid.{Grid, storeAt, storeAt-same, storeAt-row, s
 use Rattle.blocks.proofs.Laws.Rows.{_⊕_, cancel-l}
 use Rattle.blocks.proofs.Laws.Xor.{xor-assoc, length-xorB, getD-xorB}
 use Rattle.state.specs.declared.Record.{Record}
-use Rattle.state.specs.Good.{geometry}
+use Rattle.state.specs.Good.{geometry, Limits}
 use Rattle.array.specs.Call.{write, done}
 use Rattle.array.specs.Health.{isLost, absent}
 use Rattle.array.specs.Images.{disksOf, size, seen, Store, block, stored, recorded, unless}
@@ -28,8 +27,8 @@ use Rattle.array.specs.Table.{table, word}
 use Rattle.array.specs.Effect.{placeOf, writeStores, effect, act}
 use Rattle.array.proofs.Laws.Column.{Mask, storeIf, see, Fits, fits-of, fits-set, Agree, Even, Holds, Single, Stored, seen-is, relent, agree-store, even-pair}
 use Rattle.array.proofs.Laws.Stores.{Within, length-stored, cell-stored, recorded-append, column-append, within-append, within-unless, column-unless, recorded-unless}
-use Rattle.array.proofs.Laws.Table.{passes, equal, below}
 use Rattle.array.proofs.Laws.Holding.{Holding, Leaves, bytesAt, cellIn, single, length-seen, getD-seen}
+use Rattle.array.proofs.Laws.Passed as passed
 
 -- ---- on one byte of every place, whatever the mask
 
@@ -113,7 +112,7 @@ map-set f [] i y = refl
 map-set f (x ∷ xs) zero y = refl
 map-set f (x ∷ xs) (suc i) y = ap (λ r. f x ∷ r) (map-set f xs i y)
 
-module _ (r : Record) (img : List ℕ) (bs : List (List ℕ)) (h : Holding r img bs) (b : ℕ) (lb : b < capacity (geometry r)) (v : List ℕ) (lv : length v ≡ r .block) where
+module _ (r : Record) (img : List ℕ) (limits : Limits r) (long : length img ≡ size r) (b : ℕ) (lb : b < capacity (geometry r)) (v : List ℕ) (lv : length v ≡ r .block) where
   abbrev Sb : ℕ
   Sb = placeOf r b .stripe
 
@@ -134,13 +133,13 @@ module _ (r : Record) (img : List ℕ) (bs : List (List ℕ)) (h : Holding r img
   data-store = unless (absent (r .health) Sb db) (block Sb db v)
 
   in-stripes : Sb < r .stripes
-  in-stripes = lS (geometry r) (h .limits .array) b lb
+  in-stripes = lS (geometry r) (limits .array) b lb
 
   length-w : length w ≡ r .block
   length-w =
       length-xorB (xorB (seen r img Sb pb) (seen r img Sb db)) v (r .block)
-      (length-xorB (seen r img Sb pb) (seen r img Sb db) (r .block) (length-seen r img Sb pb (h .long) in-stripes (lp (geometry r) (h .limits .array) b lb))
-      (length-seen r img Sb db (h .long) in-stripes (ld (geometry r) (h .limits .array) b lb)))
+      (length-xorB (seen r img Sb pb) (seen r img Sb db) (r .block) (length-seen r img Sb pb long in-stripes (lp (geometry r) (limits .array) b lb))
+      (length-seen r img Sb db long in-stripes (ld (geometry r) (limits .array) b lb)))
       lv
 
   getD-w : (j : ℕ) → j < r .block
@@ -150,29 +149,30 @@ module _ (r : Record) (img : List ℕ) (bs : List (List ℕ)) (h : Holding r img
       ∙ ap (λ (x : ℕ). x ⊕ getD v j 0) (getD-xorB (seen r img Sb pb) (seen r img Sb db) j ∙ ap₂ _⊕_ (getD-seen r img Sb pb j lj) (getD-seen r img Sb db j lj))
       ∙ xor-assoc (see (disksOf r) (absent (r .health)) (cellIn r img j) Sb pb) (see (disksOf r) (absent (r .health)) (cellIn r img j) Sb db) (getD v j 0)
 
-  within-write : Within (disksOf r) (r .block) (r .stripes) (writeStores r img b v)
+  pub within-write : Within (disksOf r) (r .block) (r .stripes) (writeStores r img b v)
   unfolding writeStores
   within-write =
       within-append (disksOf r) (r .block) (r .stripes) parity-store data-store
-      (within-unless (disksOf r) (r .block) (r .stripes) (absent (r .health) Sb pb) Sb pb w in-stripes (lp (geometry r) (h .limits .array) b lb) length-w)
-      (within-unless (disksOf r) (r .block) (r .stripes) (absent (r .health) Sb db) Sb db v in-stripes (ld (geometry r) (h .limits .array) b lb) lv)
+      (within-unless (disksOf r) (r .block) (r .stripes) (absent (r .health) Sb pb) Sb pb w in-stripes (lp (geometry r) (limits .array) b lb) length-w)
+      (within-unless (disksOf r) (r .block) (r .stripes) (absent (r .health) Sb db) Sb db v in-stripes (ld (geometry r) (limits .array) b lb) lv)
 
   pub recorded-write : recorded (writeStores r img b v) r ≡ r
   unfolding writeStores
   recorded-write = rw (recorded-append parity-store data-store r, recorded-unless (absent (r .health) Sb pb) Sb pb w r, recorded-unless (absent (r .health) Sb db) Sb db v r)
 
-  cell-write : (j : ℕ) → j < r .block → (s e : ℕ) → s < r .stripes
+  pub cell-write : (j : ℕ) → j < r .block → (s e : ℕ) → s < r .stripes
       → cellIn r (stored (r .block) (r .stripes) (writeStores r img b v) img) j s e
       ≡ storeIf (absent (r .health)) (storeIf (absent (r .health)) (cellIn r img j) Sb pb (getD w j 0)) Sb db (getD v j 0) s e
   unfolding writeStores
   cell-write j lj s e ls =
-      cell-stored (r .block) (r .stripes) (disksOf r) (parity-store ++ data-store) img within-write (h .long) j s e lj ls
+      cell-stored (r .block) (r .stripes) (disksOf r) (parity-store ++ data-store) img within-write long j s e lj ls
       ∙ rw (
         column-append j parity-store data-store (cellIn r img j),
         column-unless j (absent (r .health) Sb pb) Sb pb w (cellIn r img j),
         column-unless j (absent (r .health) Sb db) Sb db v (storeIf (absent (r .health)) (cellIn r img j) Sb pb (getD w j 0)),
       )
 
+module _ (r : Record) (img : List ℕ) (bs : List (List ℕ)) (h : Holding r img bs) (b : ℕ) (lb : b < capacity (geometry r)) (v : List ℕ) (lv : length v ≡ r .block) where
   pub holding-write : isLost (r .health) ≡ false → Holding r (stored (r .block) (r .stripes) (writeStores r img b v) img) (set bs b v)
   unfolding Agree
   holding-write nl =
@@ -187,9 +187,21 @@ module _ (r : Record) (img : List ℕ) (bs : List (List ℕ)) (h : Holding r img
             (cellIn r (stored (r .block) (r .stripes) (writeStores r img b v) img) j) (set (bytesAt j bs) b (getD v j 0))
             (stored-write (geometry r) (h .limits .array) b lb (bytesAt j bs) (getD v j 0) (length-map bs (λ (x : List ℕ). getD x j 0) ∙ h .count) (absent (r .health)) (cellIn r img j)
             (single (disksOf r) (r .stripes) (r .health) nl) (h .stored nl j lj))
-            (λ s e ls le u. cell-write j lj s e ls ∙ ap (λ (x : ℕ). storeIf (absent (r .health)) (storeIf (absent (r .health)) (cellIn r img j) Sb pb x) Sb db (getD v j 0) s e) (getD-w j lj)));
+            (λ s e ls le u.
+            cell-write r img (h .limits) (h .long) b lb v lv j lj s e ls
+            ∙ ap (λ (x : ℕ). storeIf (absent (r .health)) (storeIf (absent (r .health)) (cellIn r img j) S p x) S d (getD v j 0) s e)
+            (getD-w r img (h .limits) (h .long) b lb v lv j lj)));
       }
     where
+      S : ℕ
+      S = placeOf r b .stripe
+
+      d : ℕ
+      d = placeOf r b .disk
+
+      p : ℕ
+      p = layout (geometry r) .parity S
+
       go : (c : ℕ) → c < length bs → Dec (c ≡ b) → length (getD (set bs b v) c []) ≡ r .block
       go c l (yes q) = rw (q, getD-set-same bs b v [] (rw q at l)) lv
       go c l (no n) = rw (getD-set-other bs b c v [] n) (h .whole c l)
@@ -199,14 +211,12 @@ module _ (r : Record) (img : List ℕ) (bs : List (List ℕ)) (h : Holding r img
 module _ (r : Record) (img room : List ℕ) (bs : List (List ℕ)) (lends : length img ≡ size r → Holding r img bs) (b : ℕ) (v : List ℕ) (short bad : Bool) (k : ℕ) where
   pub writes : word (table (write b v) short bad r (capacity (geometry r)) (length img) k) ≡ 0
       → Leaves (act (record { call = write b v; images = img; room = room }) r) done r (set bs b v)
-  unfolding table effect
+  unfolding effect
   writes z =
-      let (g, z₁) = passes (short || bad) 0 _ z in
-      let (nl, z₂) = passes (isLost (r .health)) 1 _ z₁ in
-      let (e, z₃) = passes (not (eqb (length img) (size r))) 6 _ z₂ in
-      let (l, z₄) = passes (not (ltb b (capacity (geometry r)))) 7 _ z₃ in
-      let (w, z₅) = passes (not (eqb (length v) (r .block))) 8 _ z₄ in
-      let h : Holding r img bs = lends (equal (length img) (size r) e) in
-      let lb : b < capacity (geometry r) = below b (capacity (geometry r)) l in
-      let lv : length v ≡ r .block = equal (length v) (r .block) w in
-      record { answer = refl; state = recorded-write r img bs h b lb v lv; holding = holding-write r img bs h b lb v lv nl }
+      let q = passed.writes short bad r (capacity (geometry r)) (length img) k b v z in
+      let h : Holding r img bs = lends (q .long) in
+      record {
+        answer = refl;
+        state = recorded-write r img (h .limits) (h .long) b (q .block-lt) v (q .whole);
+        holding = holding-write r img bs h b (q .block-lt) v (q .whole) (q .here);
+      }

@@ -1,0 +1,49 @@
+-- What an accepted call leaves alone, and that its stores stay inside the images it was lent. Document 01, Calls, and demand 1: "every call
+-- .. stays inside what it was lent".
+-- `alone : (e : Event) (r : Record) → refusal r (capacity (geometry r)) (fed e) ≡ 0 → Alone e r` of proofs/Alone.antt proves it of every call
+-- that the table lets through, whatever bytes it is lent. (A refused call leaves everything alone: `Demand1.untouched` of Theorem.)
+use Prim.Native.Nat.{ℕ, _+_, _≤_, _<_}
+use mathlib.Core.Path.{_≡_}
+use mathlib.Core.Bool.{true, false}
+use mathlib.Core.Logic.{_≢_}
+use mathlib.Core.List.{List, [], _∷_}
+use lib.ListN.{length}
+use Rattle.layout.specs.Layout.{layout}
+use Rattle.blocks.specs.Stripe.{offset}
+use Rattle.state.specs.declared.Record.{Record}
+use Rattle.state.specs.Good.{geometry}
+use Rattle.array.specs.Call.{format, read, view, write, grow, advance, rebuild, Event}
+use Rattle.array.specs.Health.{absent}
+use Rattle.array.specs.Images.{disksOf, placeIn, Store, block, header}
+use Rattle.array.specs.Effect.{placeOf, effect, act}
+
+-- every block of a list of stores is whole, B bytes, and its place lies within the first `len` bytes
+unfoldable pub Inside : ℕ → ℕ → ℕ → List Store → Type 0
+Inside len B T [] = Unit
+Inside len B T (block S d v ∷ ps) = (length v ≡ B) × (offset B T S d + B ≤ len) × Inside len B T ps
+Inside len B T (header x ∷ ps) = Inside len B T ps
+
+-- the call leaves the bytes of place (S, d)
+abbrev pub Stays : Event → Record → ℕ → ℕ → Type 0
+Stays e r S d = placeIn r (act e r .images) S d ≡ placeIn r (e .images) S d
+
+pub record Alone (e : Event) (r : Record) : Type 0 where
+  -- "stays inside what it was lent": each of its stores, and the images are as long as they were
+  pub inside : Inside (length (e .images)) (effect (e .call) r e .shape .block) (effect (e .call) r e .shape .stripes) (effect (e .call) r e .stores)
+  pub long : length (act e r .images) ≡ length (e .images)
+  -- read "fills a lent block", view the scratch; no other call has one ..
+  pub room : ((b : ℕ) → e .call ≢ read b) → ((b : ℕ) → e .call ≢ view b) → act e r .room ≡ e .room
+  -- .. and view, "if its disk is out, .. the lent scratch filled with it. Scratch is else untouched."
+  pub scratch : (b : ℕ) → e .call ≡ view b → absent (r .health) (placeOf r b .stripe) (placeOf r b .disk) ≡ false → act e r .room ≡ e .room
+  -- five calls store blocks; read, view, out, status, locate and owner leave the images
+  pub images : ((n B T : ℕ) → e .call ≢ format n B T) → ((b : ℕ) (v : List ℕ) → e .call ≢ write b v) → ((m : ℕ) → e .call ≢ grow m)
+      → ((k : ℕ) → e .call ≢ advance k) → ((d : ℕ) → e .call ≢ rebuild d) → act e r .images ≡ e .images
+  -- write: "the data place takes the data, the parity place its old value xor old block xor data; .. All other bytes stay."
+  pub write-others : (b : ℕ) (v : List ℕ) → e .call ≡ write b v → (S d : ℕ) → S < r .stripes → d < disksOf r
+      → (S ≡ placeOf r b .stripe → (d ≢ placeOf r b .disk) × (d ≢ layout (geometry r) .parity S)) → Stays e r S d
+  -- ".. either is skipped if its disk is out"
+  pub write-absent : (b : ℕ) (v : List ℕ) → e .call ≡ write b v → (S d : ℕ) → S < r .stripes → d < disksOf r → absent (r .health) S d ≡ true → Stays e r S d
+  -- grow: "given images of n + m disks, zeroes those behind the first n"
+  pub grow-old : (m : ℕ) → e .call ≡ grow m → (S d : ℕ) → S < r .stripes → d < r .old → Stays e r S d
+  -- rebuild: "writes disk d of every stripe"
+  pub rebuild-others : (d : ℕ) → e .call ≡ rebuild d → (S f : ℕ) → S < r .stripes → f < disksOf r → f ≢ d → Stays e r S f
