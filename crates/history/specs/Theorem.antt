@@ -28,19 +28,22 @@ use Rattle.history.specs.Flat.{Flat, flatStep}
 use Rattle.history.specs.Lent.{Cabinet, Keeps, Lends, leaves, next}
 
 -- "The moves of a growth are the sum of the counts that advance reported since that grow was accepted, no format and no further
--- grow accepted since": the sum after a call, from the one before it
+-- grow accepted since": the sum after an accepted call that reported k, and after any call
+unfoldable pub tallied : Call → ℕ → ℕ → ℕ
+tallied (format n B T) k sum = 0
+tallied (read b) k sum = sum
+tallied (view b) k sum = sum
+tallied (write b v) k sum = sum
+tallied (grow m) k sum = 0
+tallied (advance _) k sum = sum + k
+tallied (out d) k sum = sum
+tallied (rebuild d) k sum = sum
+tallied status k sum = sum
+tallied (locate b) k sum = sum
+tallied (owner S d) k sum = sum
+
 unfoldable pub tally : Call → Answer → ℕ → ℕ
-tally (format n B T) a sum = cond (accepted a) 0 sum
-tally (read b) a sum = sum
-tally (view b) a sum = sum
-tally (write b v) a sum = sum
-tally (grow m) a sum = cond (accepted a) 0 sum
-tally (advance k) a sum = sum + count a
-tally (out d) a sum = sum
-tally (rebuild d) a sum = sum
-tally status a sum = sum
-tally (locate b) a sum = sum
-tally (owner S d) a sum = sum
+tally c a sum = cond (accepted a) (tallied c (count a) sum) sum
 
 -- ---- what is claimed of one call e: a is the cabinet before it, f the flat list before it, sum the moves of the growth after it
 
@@ -64,11 +67,13 @@ pub record Claim (e : Event) (a : Cabinet) (f : Flat) (sum : ℕ) : Type 0 where
   pub stays : accepted (leaves e a .answer) ≡ false → next e a ≡ a
   -- "Each move that an advance makes leaves them the same, wherever the parity then stands": the one behind the first i, in every stripe;
   -- behind none stand the images lent, behind the last of them those left
-  pub parity : (k i S : ℕ) → e .call ≡ advance k → accepted (leaves e a .answer) ≡ true → S < decode (a .rec) .stripes
-      → parityAfter (suc i) (decode (a .rec)) (e .images) S ≡ parityAfter i (decode (a .rec)) (e .images) S
-  pub parity-first : (S : ℕ) → parityAfter 0 (decode (a .rec)) (e .images) S ≡ placeIn (decode (a .rec)) (e .images) S (layout (geometry (decode (a .rec))) .parity S)
-  pub parity-last : (k S : ℕ) → e .call ≡ advance k → accepted (leaves e a .answer) ≡ true
-      → parityAfter k (decode (a .rec)) (e .images) S ≡ placeIn (decode (a .rec)) (leaves e a .images) S (layout (geometry (decode (leaves e a .state))) .parity S)
+  pub parity : let r = decode (a .rec) in
+      (k i S : ℕ) → e .call ≡ advance k → accepted (leaves e a .answer) ≡ true → S < r .stripes → parityAfter (suc i) r (e .images) S ≡ parityAfter i r (e .images) S
+  pub parity-first : let r = decode (a .rec) in
+      (S : ℕ) → parityAfter 0 r (e .images) S ≡ placeIn r (e .images) S (layout (geometry r) .parity S)
+  pub parity-last : let r = decode (a .rec) in
+      (k S : ℕ) → e .call ≡ advance k → accepted (leaves e a .answer) ≡ true
+      → parityAfter k r (e .images) S ≡ placeIn r (leaves e a .images) S (layout (geometry (decode (leaves e a .state))) .parity S)
   -- "The growth is over, so that 5's condition holds, exactly when the sum is the total."
   pub over : let r = decode (leaves e a .state) in r .new ≢ 0 → (idle (geometry r) ≡ true) ↔ (sum ≡ totalOf (geometry r))
   -- "From a format on, unless health is lost, all stripes are sound, the out disk taken as the xor of the others."

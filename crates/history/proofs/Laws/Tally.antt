@@ -13,14 +13,14 @@ use Rattle.array.specs.Call.{Call, format, read, view, write, grow, advance, ou
 use Rattle.array.specs.Table.{idle, refusal}
 use Rattle.array.proofs.Laws.Table.{none-left, over}
 use Rattle.history.specs.Flat.{Flat, flatAct, flatSettle, flatStep}
-use Rattle.history.specs.Theorem.{tally}
+use Rattle.history.specs.Theorem.{tallied, tally}
 
 -- once there are new disks, t is the sum
 unfoldable pub Counted : Flat → ℕ → Type 0
 Counted f sum = f .numbers .new ≢ 0 → f .numbers .moves ≡ sum
 
 counted-act : (c : Call) (r : Record) (bs : List (List ℕ)) (sum : ℕ) → (r .new ≢ 0 → r .moves ≡ sum) → Counted (flatAct c r bs .1) (tally c (flatAct c r bs .0) sum)
-unfolding Counted flatAct tally
+unfolding Counted flatAct tallied tally
 counted-act (format n B T) r bs sum h = λ q. absurd (q refl)
 counted-act (read b) r bs sum h = h
 counted-act (view b) r bs sum h = h
@@ -33,22 +33,8 @@ counted-act status r bs sum h = h
 counted-act (locate b) r bs sum h = h
 counted-act (owner S d) r bs sum h = h
 
-tally-refused : (c : Call) (n sum : ℕ) → sum ≡ tally c (refused n) sum
-unfolding tally
-tally-refused (format m B T) n sum = refl
-tally-refused (read b) n sum = refl
-tally-refused (view b) n sum = refl
-tally-refused (write b v) n sum = refl
-tally-refused (grow m) n sum = refl
-tally-refused (advance k) n sum = omega arith
-tally-refused (out d) n sum = refl
-tally-refused (rebuild d) n sum = refl
-tally-refused status n sum = refl
-tally-refused (locate b) n sum = refl
-tally-refused (owner S d) n sum = refl
-
 pub counted-step : (e : Fed) (f : Flat) (sum : ℕ) → Counted f sum → Counted (flatStep e f .1) (tally (e .call) (flatStep e f .0) sum)
-unfolding flatStep Counted
+unfolding flatStep Counted tally
 counted-step e f sum h = go (refusal (f .numbers) (length (f .blocks)) e)
   where
     acted : Answer × Flat
@@ -56,7 +42,7 @@ counted-step e f sum h = go (refusal (f .numbers) (length (f .blocks)) e)
 
     go : (n : ℕ) → Counted (flatSettle n f acted .1) (tally (e .call) (flatSettle n f acted .0) sum)
     go zero = counted-act (e .call) (f .numbers) (f .blocks) sum h
-    go (suc n) = λ q. h q ∙ tally-refused (e .call) (suc n) sum
+    go (suc n) = h
 
 -- so the growth is over exactly when the sum is the total
 pub over-is : (g : Geometry) (sum : ℕ) → (g .new ≢ 0 → g .moves ≡ sum) → g .new ≢ 0 → (idle g ≡ true) ↔ (sum ≡ totalOf g)
