@@ -1,4 +1,4 @@
--- Demand 1, as far as the definitions go: `demand1`; and `on-bytes`. Assumes nothing.
+-- Demand 1, as far as the definitions go: `demand1`; `in-order` and `on-bytes`. Assumes nothing.
 use Prim.Native.Nat.{ℕ, zero, suc}
 use mathlib.Core.Path.{_≡_, refl}
 use mathlib.Core.Bool.{false}
@@ -10,8 +10,9 @@ use Rattle.state.specs.Bytes.{decode}
 use Rattle.array.specs.Call.{Event, fed, accepted, number, shown, beside}
 use Rattle.array.specs.Table.{rowsBytes, refusalBytes}
 use Rattle.array.specs.Effect.{Left, act, untouched, settle, sealed, calledBytes}
-use Rattle.array.specs.Theorem.{Given, Demand1, OnBytes}
+use Rattle.array.specs.Theorem.{Given, Demand1, InOrder, OnBytes}
 use Rattle.array.proofs.Laws.Rows.{rises, given}
+use Rattle.array.proofs.Laws.Advance.{advance-split}
 use Rattle.array.proofs.Laws.OnBytes as bytes
 use Rattle.array.proofs.Laws.Acting.{accepts, numbered}
 
@@ -57,6 +58,9 @@ module _ (e : Event) (b : List ℕ) where
 
   pub demand1 : Demand1 e b
   demand1 = record { number-is = number-is; table-is = table-is; zeros = zeros; untouched = kept; refused = refused }
+
+pub in-order : InOrder
+in-order = advance-split
 
 pub on-bytes : OnBytes
 on-bytes = bytes.on-bytes

@@ -77,7 +77,7 @@ advanceStores (suc k) r img =
     ]
 
 -- a stripe's parity value behind the first i moves: "the bytes at the place where Layout, with the moves done so far, has its
--- parity" (the stores of more moves begin with those of i: `advance-split` of proofs/Laws/Advance.antt)
+-- parity" (the stores of more moves begin with those of i: `InOrder` of Theorem)
 unfoldable pub parityAfter : ℕ → Record → List ℕ → ℕ → List ℕ
 parityAfter i r img S =
     let ps = advanceStores i r img in

@@ -1,7 +1,7 @@
 -- DEMAND 1, as far as the definitions go: "The lent images, record, block and scratch hold after a refused call the very bytes they
 -- held before it, nonsense records and lengths included; every call .. refuses exactly as the table says".
 -- `demand1 : (e : Event) (b : List ℕ) → Demand1 e b` of proofs/Theorem.antt proves it of every call, whatever it is lent.
-use Prim.Native.Nat.{ℕ, _<_}
+use Prim.Native.Nat.{ℕ, _+_, _<_}
 use mathlib.Core.Path.{_≡_}
 use mathlib.Core.Bool.{Bool, true, false}
 use mathlib.Core.Logic.{_↔_, _≢_}
@@ -10,8 +10,9 @@ use lib.ListN.{replicate}
 use Rattle.state.specs.declared.Record.{Record}
 use Rattle.state.specs.Bytes.{encode}
 use Rattle.array.specs.Call.{Event, fed, accepted, number, shown, beside}
+use Rattle.array.specs.Images.{stored, recorded}
 use Rattle.array.specs.Table.{Row, word, rowsBytes, refusalBytes}
-use Rattle.array.specs.Effect.{called, sealed, calledBytes}
+use Rattle.array.specs.Effect.{advanceStores, called, sealed, calledBytes}
 
 -- no condition of these rows holds
 unfoldable pub NoneHolds : List Row → Type 0
@@ -35,6 +36,13 @@ pub record Demand1 (e : Event) (b : List ℕ) : Type 0 where
   pub untouched : accepted (calledBytes e b .answer) ≡ false → (calledBytes e b .state ≡ b) × (calledBytes e b .images ≡ e .images) × (calledBytes e b .room ≡ e .room)
   pub refused : (accepted (calledBytes e b .answer) ≡ false) ↔ (refusalBytes b (fed e) ≢ 0)
 
--- What is proved of calls on a record's bytes holds of calls on the record: `on-bytes`.
+-- "makes moves in order": the stores of i + k moves are those of i, and then those of k more on what the first leave. (`in-order`)
+abbrev pub InOrder : Type 0
+InOrder =
+    (i k : ℕ) (r : Record) (img : List ℕ) →
+    let ps = advanceStores i r img in
+    advanceStores (i + k) r img ≡ ps ++ advanceStores k (recorded ps r) (stored (r .block) (r .stripes) ps img)
+
+-- What is proved of calls on a record's bytes holds of calls on the record. (`on-bytes`)
 abbrev pub OnBytes : Type 0
 OnBytes = (e : Event) (r : Record) → calledBytes e (encode r) ≡ sealed (called e r)
