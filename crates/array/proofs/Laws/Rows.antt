@@ -1,49 +1,47 @@
 -- Rows of rising numbers: the number given is that of the lowest condition that holds. Assumes nothing.
-use Prim.Native.Nat.{ℕ, zero, _<_}
+use Prim.Native.Nat.{ℕ, zero, suc, _<_}
 use mathlib.Core.Path.{_≡_, refl, sym, subst}
-use mathlib.Core.Bool.{Bool, true, false, cond, _&&_}
+use mathlib.Core.Bool.{Bool, true, false, cond}
 use mathlib.Core.Logic.{_≢_}
 use mathlib.Core.List.{List, [], _∷_, _++_}
 use native.Mathlib.Omega.{arith}
-use lib.Dec.{ltb}
-use borrow.Author.Tests.{ltb-true}
+use lib.Dec.{eqb}
+use lib.ListN.{getD}
 use Rattle.state.specs.declared.Record.{Record}
-use Rattle.state.proofs.Laws.Tests.{both}
-use Rattle.array.specs.Call.{Call, format, read, view, write, grow, advance, out, rebuild, status, locate, owner}
+use Rattle.array.specs.Call.{Call}
 use Rattle.array.specs.Table.{Row, table, word}
+use Rattle.array.specs.Refusals.{columnOf, marks, marked, numbers}
 use Rattle.array.specs.Theorem.{NoneHolds, Given}
+use Rattle.array.proofs.Refusals.{rowwise}
 
 -- numbers above low, each above the one before
 unfoldable pub Rising : ℕ → List Row → Type 0
 Rising low [] = Unit
 Rising low (x ∷ rows) = (low < x .0) × Rising (x .0) rows
 
--- every call's rows are such: a test, computed call by call
-abbrev rise : ℕ → List Row → Bool
-rise low [] = true
-rise low (x ∷ rows) = ltb low (x .0) && rise (x .0) rows
+-- every call's rows are such: they are the lines marked in its column, counted from 1
+Ascending : ℕ → List ℕ → Type 0
+Ascending low [] = Unit
+Ascending low (k ∷ ks) = (low < k) × Ascending k ks
 
-rising : (rows : List Row) (low : ℕ) → rise low rows ≡ true → Rising low rows
-unfolding Rising
-rising [] low q = tt
-rising (x ∷ rows) low q = let (p, r) = both (ltb low (x .0)) (rise (x .0) rows) q in (ltb-true low (x .0) p, rising rows (x .0) r)
+ascending : (column k low : ℕ) (lines : List (List ℕ)) → low < k → Ascending low (marked column k lines)
+unfolding Ascending
+ascending column k low [] l = tt
+ascending column k low (line ∷ lines) l =
+    go (eqb (getD line column 0) 1) (ascending column (suc k) k lines (omega arith)) (ascending column (suc k) low lines (omega arith))
+  where
+    go : (b : Bool) → Ascending k (marked column (suc k) lines) → Ascending low (marked column (suc k) lines) → Ascending low (cond b (k ∷ marked column (suc k) lines) (marked column (suc k) lines))
+    go true h i = (l, h)
+    go false h i = i
 
-tested : (c : Call) (short bad : Bool) (r : Record) (cap len room : ℕ) → rise 0 (table c short bad r cap len room) ≡ true
-unfolding table
-tested (format n B T) short bad r cap len room = refl
-tested (read b) short bad r cap len room = refl
-tested (view b) short bad r cap len room = refl
-tested (write b v) short bad r cap len room = refl
-tested (grow m) short bad r cap len room = refl
-tested (advance k) short bad r cap len room = refl
-tested (out d) short bad r cap len room = refl
-tested (rebuild d) short bad r cap len room = refl
-tested status short bad r cap len room = refl
-tested (locate b) short bad r cap len room = refl
-tested (owner S d) short bad r cap len room = refl
+rising : (rows : List Row) (low : ℕ) → Ascending low (numbers rows) → Rising low rows
+unfolding Ascending Rising
+rising [] low a = tt
+rising (x ∷ rows) low a = (a .0, rising rows (x .0) (a .1))
 
 pub rises : (c : Call) (short bad : Bool) (r : Record) (cap len room : ℕ) → Rising 0 (table c short bad r cap len room)
-rises c short bad r cap len room = rising (table c short bad r cap len room) 0 (tested c short bad r cap len room)
+rises c short bad r cap len room =
+    rising (table c short bad r cap len room) 0 (subst (Ascending 0) (sym (rowwise c short bad r cap len room)) (ascending (columnOf c) 1 0 marks (omega arith)))
 
 -- rows behind others
 behind : (before : List Row) (low : ℕ) (x : Row) (after : List Row) → Rising low (before ++ x ∷ after) → (low < x .0) × Rising (x .0) after
