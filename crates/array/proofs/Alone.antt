@@ -1,13 +1,14 @@
 -- What an accepted call leaves alone: `alone`. Assumes nothing.
 use Prim.Native.Nat.{ℕ, _+_, _<_}
 use mathlib.Core.Path.{_≡_, refl, sym, _∙_, subst}
-use mathlib.Core.Bool.{true, false, not}
+use mathlib.Core.Bool.{Bool, true, false, cond, not}
 use mathlib.Core.Logic.{_≢_}
 use mathlib.Core.List.{List, [], _∷_, _++_}
 use native.Mathlib.Omega.{arith}
 use lib.ListN.{length, getD}
 use borrow.Author.Tests.{not-false}
 use Rattle.layout.specs.Layout.{capacity, layout}
+use Rattle.layout.proofs.Laws.Layout.{lawful}
 use Rattle.blocks.proofs.Laws.Grid.{Grid}
 use Rattle.blocks.proofs.Laws.Rows.{put-other}
 use Rattle.blocks.proofs.Laws.Stripe.{length-others}
@@ -24,7 +25,7 @@ use Rattle.array.specs.Effect.{placeOf, scratchLeft, writeStores, advanc
 use Rattle.array.specs.Alone.{Inside, Stays, Alone}
 use Rattle.array.proofs.Laws.Column.{storeIf}
 use Rattle.array.proofs.Laws.Stores.{Within, length-stored, cell-stored, stored-last, within-append, within-fill, within-zero, column-fill, column-below}
-use Rattle.array.proofs.Laws.Holding.{cellIn}
+use Rattle.array.proofs.Laws.Holding.{cellIn, length-seen}
 use Rattle.array.proofs.Laws.Write.{within-write, cell-write}
 use Rattle.array.proofs.Laws.Passed as passed
 use Rattle.array.proofs.Laws.Passed.{Formats, Reaches, Grows, Moves, Rebuilds}
@@ -122,6 +123,32 @@ module _ (r : Record) (e : Event) where
   room-of (locate b) nr nv = refl
   room-of (owner S d) nr nv = refl
 
+  -- a block that is filled is as long as it was
+  scratch-long : (b : ℕ) → length (e .room) ≡ r .block → length (scratchLeft r img b (e .room)) ≡ length (e .room)
+  unfolding scratchLeft
+  scratch-long b q = go (absent (r .health) (placeOf r b .stripe) (placeOf r b .disk))
+    where
+      go : (a : Bool) → length (cond a (othersIn r img (placeOf r b .stripe) (placeOf r b .disk)) (e .room)) ≡ length (e .room)
+      go true = length-others (r .block) (r .stripes) img (placeOf r b .stripe) (disksOf r) (placeOf r b .disk) ∙ sym q
+      go false = refl
+
+  room-long-of : (c : Call) → Passed c → length (effect c r e .room) ≡ length (e .room)
+  unfolding effect
+  room-long-of (format n B T) z = refl
+  room-long-of (read b) z =
+      let w = passed.reads false (not (good r)) r (capacity (geometry r)) (length img) (length (e .room)) b z in
+      let l = lawful (geometry r) (bounds (w .good) .array) in
+      length-seen r img (placeOf r b .stripe) (placeOf r b .disk) (w .long) (l .stripe-lt b (w .block-lt)) (l .disk-lt b (w .block-lt)) ∙ sym (w .whole)
+  room-long-of (view b) z = scratch-long b (passed.views false (not (good r)) r (capacity (geometry r)) (length img) (length (e .room)) b z .whole)
+  room-long-of (write b v) z = refl
+  room-long-of (grow m) z = refl
+  room-long-of (advance k) z = refl
+  room-long-of (out d) z = refl
+  room-long-of (rebuild d) z = refl
+  room-long-of status z = refl
+  room-long-of (locate b) z = refl
+  room-long-of (owner S d) z = refl
+
   scratch-of : (b : ℕ) → absent (r .health) (placeOf r b .stripe) (placeOf r b .disk) ≡ false → effect (view b) r e .room ≡ e .room
   unfolding effect scratchLeft
   scratch-of b u = rw u refl
@@ -214,6 +241,7 @@ alone e r z =
     record {
       inside = inside r e (e .call) z;
       long = long-of r e (e .call);
+      room-long = room-long-of r e (e .call) z;
       room = room-of r e (e .call);
       scratch = λ b q u. subst (λ (c : Call). effect c r e .room ≡ e .room) (sym q) (scratch-of r e b u);
       images = images-of r e (e .call);

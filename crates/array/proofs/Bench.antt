@@ -9,7 +9,7 @@ use Rattle.state.specs.Good.{newGood, movesGood, good}
 use Rattle.array.specs.Images.{stored, recorded}
 use Rattle.array.specs.Table.{idle, formable, table, refusal}
 use Rattle.array.specs.Effect.{moveStores, advanceStores, effect, called}
-use Rattle.array.specs.Bench.{Bench, Unmarked}
+use Rattle.array.specs.Bench.{Bench, Unmarked, Values}
 
 pub bench : Bench
 unfolding dataDisk homeStripe homeDisk rankOf homeBlock homeOwner moveZone moveTo moveLag moveWithin moveStripe moveFrom total lag target turn isMoved diskAt source taken blanksBelow blanks newStripe newDisk newBlock openStripes capacity grownPlace grownParity newOwner grownOwner newGood movesGood good stored recorded idle formable table refusal effect called
@@ -33,4 +33,14 @@ unmarked = record {
   block = (refl, refl, refl, refl);
   stripes = (refl, refl, refl, refl);
   finished = (refl, refl);
+}
+
+pub values : Values
+values = record {
+  counts = (refl, refl, refl);
+  statuses = (refl, refl, refl);
+  places = refl;
+  owners = (refl, refl, refl);
+  views = (refl, refl, refl);
+  refusals = (refl, refl, refl, refl);
 }

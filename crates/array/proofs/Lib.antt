@@ -4,3 +4,4 @@ pub mod Drawers
 pub mod Laws
 pub mod Theorem
 pub mod Alone
+pub mod OneMove

@@ -8,14 +8,15 @@ use mathlib.Core.Bool.{true, false}
 use mathlib.Core.Logic.{_≢_}
 use mathlib.Core.List.{List, [], _∷_}
 use lib.ListN.{length}
-use Rattle.layout.specs.Layout.{layout}
+use Rattle.layout.specs.Layout.{layout, nextStripe, nextFrom, nextTo}
+use Rattle.blocks.specs.Block.{zeros}
 use Rattle.blocks.specs.Stripe.{offset}
 use Rattle.state.specs.declared.Record.{Record}
 use Rattle.state.specs.Good.{geometry}
 use Rattle.array.specs.Call.{format, read, view, write, grow, advance, rebuild, Event}
 use Rattle.array.specs.Health.{absent}
-use Rattle.array.specs.Images.{disksOf, placeIn, Store, block, header}
-use Rattle.array.specs.Effect.{placeOf, effect, act}
+use Rattle.array.specs.Images.{disksOf, placeIn, Store, block, header, stored}
+use Rattle.array.specs.Effect.{placeOf, moveStores, effect, act}
 
 -- every block of a list of stores is whole, B bytes, and its place lies within the first `len` bytes
 unfoldable pub Inside : ℕ → ℕ → ℕ → List Store → Type 0
@@ -28,9 +29,10 @@ abbrev pub Stays : Event → Record → ℕ → ℕ → Type 0
 Stays e r S d = placeIn r (act e r .images) S d ≡ placeIn r (e .images) S d
 
 pub record Alone (e : Event) (r : Record) : Type 0 where
-  -- "stays inside what it was lent": each of its stores, and the images are as long as they were
+  -- "stays inside what it was lent": each of its stores; and images and room are as long as they were
   pub inside : Inside (length (e .images)) (effect (e .call) r e .shape .block) (effect (e .call) r e .shape .stripes) (effect (e .call) r e .stores)
   pub long : length (act e r .images) ≡ length (e .images)
+  pub room-long : length (act e r .room) ≡ length (e .room)
   -- read "fills a lent block", view the scratch; no other call has one ..
   pub room : ((b : ℕ) → e .call ≢ read b) → ((b : ℕ) → e .call ≢ view b) → act e r .room ≡ e .room
   -- .. and view, "if its disk is out, .. the lent scratch filled with it. Scratch is else untouched."
@@ -47,3 +49,13 @@ pub record Alone (e : Event) (r : Record) : Type 0 where
   pub grow-old : (m : ℕ) → e .call ≡ grow m → (S d : ℕ) → S < r .stripes → d < r .old → Stays e r S d
   -- rebuild: "writes disk d of every stripe"
   pub rebuild-others : (d : ℕ) → e .call ≡ rebuild d → (S f : ℕ) → S < r .stripes → f < disksOf r → f ≢ d → Stays e r S f
+
+-- ---- a single move of an advance, on a record that is good and has a move left, and images of its size: "A move copies the block to its new place, then
+-- zeroes the place it left", and nothing else. (`one-move` of proofs/OneMove.antt; an advance makes one after the other, `InOrder` of Theorem)
+
+pub record OneMove (r : Record) (img : List ℕ) : Type 0 where
+  pub copied : let g = geometry r in placeIn r (stored (r .block) (r .stripes) (moveStores r img) img) (nextStripe g) (nextTo g) ≡ placeIn r img (nextStripe g) (nextFrom g)
+  pub zeroed : let g = geometry r in placeIn r (stored (r .block) (r .stripes) (moveStores r img) img) (nextStripe g) (nextFrom g) ≡ zeros (r .block)
+  pub others : let g = geometry r in
+      (S d : ℕ) → S < r .stripes → d < disksOf r → (S ≡ nextStripe g → (d ≢ nextFrom g) × (d ≢ nextTo g))
+      → placeIn r (stored (r .block) (r .stripes) (moveStores r img) img) S d ≡ placeIn r img S d

@@ -1,6 +1,6 @@
 -- The table of refusals, read row by row, and every cell of it by example. For each call and each number that the table has for it: a case where the condition of that number and
 -- of every higher one holds, and no lower one's; for each number that the table does not have for it: a case where its condition
--- would hold, which is not refused; and both sides of each bound. `rowwise` and `refusals` of proofs/Refusals.antt compute them.
+-- would hold, which is not refused; and both sides of the bounds. `rowwise` and `refusals` of proofs/Refusals.antt compute them.
 use Prim.Native.Nat.{ℕ, suc}
 use mathlib.Core.Path.{_≡_}
 use mathlib.Core.Bool.{Bool, cond}
@@ -61,13 +61,17 @@ Rowwise = (c : Call) (short bad : Bool) (r : Record) (cap len room : ℕ) → nu
 abbrev pub small : List ℕ
 small = encode (record { old = 3; new = 0; health = Whole; block = 2; stripes = 15; moves = 0 })
 
+-- .. 3 disks and T stripes of 1 byte ..
+abbrev pub of-stripes : ℕ → List ℕ
+of-stripes T = encode (record { old = 3; new = 0; health = Whole; block = 1; stripes = T; moves = 0 })
+
 -- .. grown by 2, of length 150, with t of 18 moves done, and capacity 30 or at last 60
 abbrev pub grown : Health → ℕ → List ℕ
 grown h t = encode (record { old = 3; new = 2; health = h; block = 2; stripes = 15; moves = t })
 
 -- not good, and good but for byte 6; lost; not 16 bytes long
 abbrev pub bad : List ℕ
-bad = encode (record { old = 2; new = 0; health = Lost; block = 2; stripes = 15; moves = 0 })
+bad = encode (record { old = 2; new = 2; health = Lost; block = 2; stripes = 15; moves = 18 })
 
 abbrev pub sixth : List ℕ
 sixth = 3 ∷ 0 ∷ 0 ∷ 0 ∷ 2 ∷ 0 ∷ 1 ∷ 0 ∷ 15 ∷ 0 ∷ 0 ∷ 0 ∷ 0 ∷ 0 ∷ 0 ∷ 0 ∷ []
@@ -133,8 +137,9 @@ pub record Refusals : Type 0 where
       asks short (grow 0) 89 0 ∷ asks bad (grow 0) 89 0 ∷ asks lost (grow 0) 89 0 ∷ asks (grown (Out 4) 17) (grow 0) 89 0 ∷ asks (grown Whole 17) (grow 0) 89 0
       ∷ asks small (grow 0) 89 0 ∷ asks small (grow 2) 149 0 ∷ asks small (grow 2) 150 0
       ∷ asks small (grow 17) 600 0 ∷ asks small (grow 1) 120 0 ∷ asks small (grow 2) 90 0
+      ∷ asks (of-stripes 57) (grow 16) 1083 0 ∷ asks (of-stripes 60) (grow 17) 1200 0 ∷ asks (of-stripes 12) (grow 1) 48 0
       ∷ []
-      ≡ 1 ∷ 1 ∷ 2 ∷ 3 ∷ 4 ∷ 6 ∷ 7 ∷ 0 ∷ 6 ∷ 6 ∷ 7 ∷ []
+      ≡ 1 ∷ 1 ∷ 2 ∷ 3 ∷ 4 ∷ 6 ∷ 7 ∷ 0 ∷ 6 ∷ 6 ∷ 7 ∷ 0 ∷ 6 ∷ 0 ∷ []
   -- 1, 2, 3, 5, 7, none; 5 with m = 0; k = 0 is no refusal
   pub advances :
       asks short (advance 1) 149 0 ∷ asks bad (advance 1) 149 0 ∷ asks lost (advance 1) 149 0 ∷ asks (grown (Out 4) 18) (advance 1) 149 0 ∷ asks (grown Whole 18) (advance 1) 149 0
@@ -152,8 +157,9 @@ pub record Refusals : Type 0 where
   pub rebuilds :
       asks short (rebuild 3) 149 0 ∷ asks bad (rebuild 3) 149 0 ∷ asks lost (rebuild 3) 149 0 ∷ asks (grown (Out 4) 17) (rebuild 3) 149 0 ∷ asks (grown (Out 4) 17) (rebuild 3) 150 0
       ∷ asks (grown (Out 4) 17) (rebuild 4) 150 0 ∷ asks (grown Whole 17) (rebuild 0) 150 0
+      ∷ asks (grown (Out 4) 18) (rebuild 4) 150 0 ∷ asks (encode (record { old = 3; new = 0; health = Out 1; block = 2; stripes = 15; moves = 0 })) (rebuild 1) 90 0
       ∷ []
-      ≡ 1 ∷ 1 ∷ 2 ∷ 7 ∷ 10 ∷ 0 ∷ 10 ∷ []
+      ≡ 1 ∷ 1 ∷ 2 ∷ 7 ∷ 10 ∷ 0 ∷ 10 ∷ 0 ∷ 0 ∷ []
   -- 1, and nothing else
   pub statuses : asks short status 0 0 ∷ asks bad status 0 0 ∷ asks sixth status 0 0 ∷ asks lost status 0 0 ∷ asks (grown (Out 4) 18) status 0 0 ∷ []
       ≡ 1 ∷ 1 ∷ 1 ∷ 0 ∷ 0 ∷ []

@@ -3,3 +3,4 @@ pub mod Step
 pub mod Tally
 pub mod Lost
 pub mod Last
+pub mod Asked

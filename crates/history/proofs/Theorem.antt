@@ -1,4 +1,4 @@
--- Demand 3, proved: `demand3`, `flat-list`, `last-given`, `zero-at-first` and `second-out`. Assumes nothing.
+-- Demand 3, proved: `demand3`, `may-be-lent`, `flat-list`, `last-given`, `zero-at-first` and `second-out`. Assumes nothing.
 use Prim.Native.Nat.{ℕ, zero, suc, _+_, _≤_, _<_}
 use mathlib.Core.Path.{_≡_, refl, sym, ap, ap₂, _∙_, subst}
 use mathlib.Core.Bool.{Bool, true, false, not}
@@ -8,11 +8,13 @@ use native.Mathlib.Omega.{arith}
 use lib.Dec.{eqb}
 use lib.ListN.{length, length-append, List·getD-append}
 use lib.Seq.{ext-getD}
+use borrow.Author.Tests.{eqb-false}
 use Rattle.layout.specs.Layout.{totalOf, capacity, layout}
 use Rattle.layout.specs.Limits.{Good}
 use Rattle.blocks.specs.Block.{zeros}
 use Rattle.blocks.specs.Stripe.{offset}
 use Rattle.blocks.proofs.Laws.Stripe.{place-in, length-place, getD-place}
+use Rattle.state.specs.declared.Health.the-variants.{Out}
 use Rattle.state.specs.declared.Health.{Health}
 use Rattle.state.specs.declared.Record.{Record}
 use Rattle.state.specs.Good.{geometry}
@@ -34,9 +36,10 @@ use Rattle.array.proofs.Laws.Holding.{Holding}
 use Rattle.array.proofs.Laws.Sound.{sound}
 use Rattle.array.proofs.Laws.Advance.{parity-kept}
 use Rattle.history.specs.Flat.{Flat, flatAct, flatSettle, flatStep}
-use Rattle.history.specs.Lent.{Cabinet, Takes, nothing, anything, those, takes, Keeps, Lent, Lends, leaves, stands, next}
-use Rattle.history.specs.Theorem.{tally, Claim, Claims, opening, Demand3, WhatStands, AnyWhenLost, Fair, answers, flatAnswers, FlatList, LastGiven, ZeroAtFirst, SecondOut}
+use Rattle.history.specs.Lent.{Cabinet, Takes, nothing, anything, those, takes, Keeps, Lent, Lends, leaves, imagesAfter, next}
+use Rattle.history.specs.Theorem.{tally, Claim, Claims, opening, Demand3, MayBeLent, Fair, answers, flatAnswers, FlatList, LastGiven, ZeroAtFirst, SecondOut}
 use Rattle.history.proofs.Laws.Step.{Alike, Holds, alike, opens}
+use Rattle.history.proofs.Laws.Asked.{asked}
 use Rattle.history.proofs.Laws.Last.{gives, is-written, is-zero}
 use Rattle.history.proofs.Laws.Lost.{lost-then, lost-reads}
 use Rattle.history.proofs.Laws.Tally.{Counted, counted-step, over-is}
@@ -73,7 +76,7 @@ module _ (e : Event) (a : Cabinet) where
   unfolding next
   stays u =
       ap₂ (λ (b img : List ℕ). record { rec = b; img = img }) (demand1 e (a .rec) .untouched u .0)
-      (ap (λ (c : Bool). stands c (takes (e .call) (decode (a .rec))) (a .img) (leaves e a .images)) u)
+      (ap (λ (c : Bool). imagesAfter c (takes (e .call) (decode (a .rec))) (a .img) (leaves e a .images)) u)
 
   -- an accepted call passed the table
   passed : accepted (leaves e a .answer) ≡ true → word (rowsBytes (a .rec) (fed e)) ≡ 0
@@ -197,18 +200,41 @@ module _ (r : Record) (left behind : List ℕ) (long : length left ≡ size r) w
       ∙ List·getD-append left behind 0 (offset (r .block) (r .stripes) S d + j) (omega (arith, place-in (r .block) (r .stripes) S d (disksOf r) lS ld))
       ∙ sym (getD-place (r .block) (r .stripes) left S d j lj))
 
-  lent : (t : Takes) (img : List ℕ) → img ≡ left ++ behind → Lent t r left img
-  lent nothing img q = tt
-  lent anything img q = tt
-  lent (those len) img q = λ z. subst (Keeps r left) (sym q) keeps
+module _ (e : Event) (r : Record) (left : List ℕ) where
+  -- images that keep what stands may be lent to any call, and so may any to one that asks for none or is lent another length
+  by-keeping : Keeps r left (e .images) → Lends e r left
+  unfolding Lends
+  by-keeping k = go (takes (e .call) r)
+    where
+      go : (t : Takes) → Lent t r left (e .images)
+      go nothing = tt
+      go anything = tt
+      go (those len) = λ z. k
 
-pub what-stands : WhatStands
-unfolding Lends
-what-stands e r left behind long q = lent r left behind long (takes (e .call) r) (e .images) q
+  by-length : ((len : ℕ) → takes (e .call) r ≡ those len → length (e .images) ≢ len) → Lends e r left
+  unfolding Lends
+  by-length ne = go (takes (e .call) r) refl
+    where
+      go : (t : Takes) → takes (e .call) r ≡ t → Lent t r left (e .images)
+      go nothing q = tt
+      go anything q = tt
+      go (those len) q = λ z. absurd (ne len q z)
 
-pub any-when-lost : AnyWhenLost
-unfolding Keeps
-any-when-lost r left lent h S d lS ld q = absurd (let w : _≡_ {A = ℕ} 0 1 = cc (ap (λ (x : Health). absent x S d) h) in omega arith)
+  -- a disk that is not out is another one
+  others : (o : ℕ) → r .health ≡ Out o → (S d : ℕ) → absent (r .health) S d ≡ false → d ≢ o
+  others o h S d u = eqb-false d o (ap (λ (x : Health). absent x S d) (sym h) ∙ u)
+
+  pub may-be-lent : MayBeLent e r left
+  unfolding Keeps Lends takes refusal
+  may-be-lent =
+      record {
+        what-stands = λ behind long q. by-keeping (subst (Keeps r left) (sym q) (keeps r left behind long));
+        any-format = λ n B T q. subst (λ (c : Call). Lent (takes c r) r left (e .images)) (sym q) tt;
+        any-length = λ c z. by-length (λ n q. asked r c (length (e .images)) (length (e .room)) n (e .call) q z);
+        any-out = λ o h k. by-keeping (λ S d lS ld u. k S d lS ld (others o h S d u));
+        any-lost = λ h. by-keeping (λ S d lS ld u. absurd (let w : _≡_ {A = ℕ} 0 1 = cc (ap (λ (x : Health). absent x S d) h) in omega arith));
+        no-images = λ q. subst (λ (t : Takes). Lent t r left (e .images)) (sym q) tt;
+      }
 
 -- ---- in short
 

@@ -58,11 +58,11 @@ Lends e r left = Lent (takes (e .call) r) r left (e .images)
 abbrev pub leaves : Event → Cabinet → Left (List ℕ)
 leaves e a = calledBytes e (a .rec)
 
-abbrev pub stands : Bool → Takes → List ℕ → List ℕ → List ℕ
-stands false t before left = before
-stands true nothing before left = before
-stands true anything before left = left
-stands true (those len) before left = left
+abbrev pub imagesAfter : Bool → Takes → List ℕ → List ℕ → List ℕ
+imagesAfter false t before left = before
+imagesAfter true nothing before left = before
+imagesAfter true anything before left = left
+imagesAfter true (those len) before left = left
 
 unfoldable pub next : Event → Cabinet → Cabinet
-next e a = let x = leaves e a in record { rec = x .state; img = stands (accepted (x .answer)) (takes (e .call) (decode (a .rec))) (a .img) (x .images) }
+next e a = let x = leaves e a in record { rec = x .state; img = imagesAfter (accepted (x .answer)) (takes (e .call) (decode (a .rec))) (a .img) (x .images) }

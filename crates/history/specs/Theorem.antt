@@ -4,7 +4,7 @@
 -- refusal is exactly that of document 01's flat list, zero at first, of what each block was last given; each move keeps its
 -- stripe's parity value; and growth is over exactly when the moves reported since it began are T × n × m / (n + m) .. A second
 -- disk out while the first is not rebuilt refuses all reads until a new format."
--- `demand3`, `what-stands`, `any-when-lost`, `flat-list`, `last-given`, `zero-at-first` and `second-out` of
+-- `demand3`, `may-be-lent`, `flat-list`, `last-given`, `zero-at-first` and `second-out` of
 -- proofs/Theorem.antt prove it, and assume nothing.
 use Prim.Native.Nat.{ℕ, suc, _+_, _<_}
 use mathlib.Core.Path.{_≡_}
@@ -20,12 +20,12 @@ use Rattle.state.specs.Good.{geometry, good}
 use Rattle.state.specs.Bytes.{decode, goodBytes, encode}
 use Rattle.array.specs.Call.{Call, format, read, view, write, grow, advance, out, rebuild, status, locate, owner, Event, Fed, fed, Answer, refused, bytes, accepted, count}
 use Rattle.array.specs.Health.{isLost, absent}
-use Rattle.array.specs.Images.{size, placeIn}
-use Rattle.array.specs.Table.{idle}
+use Rattle.array.specs.Images.{disksOf, size, placeIn}
+use Rattle.array.specs.Table.{idle, refusal}
 use Rattle.array.specs.Effect.{placeOf, parityAfter}
 use Rattle.array.specs.Sound.{Sound}
 use Rattle.history.specs.Flat.{Flat, flatStep}
-use Rattle.history.specs.Lent.{Cabinet, Keeps, Lends, leaves, next}
+use Rattle.history.specs.Lent.{Cabinet, nothing, takes, Lends, leaves, next}
 
 -- "The moves of a growth are the sum of the counts that advance reported since that grow was accepted, no format and no further
 -- grow accepted since": the sum after an accepted call that reported k, and after any call
@@ -61,7 +61,7 @@ pub record Claim (e : Event) (a : Cabinet) (f : Flat) (sum : ℕ) : Type 0 where
   pub fields : leaves e a .state ≡ encode (flatStep (fed e) f .1 .numbers)
   -- which is good, so that refusal 1 is never given
   pub good-left : goodBytes (leaves e a .state) ≡ true
-  -- a refused call leaves the record, the images and the block or scratch as they were lent
+  -- a refused call leaves the record, the images and the block or scratch as they were lent (`Demand1` of crate `array`, said again)
   pub refused : accepted (leaves e a .answer) ≡ false → (leaves e a .state ≡ a .rec) × (leaves e a .images ≡ e .images) × (leaves e a .room ≡ e .room)
   -- "After a refused call the next is lent what stood before it"
   pub stays : accepted (leaves e a .answer) ≡ false → next e a ≡ a
@@ -97,13 +97,21 @@ Demand3 =
     (a : Cabinet) (f : Flat) (sum n B T : ℕ) (img room : List ℕ) → accepted (leaves (opening n B T img room) a .answer) ≡ true
     → (es : List Event) → Claims (opening n B T img room ∷ es) a f sum
 
--- A call that is lent just what stands, with or without bytes behind it, is lent what it may be: nothing that a line controller does asks more of it.
-abbrev pub WhatStands : Type 0
-WhatStands = (e : Event) (r : Record) (left behind : List ℕ) → length left ≡ size r → e .images ≡ left ++ behind → Lends e r left
+-- ---- what the premise leaves a lender free to do: e is the call, r the numbers that it is lent images by, left the images that stand
 
--- Where health is lost no disk is held to anything.
-abbrev pub AnyWhenLost : Type 0
-AnyWhenLost = (r : Record) (left lent : List ℕ) → r .health ≡ Lost → Keeps r left lent
+pub record MayBeLent (e : Event) (r : Record) (left : List ℕ) : Type 0 where
+  -- what stands, with or without bytes behind it
+  pub what-stands : (behind : List ℕ) → length left ≡ size r → e .images ≡ left ++ behind → Lends e r left
+  -- "Format may be lent any images instead"
+  pub any-format : (n B T : ℕ) → e .call ≡ format n B T → Lends e r left
+  -- "any call that is lent images may be lent a length that refusal 7 turns away"
+  pub any-length : (c : ℕ) → refusal r c (fed e) ≡ 7 → Lends e r left
+  -- "disk d may hold any bytes"
+  pub any-out : (o : ℕ) → r .health ≡ Out o → ((S d : ℕ) → S < r .stripes → d < disksOf r → d ≢ o → placeIn r (e .images) S d ≡ placeIn r left S d) → Lends e r left
+  -- and where two disks are out, any disk may
+  pub any-lost : r .health ≡ Lost → Lends e r left
+  -- calls that take no images do not look at any
+  pub no-images : takes (e .call) r ≡ nothing → Lends e r left
 
 -- ---- in short: the answers of a fair history, and the record's bytes after each call, are those of the flat list
 
@@ -125,8 +133,8 @@ FlatList =
     → (es : List Event) → Fair (opening n B T img room ∷ es) a f
     → answers (opening n B T img room ∷ es) a ≡ flatAnswers (map fed (opening n B T img room ∷ es)) f
 
--- ---- in the mills' words: the flat list is, "zero at first, of what each block was last given". (Said of the flat list, whose answers are the
--- array's, and so is what follows.)
+-- ---- in the mills' words: the flat list is, "zero at first, of what each block was last given". (This and the rest is
+-- said of the flat list; by `FlatList` it holds of the array.)
 
 -- no call of a list gives block b anything: no format and no write of b is accepted
 unfoldable pub NotGiven : ℕ → List Fed → Flat → Type 0
@@ -152,7 +160,7 @@ LastGiven =
     let y = flatStep (record { call = write b v; images = len; room = room }) f in
     accepted (y .0) ≡ true → (es : List Fed) → NotGiven b es (y .1) → Gives b v (behind es (y .1))
 
--- a block that is new at the end of a growth too
+-- a block that was given nothing since the format reads as zeroes; so does one that is new at the end of a growth
 abbrev pub ZeroAtFirst : Type 0
 ZeroAtFirst =
     (f : Flat) (n B T len room : ℕ) →

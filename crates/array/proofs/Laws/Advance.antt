@@ -132,7 +132,7 @@ module _ (r : Record) (img : List ℕ) (good : Good (geometry r)) (busy : idle (
   abbrev g : Geometry
   g = geometry r
 
-  c : Carries (disksOf r) (r .stripes) (standing g) (standing (after g)) (nextStripe g) (nextFrom g) (nextTo g)
+  pub c : Carries (disksOf r) (r .stripes) (standing g) (standing (after g)) (nextStripe g) (nextFrom g) (nextTo g)
   c = carries g good (some-left g good busy)
 
   abbrev J : List ℕ
@@ -150,7 +150,7 @@ module _ (r : Record) (img : List ℕ) (good : Good (geometry r)) (busy : idle (
   pub long-move : length J ≡ size (moved r)
   long-move = length-stored (r .block) (r .stripes) (moveStores r img) img ∙ long
 
-  cell-move : (j : ℕ) → j < r .block → (S d : ℕ) → S < r .stripes → cellIn r J j S d ≡ carry (cellIn r img j) (nextStripe g) (nextFrom g) (nextTo g) S d
+  pub cell-move : (j : ℕ) → j < r .block → (S d : ℕ) → S < r .stripes → cellIn r J j S d ≡ carry (cellIn r img j) (nextStripe g) (nextFrom g) (nextTo g) S d
   unfolding moveStores column
   cell-move j lj S d lS =
       cell-stored (r .block) (r .stripes) (disksOf r) (moveStores r img) img within-move long j S d lj lS

@@ -29,7 +29,7 @@ use Rattle.array.proofs.Laws.Advance.{advances}
 use Rattle.array.proofs.Laws.Out.{outs}
 use Rattle.array.proofs.Laws.Rebuild.{rebuilds}
 use Rattle.history.specs.Flat.{Flat, flat, fallen, flatAct, flatSettle, flatStep}
-use Rattle.history.specs.Lent.{Cabinet, takes, Keeps, Lends, leaves, stands, next}
+use Rattle.history.specs.Lent.{Cabinet, takes, Keeps, Lends, leaves, imagesAfter, next}
 
 -- ---- an accepted call
 
@@ -38,7 +38,7 @@ pub record Acted (c : Call) (x : Left Record) (r : Record) (before : List ℕ) (
   pub answer : x .answer ≡ y .0
   pub taken : accepted (y .0) ≡ true
   pub state : x .state ≡ y .1 .numbers
-  pub holding : Holding (y .1 .numbers) (stands true (takes c r) before (x .images)) (y .1 .blocks)
+  pub holding : Holding (y .1 .numbers) (imagesAfter true (takes c r) before (x .images)) (y .1 .blocks)
 
 -- places that are kept are kept byte by byte
 kept-bytes : (r : Record) (left lent : List ℕ) → Keeps r left lent → Kept r left lent
@@ -64,7 +64,7 @@ module _ (r : Record) (left : List ℕ) (bs : List (List ℕ)) (h : Holding r le
   lent k z = relends r left bs h img z (kept-bytes r left img (k z))
 
   -- a call that takes images leaves them standing
-  left-by : (c : Call) {x : Left Record} {a : Answer} {r′ : Record} {cs : List (List ℕ)} → stands true (takes c r) left (x .images) ≡ x .images → accepted a ≡ true
+  left-by : (c : Call) {x : Left Record} {a : Answer} {r′ : Record} {cs : List (List ℕ)} → imagesAfter true (takes c r) left (x .images) ≡ x .images → accepted a ≡ true
       → Leaves x a r′ cs → Acted c x r left (a, flat r′ cs)
   left-by c same ok l = record { answer = l .answer; taken = ok; state = l .state; holding = rw same (l .holding) }
 
@@ -98,7 +98,7 @@ cabinet r left = record { rec = encode r; img = left }
 record Settled (e : Event) (b before : List ℕ) (x : Left (List ℕ)) (y : Answer × Flat) : Type 0 where
   answer : x .answer ≡ y .0
   fields : x .state ≡ encode (y .1 .numbers)
-  holding : Holding (y .1 .numbers) (stands (accepted (x .answer)) (takes (e .call) (decode b)) before (x .images)) (y .1 .blocks)
+  holding : Holding (y .1 .numbers) (imagesAfter (accepted (x .answer)) (takes (e .call) (decode b)) before (x .images)) (y .1 .blocks)
 
 module _ (r : Record) (left : List ℕ) (bs : List (List ℕ)) (h : Holding r left bs) (e : Event) (l : Lends e r left) where
   abbrev f : Flat

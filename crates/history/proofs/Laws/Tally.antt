@@ -4,12 +4,11 @@ use mathlib.Core.Path.{_≡_, refl, sym, _∙_}
 use mathlib.Core.Bool.{true}
 use mathlib.Core.Logic.{_↔_, _≢_}
 use mathlib.Core.List.{List}
-use native.Mathlib.Omega.{arith}
 use lib.ListN.{length}
 use Rattle.layout.specs.declared.Geometry.{Geometry}
 use Rattle.layout.specs.Layout.{totalOf}
 use Rattle.state.specs.declared.Record.{Record}
-use Rattle.array.specs.Call.{Call, format, read, view, write, grow, advance, out, rebuild, status, locate, owner, Fed, Answer, refused}
+use Rattle.array.specs.Call.{Call, format, read, view, write, grow, advance, out, rebuild, status, locate, owner, Fed, Answer}
 use Rattle.array.specs.Table.{idle, refusal}
 use Rattle.array.proofs.Laws.Table.{none-left, over}
 use Rattle.history.specs.Flat.{Flat, flatAct, flatSettle, flatStep}
