@@ -12,7 +12,7 @@ use Rattle.array.specs.Table.{idle, formable, table, rowsBytes, refusal, refusa
 use Rattle.array.specs.Effect.{viewOf, scratchLeft, writeStores, moveStores, advanceStores, effect, calledBytes}
 use Rattle.history.specs.Flat.{flatAct, flatStep}
 use Rattle.history.specs.Lent.{takes, next}
-use Rattle.history.specs.Theorem.{answers, flatAnswers}
+use Rattle.history.specs.Theorem.{outcomes, flatOutcomes}
 use Rattle.history.specs.Sample.{junk, play, Sample}
 
 pub sample : Sample
@@ -22,5 +22,5 @@ unfolding dataDisk homeStripe homeDisk rankOf homeBlock homeOwner moveZone moveT
     newGood movesGood good decode plain encode
     seen stored recorded fillDisk zeroDisks idle formable table rowsBytes refusal refusalBytes
     viewOf scratchLeft writeStores moveStores advanceStores effect calledBytes
-    flatAct flatStep takes next answers flatAnswers junk play
+    flatAct flatStep takes next outcomes flatOutcomes junk play
 sample = record { array = refl; flat-list = refl }

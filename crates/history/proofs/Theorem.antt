@@ -37,7 +37,7 @@ use Rattle.array.proofs.Laws.Sound.{sound}
 use Rattle.array.proofs.Laws.Advance.{parity-kept}
 use Rattle.history.specs.Flat.{Flat, flatAct, flatSettle, flatStep}
 use Rattle.history.specs.Lent.{Cabinet, Takes, nothing, anything, those, takes, Keeps, Lent, Lends, leaves, imagesAfter, next}
-use Rattle.history.specs.Theorem.{tally, Claim, Claims, opening, Demand3, MayBeLent, Fair, answers, flatAnswers, FlatList, LastGiven, ZeroAtFirst, SecondOut}
+use Rattle.history.specs.Theorem.{tally, Claim, Claims, opening, Demand3, MayBeLent, Fair, outcomes, flatOutcomes, FlatList, LastGiven, ZeroAtFirst, SecondOut}
 use Rattle.history.proofs.Laws.Step.{Alike, Holds, alike, opens}
 use Rattle.history.proofs.Laws.Asked.{asked}
 use Rattle.history.proofs.Laws.Last.{gives, is-written, is-zero}
@@ -241,15 +241,15 @@ module _ (e : Event) (r : Record) (left : List ℕ) where
 outcome : {x x′ : Answer} {r r′ : List ℕ} {l l′ : List (Answer × List ℕ)} → x ≡ x′ → r ≡ r′ → l ≡ l′ → _≡_ {A = List (Answer × List ℕ)} ((x, r) ∷ l) ((x′, r′) ∷ l′)
 outcome p q t = λ i. (p i, q i) ∷ t i
 
-same-answers : (es : List Event) (a : Cabinet) (f : Flat) (sum : ℕ) → Claims es a f sum → Fair es a f → answers es a ≡ flatAnswers (map fed es) f
-unfolding Claims Fair answers flatAnswers
-same-answers [] a f sum h l = refl
-same-answers (e ∷ es) a f sum h l =
+same-outcomes : (es : List Event) (a : Cabinet) (f : Flat) (sum : ℕ) → Claims es a f sum → Fair es a f → outcomes es a ≡ flatOutcomes (map fed es) f
+unfolding Claims Fair outcomes flatOutcomes
+same-outcomes [] a f sum h l = refl
+same-outcomes (e ∷ es) a f sum h l =
     let after : ℕ = tally (e .call) (leaves e a .answer) sum in
-    outcome (h (l .0) .0 .answer) (h (l .0) .0 .fields) (same-answers es (next e a) (flatStep (fed e) f .1) after (h (l .0) .1) (l .1))
+    outcome (h (l .0) .0 .answer) (h (l .0) .0 .fields) (same-outcomes es (next e a) (flatStep (fed e) f .1) after (h (l .0) .1) (l .1))
 
 pub flat-list : FlatList
-flat-list a f n B T img room u es l = same-answers (opening n B T img room ∷ es) a f 0 (demand3 a f 0 n B T img room u es) l
+flat-list a f n B T img room u es l = same-outcomes (opening n B T img room ∷ es) a f 0 (demand3 a f 0 n B T img room u es) l
 
 -- ---- what a block was last given
 

@@ -12,7 +12,7 @@ use Rattle.state.specs.Bytes.{decode}
 use Rattle.array.specs.Call.{Call, format, read, view, write, grow, advance, out, rebuild, status, locate, owner, Event, fed, Answer, refused, done, bytes, made, figures, placed, owned}
 use Rattle.history.specs.Flat.{Flat, flat}
 use Rattle.history.specs.Lent.{Cabinet, next}
-use Rattle.history.specs.Theorem.{answers, flatAnswers}
+use Rattle.history.specs.Theorem.{outcomes, flatOutcomes}
 
 -- ---- a script
 
@@ -279,6 +279,6 @@ expected =
 
 pub record Sample : Type 0 where
   -- the array, on its bytes
-  pub array : answers (play script cabinet) cabinet ≡ expected
+  pub array : outcomes (play script cabinet) cabinet ≡ expected
   -- the flat list, fed the calls and the lengths
-  pub flat-list : flatAnswers (map fed (play script cabinet)) list ≡ expected
+  pub flat-list : flatOutcomes (map fed (play script cabinet)) list ≡ expected

@@ -119,19 +119,19 @@ unfoldable pub Fair : List Event → Cabinet → Flat → Type 0
 Fair [] a f = Unit
 Fair (e ∷ es) a f = Lends e (f .numbers) (a .img) × Fair es (next e a) (flatStep (fed e) f .1)
 
-unfoldable pub answers : List Event → Cabinet → List (Answer × List ℕ)
-answers [] a = []
-answers (e ∷ es) a = (leaves e a .answer, leaves e a .state) ∷ answers es (next e a)
+unfoldable pub outcomes : List Event → Cabinet → List (Answer × List ℕ)
+outcomes [] a = []
+outcomes (e ∷ es) a = (leaves e a .answer, leaves e a .state) ∷ outcomes es (next e a)
 
-unfoldable pub flatAnswers : List Fed → Flat → List (Answer × List ℕ)
-flatAnswers [] f = []
-flatAnswers (e ∷ es) f = let y = flatStep e f in (y .0, encode (y .1 .numbers)) ∷ flatAnswers es (y .1)
+unfoldable pub flatOutcomes : List Fed → Flat → List (Answer × List ℕ)
+flatOutcomes [] f = []
+flatOutcomes (e ∷ es) f = let y = flatStep e f in (y .0, encode (y .1 .numbers)) ∷ flatOutcomes es (y .1)
 
 abbrev pub FlatList : Type 0
 FlatList =
     (a : Cabinet) (f : Flat) (n B T : ℕ) (img room : List ℕ) → accepted (leaves (opening n B T img room) a .answer) ≡ true
     → (es : List Event) → Fair (opening n B T img room ∷ es) a f
-    → answers (opening n B T img room ∷ es) a ≡ flatAnswers (map fed (opening n B T img room ∷ es)) f
+    → outcomes (opening n B T img room ∷ es) a ≡ flatOutcomes (map fed (opening n B T img room ∷ es)) f
 
 -- ---- in the mills' words: the flat list is, "zero at first, of what each block was last given". (This and the rest is
 -- said of the flat list; by `FlatList` it holds of the array.)
