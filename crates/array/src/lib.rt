@@ -1,1 +1,1 @@
-// The calls on an array.
+// The calls on an array: definitions and theorems, no code yet.

@@ -36,14 +36,6 @@ store-one (x ∷ l) zero v = rw (store-nil l zero)
 pub store-snoc : (l : List ℕ) (at : ℕ) (b : List ℕ) (v : ℕ) → store l at (b ++ (v ∷ [])) ≡ set (store l at b) (at + length b) v
 store-snoc l at b v = store-append l at b (v ∷ []) ∙ store-one (store l at b) (at + length b) v
 
--- a second store in the same place
-pub store-store : (l : List ℕ) (at : ℕ) (a b : List ℕ) → length a ≡ length b → store (store l at a) at b ≡ store l at b
-store-store [] at a b e = refl
-store-store (x ∷ l) (suc at) a b e = ap (λ (r : List ℕ). x ∷ r) (store-store l at a b e)
-store-store (x ∷ l) zero [] b e = refl
-store-store (x ∷ l) zero (y ∷ a) [] e = absurd (omega arith)
-store-store (x ∷ l) zero (y ∷ a) (z ∷ b) e = ap (λ (r : List ℕ). z ∷ r) (store-store l zero a b (omega arith))
-
 -- two stores apart from each other, in either order
 pub store-comm : (l : List ℕ) (at : ℕ) (a : List ℕ) (at′ : ℕ) (b : List ℕ) → at + length a ≤ at′ → store (store l at a) at′ b ≡ store (store l at′ b) at a
 store-comm [] at a at′ b h = refl
@@ -93,13 +85,6 @@ blockAt-before (x ∷ l) (suc at) b zero (suc n) h = ap (λ (r : List ℕ). x �
 pub blockAt-other : (l : List ℕ) (at : ℕ) (b : List ℕ) (at′ n : ℕ) → Apart at (length b) at′ n → blockAt (store l at b) at′ n ≡ blockAt l at′ n
 blockAt-other l at b at′ n (inl h) = ap (take n) (drop-store l at b at′ h)
 blockAt-other l at b at′ n (inr h) = blockAt-before l at b at′ n h
-
--- storing what is there changes nothing
-pub store-blockAt : (l : List ℕ) (at n : ℕ) → store l at (blockAt l at n) ≡ l
-store-blockAt [] at n = refl
-store-blockAt (x ∷ l) (suc at) n = ap (λ (r : List ℕ). x ∷ r) (store-blockAt l at n)
-store-blockAt (x ∷ l) zero zero = refl
-store-blockAt (x ∷ l) zero (suc n) = ap (λ (r : List ℕ). x ∷ r) (store-blockAt l zero n)
 
 -- one byte, apart from a store
 pub set-store : (l : List ℕ) (at : ℕ) (b : List ℕ) (i v : ℕ) → (i < at) ⊎ (at + length b ≤ i) → set (store l at b) i v ≡ store (set l i v) at b

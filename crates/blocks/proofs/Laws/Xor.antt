@@ -1,12 +1,12 @@
--- Xor is a commutative group on numbers and, byte by byte, on blocks of one length; the xor of a list of blocks. Assumes nothing.
+-- Xor on numbers and, byte by byte, on blocks: associative, commutative, its length and its bytes; the xor of a list of blocks. Assumes nothing.
 use Prim.Native.Nat.{ℕ, zero, suc, _+_, _*_, _/_, _%_, _≤_, _<_}
 use mathlib.Core.Path.{_≡_, refl, sym, ap, ap₂, _∙_}
 use mathlib.Core.List.{List, [], _∷_, _++_}
 use native.Mathlib.Nat.{mod-lt, zero-lt-suc}
 use native.Mathlib.Omega.{arith}
 use lib.Arith.{bin-ind}
-use lib.Bits.{bitXor, differ, xor-step, xor-shr, xor-mod, xor-self, xor-comm, xor-zero-r}
-use lib.ListN.{length, getD, set, length-replicate}
+use lib.Bits.{bitXor, differ, xor-step, xor-shr, xor-mod, xor-comm, xor-zero-r}
+use lib.ListN.{length, getD}
 use Rattle.blocks.specs.Block.{zeros}
 use Rattle.blocks.specs.Xor.{xorB, xorAll, without}
 
@@ -52,21 +52,6 @@ xorB-assoc (x ∷ a) [] c = refl
 xorB-assoc (x ∷ a) (y ∷ b) [] = refl
 xorB-assoc (x ∷ a) (y ∷ b) (z ∷ c) = ap₂ (λ (h : ℕ) (t : List ℕ). h ∷ t) (xor-assoc x y z) (xorB-assoc a b c)
 
-pub xorB-left-comm : (a b c : List ℕ) → xorB a (xorB b c) ≡ xorB b (xorB a c)
-xorB-left-comm a b c = sym (xorB-assoc a b c) ∙ ap (λ (t : List ℕ). xorB t c) (xorB-comm a b) ∙ xorB-assoc b a c
-
-pub xorB-self : (a : List ℕ) → xorB a a ≡ zeros (length a)
-xorB-self [] = refl
-xorB-self (x ∷ a) = ap₂ (λ (h : ℕ) (t : List ℕ). h ∷ t) (xor-self x) (xorB-self a)
-
-pub xorB-zeros : (n : ℕ) (a : List ℕ) → n ≤ length a → xorB (zeros n) a ≡ a
-xorB-zeros zero a h = refl
-xorB-zeros (suc n) [] h = absurd (omega arith)
-xorB-zeros (suc n) (x ∷ a) h = ap (λ (t : List ℕ). x ∷ t) (xorB-zeros n a (omega arith))
-
-pub xorB-cancel : (a b : List ℕ) → length a ≤ length b → xorB a (xorB a b) ≡ b
-xorB-cancel a b h = rw (← xorB-assoc a a b, xorB-self a, xorB-zeros (length a) b h)
-
 -- the shorter of two counts as if zeroes followed it
 pub length-xorB-short : (a b : List ℕ) (n : ℕ) → length a ≡ n → length b ≤ n → length (xorB a b) ≡ n
 length-xorB-short [] [] n p q = p
@@ -95,33 +80,6 @@ getD-zeros (suc n) (suc j) = getD-zeros n j
 pub xorAll-snoc : (n : ℕ) (xs : List (List ℕ)) (y : List ℕ) → xorAll n (xs ++ (y ∷ [])) ≡ xorB (xorAll n xs) y
 xorAll-snoc n [] y = xorB-comm y (zeros n)
 xorAll-snoc n (x ∷ xs) y = ap (xorB x) (xorAll-snoc n xs y) ∙ sym (xorB-assoc x (xorAll n xs) y)
-
--- one taken out
-pub xorAll-without : (n : ℕ) (xs : List (List ℕ)) (i : ℕ) → xorAll n xs ≡ xorB (getD xs i []) (xorAll n (without xs i))
-xorAll-without n [] i = refl
-xorAll-without n (x ∷ xs) zero = refl
-xorAll-without n (x ∷ xs) (suc i) = ap (xorB x) (xorAll-without n xs i) ∙ xorB-left-comm x (getD xs i []) (xorAll n (without xs i))
-
--- one put in its place
-pub xorAll-set : (n : ℕ) (xs : List (List ℕ)) (i : ℕ) (y : List ℕ) → i < length xs → xorAll n (set xs i y) ≡ xorB y (xorAll n (without xs i))
-xorAll-set n [] i y h = absurd (omega arith)
-xorAll-set n (x ∷ xs) zero y h = refl
-xorAll-set n (x ∷ xs) (suc i) y h = ap (xorB x) (xorAll-set n xs i y (omega arith)) ∙ xorB-left-comm x y (xorAll n (without xs i))
-
--- at least n long, since it starts from n zeroes
-length-xorB-le : (a b : List ℕ) → length b ≤ length (xorB a b)
-length-xorB-le [] b = omega arith
-length-xorB-le (x ∷ a) [] = omega arith
-length-xorB-le (x ∷ a) (y ∷ b) = omega (arith, length-xorB-le a b)
-
-pub xorAll-long : (n : ℕ) (xs : List (List ℕ)) → n ≤ length (xorAll n xs)
-xorAll-long n [] = omega (arith, length-replicate {A = ℕ} n 0)
-xorAll-long n (x ∷ xs) = omega (arith, length-xorB-le x (xorAll n xs), xorAll-long n xs)
-
--- of blocks of n bytes, n long
-pub length-xorAll : (n : ℕ) (xs : List (List ℕ)) → ((i : ℕ) → i < length xs → length (getD xs i []) ≡ n) → length (xorAll n xs) ≡ n
-length-xorAll n [] h = length-replicate n 0
-length-xorAll n (x ∷ xs) h = length-xorB x (xorAll n xs) n (h zero (omega arith)) (length-xorAll n xs (λ i lt. h (suc i) (omega arith)))
 
 -- ---- a list of blocks that grows at its end, without its i-th
 

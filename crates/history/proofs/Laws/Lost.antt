@@ -1,7 +1,7 @@
 -- Two disks out: the flat list stands still, and every read is refused 2, until a format is accepted. Assumes nothing.
 use Prim.Native.Nat.{ℕ, zero, suc}
 use mathlib.Core.Path.{_≡_, refl, sym, ap, _∙_, subst}
-use mathlib.Core.Bool.{Bool, true, false, cond, not}
+use mathlib.Core.Bool.{true, false, cond, not}
 use mathlib.Core.List.{List, [], _∷_}
 use native.Mathlib.Omega.{arith}
 use lib.ListN.{length}
@@ -14,10 +14,6 @@ use Rattle.array.specs.Health.{isLost, withHealth}
 use Rattle.array.specs.Table.{table, refusal}
 use Rattle.history.specs.Flat.{Flat, flatAct, flatSettle, flatStep}
 use Rattle.history.specs.Theorem.{NoReads}
-
--- row 2 behind row 1
-second-row : (bad lost : Bool) (w : ℕ) → bad ≡ false → lost ≡ true → cond bad 1 (cond lost 2 w) ≡ 2
-second-row bad lost w p q = rw (p, q) refl
 
 -- a good record stays good when it is lost
 good-lost : (r : Record) → good r ≡ true → good (withHealth r Lost) ≡ true
@@ -50,19 +46,17 @@ module _ (f : Flat) where
     abbrev call : Call → Fed
     call c = record { call = c; images = len; room = room }
 
-    good-row : not (good (f .numbers)) ≡ false
-    good-row = ap not g
-
-    lost-row : isLost (f .numbers .health) ≡ true
-    lost-row = ap isLost h
+    -- the number of a call whose rows begin with 1 and 2
+    is-2 : (w : ℕ) → cond (not (good (f .numbers))) 1 (cond (isLost (f .numbers .health)) 2 w) ≡ 2
+    is-2 w = rw (g, h) refl
 
     no-read : (b : ℕ) → R (call (read b)) ≡ 2
     unfolding refusal table
-    no-read b = second-row (not (good (f .numbers))) (isLost (f .numbers .health)) _ good-row lost-row
+    no-read b = is-2 _
 
     no-view : (b : ℕ) → R (call (view b)) ≡ 2
     unfolding refusal table
-    no-view b = second-row (not (good (f .numbers))) (isLost (f .numbers .health)) _ good-row lost-row
+    no-view b = is-2 _
 
     -- a format that is refused leaves the list
     no-format : (n B T : ℕ) → accepted (flatStep (call (format n B T)) f .0) ≡ false → flatStep (call (format n B T)) f .1 ≡ f
@@ -78,11 +72,11 @@ module _ (f : Flat) where
     frozen (format n B T) u = no-format n B T (u n B T refl)
     frozen (read b) u = quiet (call (read b)) refl
     frozen (view b) u = quiet (call (view b)) refl
-    frozen (write b v) u = given (call (write b v)) 1 (second-row (not (good (f .numbers))) (isLost (f .numbers .health)) _ good-row lost-row) .1
-    frozen (grow m) u = given (call (grow m)) 1 (second-row (not (good (f .numbers))) (isLost (f .numbers .health)) _ good-row lost-row) .1
-    frozen (advance k) u = given (call (advance k)) 1 (second-row (not (good (f .numbers))) (isLost (f .numbers .health)) _ good-row lost-row) .1
-    frozen (out d) u = given (call (out d)) 1 (second-row (not (good (f .numbers))) (isLost (f .numbers .health)) _ good-row lost-row) .1
-    frozen (rebuild d) u = given (call (rebuild d)) 1 (second-row (not (good (f .numbers))) (isLost (f .numbers .health)) _ good-row lost-row) .1
+    frozen (write b v) u = given (call (write b v)) 1 (is-2 _) .1
+    frozen (grow m) u = given (call (grow m)) 1 (is-2 _) .1
+    frozen (advance k) u = given (call (advance k)) 1 (is-2 _) .1
+    frozen (out d) u = given (call (out d)) 1 (is-2 _) .1
+    frozen (rebuild d) u = given (call (rebuild d)) 1 (is-2 _) .1
     frozen status u = quiet (call status) refl
     frozen (locate b) u = quiet (call (locate b)) refl
     frozen (owner S d) u = quiet (call (owner S d)) refl
