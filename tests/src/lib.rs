@@ -1,6 +1,17 @@
 //! What the proved crates are held to when they are run: models written from document 01, that share no code and no
-//! formula with them, and the little that the tests need to run a program and to draw random numbers.
+//! formula with them, and the little that the tests need to run a program, to lend memory and to draw random numbers.
 
+pub mod array;
+pub mod caller;
+pub mod compile;
+pub mod flat;
+pub mod history;
+pub mod images;
+pub mod layout;
+pub mod memory;
 pub mod moves;
+pub mod pbm;
 pub mod program;
 pub mod random;
+pub mod record;
+pub mod table;

@@ -4,7 +4,7 @@ pub struct Random(u64);
 
 impl Random {
     /// The seed of the environment, or one from the clock; printed, so that a failed run can be repeated.
-    pub fn new(test: &str) -> Random {
+    pub fn seed(test: &str) -> u64 {
         let seed = match std::env::var("SEED") {
             Ok(text) => text.parse().expect("SEED is a number"),
             Err(_) => std::time::SystemTime::now()
@@ -13,6 +13,14 @@ impl Random {
                 .as_nanos() as u64,
         };
         println!("{test}: SEED={seed}");
+        seed
+    }
+
+    pub fn new(test: &str) -> Random {
+        Random(Random::seed(test))
+    }
+
+    pub fn seeded(seed: u64) -> Random {
         Random(seed)
     }
 
@@ -26,6 +34,23 @@ impl Random {
 
     pub fn below(&mut self, limit: u64) -> u64 {
         self.word() % limit
+    }
+
+    /// True in one of so many cases.
+    pub fn one_in(&mut self, cases: u64) -> bool {
+        self.below(cases) == 0
+    }
+
+    pub fn fill(&mut self, bytes: &mut [u8]) {
+        for part in bytes.chunks_mut(8) {
+            part.copy_from_slice(&self.word().to_le_bytes()[..part.len()]);
+        }
+    }
+
+    pub fn bytes(&mut self, len: usize) -> Vec<u8> {
+        let mut bytes = vec![0; len];
+        self.fill(&mut bytes);
+        bytes
     }
 
     pub fn pick<'a, T>(&mut self, choices: &'a [T]) -> &'a T {

@@ -30,14 +30,21 @@ pub record Event : Type 0 where
   pub images : List ℕ
   pub room : List ℕ
 
+-- a call lent these (`[]` where it takes none)
+abbrev pub on : Call → List ℕ → List ℕ → Event
+on c images room = record { call = c; images = images; room = room }
+
 -- what of that the table and the flat list look at: the call and the lengths lent, and no byte of the images
 pub record Fed : Type 0 where
   pub call : Call
   pub images : ℕ
   pub room : ℕ
 
+abbrev pub feed : Call → ℕ → ℕ → Fed
+feed c images room = record { call = c; images = images; room = room }
+
 abbrev pub fed : Event → Fed
-fed e = record { call = e .call; images = length (e .images); room = length (e .room) }
+fed e = feed (e .call) (length (e .images)) (length (e .room))
 
 -- an answer: a refusal's number, or what the call reports
 pub data Answer : Type 0 where

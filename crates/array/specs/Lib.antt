@@ -6,6 +6,7 @@ pub mod Health
 pub mod Images
 pub mod Table
 pub mod Effect
+pub mod Answers
 pub mod Sound
 pub mod Theorem
 pub mod Alone

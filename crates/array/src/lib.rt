@@ -1,1 +1,74 @@
-// The calls on an array: definitions and theorems, no code yet.
+// The eleven calls on a record by value and lent slices. None requires anything: each refuses as the table of document 01 says,
+// and its contract sets answer, record and every lent slice at exit equal to what `called` of specs/Effect.antt has, refused calls
+// included. What the enums say in document 01's numbers and values is specs/Answers.antt.
+mod advancing;
+mod asking;
+mod failing;
+mod formatting;
+mod growing;
+mod health;
+mod places;
+mod reading;
+mod rebuilding;
+mod refusal;
+mod viewing;
+mod writing;
+
+pub use advancing::advance;
+pub use asking::locate;
+pub use asking::owner;
+pub use asking::status;
+pub use failing::out;
+pub use formatting::format;
+pub use growing::grow;
+use layout::Place;
+use layout::Role;
+pub use reading::read;
+pub use rebuilding::rebuild;
+use state::Health;
+use state::Record;
+pub use viewing::view;
+pub use viewing::view_choice;
+pub use writing::write;
+
+// Of format, grow, out and rebuild: the refusal's number, or the record that the call leaves.
+pub enum Changed {
+    Refused(u8),
+    Done(Record),
+}
+
+// Of advance: the moves made as well.
+pub enum Advanced {
+    Refused(u8),
+    Made { count: u64, record: Record },
+}
+
+// Of status.
+pub enum Report {
+    Refused(u8),
+    Figures {
+        capacity: u64,
+        moves: u64,
+        total: u64,
+        health: Health,
+    },
+}
+
+// Of locate.
+pub enum Located {
+    Refused(u8),
+    At(Place),
+}
+
+// Of owner.
+pub enum Owned {
+    Refused(u8),
+    By(Role),
+}
+
+// Of view, before the part is taken: it begins at this byte of the images, or it is the scratch.
+pub enum Choice {
+    Refused(u8),
+    Part(usize),
+    Scratch,
+}

@@ -1,5 +1,6 @@
-// One block inside the images: zeroed, copied, moved and xored. Bytes only; no layout and no record.
+// One block inside the images: zeroed, copied, moved and xored, and the places of a stripe. Bytes only; no layout and no record.
 mod copy;
+mod stripe;
 mod xor;
 
 pub use copy::copy_in;
@@ -7,6 +8,9 @@ pub use copy::copy_out;
 pub use copy::copy_within;
 pub use copy::move_block;
 pub use copy::zero_block;
-pub use xor::fold_write;
-pub use xor::xor_others;
+pub use stripe::fold_others;
+pub use stripe::offset_of;
+pub use stripe::rebuild_place;
+pub use stripe::xor_others;
+pub use xor::fold_parity;
 pub use xor::xor_out;

@@ -75,7 +75,7 @@ pub fn decode(bytes: &[u8]) -> Record
 }
 
 // Byte 2.
-fn health_byte(health: Health) -> u8
+pub fn health_byte(health: Health) -> u8
     ensures { λ r. ⌜ r ≡ healthByte health ⌝ }
 {
     match health {
@@ -86,7 +86,7 @@ fn health_byte(health: Health) -> u8
 }
 
 // Byte 3: zero unless a disk is out.
-fn disk_byte(health: Health) -> u8
+pub fn disk_byte(health: Health) -> u8
     ensures { λ r. ⌜ r ≡ diskByte health ⌝ }
 {
     match health {

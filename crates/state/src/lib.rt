@@ -4,7 +4,9 @@ mod bytes;
 mod good;
 
 pub use bytes::decode;
+pub use bytes::disk_byte;
 pub use bytes::encode;
+pub use bytes::health_byte;
 pub use bytes::is_plain;
 pub use good::block_is_good;
 pub use good::geometry_of;

@@ -99,7 +99,7 @@ module _ (r : Record) (img : List ℕ) where
   abbrev rest-of : ℕ → List Store → List Store
   rest-of k ps = advanceStores k (recorded ps r) (stored (r .block) (r .stripes) ps img)
 
-idle-none : (k : ℕ) (r : Record) (img : List ℕ) → idle (geometry r) ≡ true → advanceStores k r img ≡ []
+pub idle-none : (k : ℕ) (r : Record) (img : List ℕ) → idle (geometry r) ≡ true → advanceStores k r img ≡ []
 unfolding advanceStores
 idle-none zero r img q = refl
 idle-none (suc k) r img q =

@@ -46,7 +46,7 @@ module _ (n B T : ℕ) where
   abbrev r : Record
   r = formatted n B T
 
-  limits : formable n B T ≡ true → Limits r
+  pub limits : formable n B T ≡ true → Limits r
   unfolding formable
   limits f =
       let (fn, f₁) = both (oldGood n) (blockGood B && stripesGood T) f in

@@ -11,7 +11,7 @@ use Rattle.state.specs.declared.Health.the-variants.{Whole, Out, Lost}
 use Rattle.state.specs.declared.Health.{Health}
 use Rattle.state.specs.declared.Record.{Record}
 use Rattle.state.specs.Good.{geometry, newGood}
-use Rattle.array.specs.Call.{format, read, view, write, grow, advance, out, rebuild}
+use Rattle.array.specs.Call.{format, read, view, write, grow, advance, out, rebuild, status, locate, owner}
 use Rattle.array.specs.Health.{isLost, isDegraded, isOut}
 use Rattle.array.specs.Images.{disksOf, size, sizeWith}
 use Rattle.array.specs.Table.{idle, formable, word, table}
@@ -64,6 +64,18 @@ pub record Rebuilds (bad : Bool) (r : Record) (len d : ℕ) : Type 0 where
   pub good : bad ≡ false
   pub is-out : r .health ≡ Out d
   pub long : len ≡ size r
+
+pub record Asks (bad : Bool) : Type 0 where
+  pub good : bad ≡ false
+
+pub record Locates (bad : Bool) (c b : ℕ) : Type 0 where
+  pub good : bad ≡ false
+  pub block-lt : b < c
+
+pub record Owns (bad : Bool) (r : Record) (S d : ℕ) : Type 0 where
+  pub good : bad ≡ false
+  pub stripe-lt : S < r .stripes
+  pub disk-lt : d < disksOf r
 
 module _ (short bad : Bool) (r : Record) (c len room : ℕ) where
   pub formats : (n B T : ℕ) → word (table (format n B T) short bad r c len room) ≡ 0 → Formats n B T len
@@ -126,6 +138,25 @@ module _ (short bad : Bool) (r : Record) (c len room : ℕ) where
       let (p₇, z₇) = passes (not (eqb len (size r))) 6 _ z₂ in
       let (p₁₀, z₁₀) = passes (not (isOut (r .health) d)) 9 _ z₇ in
       record { good = p₁; is-out = which (r .health) d p₂ (not-false _ p₁₀); long = equal len (size r) p₇ }
+
+  pub asks : word (table status short bad r c len room) ≡ 0 → Asks (short || bad)
+  unfolding table
+  asks z = record { good = passes (short || bad) 0 _ z .0 }
+
+  pub locates : (b : ℕ) → word (table (locate b) short bad r c len room) ≡ 0 → Locates (short || bad) c b
+  unfolding table
+  locates b z =
+      let (p₁, z₁) = passes (short || bad) 0 _ z in
+      let (p₈, z₈) = passes (not (ltb b c)) 7 _ z₁ in
+      record { good = p₁; block-lt = below b c p₈ }
+
+  pub owns : (S d : ℕ) → word (table (owner S d) short bad r c len room) ≡ 0 → Owns (short || bad) r S d
+  unfolding table
+  owns S d z =
+      let (p₁, z₁) = passes (short || bad) 0 _ z in
+      let (p₈, z₈) = passes (not (ltb S (r .stripes))) 7 _ z₁ in
+      let (p₁₀, z₁₀) = passes (not (ltb d (disksOf r))) 9 _ z₈ in
+      record { good = p₁; stripe-lt = below S (r .stripes) p₈; disk-lt = below d (disksOf r) p₁₀ }
 
 pub writes : (short bad : Bool) (r : Record) (c len room b : ℕ) (v : List ℕ) → word (table (write b v) short bad r c len room) ≡ 0 → Reaches (short || bad) r c len b (length v)
 unfolding table

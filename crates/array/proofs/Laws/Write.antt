@@ -52,7 +52,7 @@ module _ (g : Geometry) (good : Good g) (b : ℕ) (lb : b < capacity g) where
   lp = theorem g good .placed .parity-lt S lS
 
   -- the parity of a block's stripe is not on its own disk
-  parity-apart : layout g .parity (layout g .place b .stripe) ≢ layout g .place b .disk
+  pub parity-apart : layout g .parity (layout g .place b .stripe) ≢ layout g .place b .disk
   parity-apart q =
       let o : layout g .owner S p ≡ Parity = theorem g good .placed .owner-of-parity S lS in
       let i : layout g .owner S d ≡ Data b = theorem g good .placed .owner-of-place b lb in

@@ -5,9 +5,9 @@ use mathlib.Core.Logic.{_⊎_, inl, inr}
 use mathlib.Core.List.{List, [], _∷_, _++_}
 use native.Mathlib.Nat.{zero-add, suc-add}
 use native.Mathlib.Omega.{arith}
-use lib.ListN.{length, getD, set, take, drop, length-drop}
+use lib.ListN.{length, getD, set, take, drop, length-drop, replicate-append-replicate}
 use lib.Seq.{length-take-le, getD-take, getD-drop}
-use Rattle.blocks.specs.Block.{blockAt, store, Apart}
+use Rattle.blocks.specs.Block.{blockAt, store, zeros, Apart}
 
 pub length-store : (l : List ℕ) (at : ℕ) (b : List ℕ) → length (store l at b) ≡ length l
 length-store [] at b = refl
@@ -35,15 +35,6 @@ store-one (x ∷ l) zero v = rw (store-nil l zero)
 -- one byte more
 pub store-snoc : (l : List ℕ) (at : ℕ) (b : List ℕ) (v : ℕ) → store l at (b ++ (v ∷ [])) ≡ set (store l at b) (at + length b) v
 store-snoc l at b v = store-append l at b (v ∷ []) ∙ store-one (store l at b) (at + length b) v
-
--- two stores apart from each other, in either order
-pub store-comm : (l : List ℕ) (at : ℕ) (a : List ℕ) (at′ : ℕ) (b : List ℕ) → at + length a ≤ at′ → store (store l at a) at′ b ≡ store (store l at′ b) at a
-store-comm [] at a at′ b h = refl
-store-comm (x ∷ l) (suc at) a zero b h = absurd (omega arith)
-store-comm (x ∷ l) (suc at) a (suc at′) b h = ap (λ (r : List ℕ). x ∷ r) (store-comm l at a at′ b (omega arith))
-store-comm (x ∷ l) zero [] at′ b h = rw (store-nil (store (x ∷ l) at′ b) zero)
-store-comm (x ∷ l) zero (y ∷ a) zero b h = absurd (omega arith)
-store-comm (x ∷ l) zero (y ∷ a) (suc at′) b h = ap (λ (r : List ℕ). y ∷ r) (store-comm l zero a at′ b (omega arith))
 
 -- behind a store all is as it was
 pub drop-store : (l : List ℕ) (at : ℕ) (b : List ℕ) (n : ℕ) → at + length b ≤ n → drop n (store l at b) ≡ drop n l
@@ -86,11 +77,6 @@ pub blockAt-other : (l : List ℕ) (at : ℕ) (b : List ℕ) (at′ n : ℕ) →
 blockAt-other l at b at′ n (inl h) = ap (take n) (drop-store l at b at′ h)
 blockAt-other l at b at′ n (inr h) = blockAt-before l at b at′ n h
 
--- one byte, apart from a store
-pub set-store : (l : List ℕ) (at : ℕ) (b : List ℕ) (i v : ℕ) → (i < at) ⊎ (at + length b ≤ i) → set (store l at b) i v ≡ store (set l i v) at b
-set-store l at b i v (inl h) = simp (← store-one) (sym (store-comm l i (v ∷ []) at b (omega arith)))
-set-store l at b i v (inr h) = simp (← store-one) (store-comm l at b i (v ∷ []) h)
-
 -- a whole list stored over another
 pub store-whole : (l b : List ℕ) → length b ≡ length l → store l 0 b ≡ b
 store-whole [] [] e = refl
@@ -112,3 +98,7 @@ take-short (suc n) (x ∷ l) = omega (arith, take-short n l)
 -- shorter only where the list ends
 pub blockAt-short : (l : List ℕ) (at n : ℕ) → length (blockAt l at n) ≤ n
 blockAt-short l at n = take-short n (drop at l)
+
+-- a block of zeroes is two, one behind the other
+pub zeros-append : (a b : ℕ) → zeros (a + b) ≡ zeros a ++ zeros b
+zeros-append a b = sym (replicate-append-replicate a b 0)

@@ -2,7 +2,8 @@
 use Prim.Native.Nat.{ℕ, _+_, _≤_, _<_, zero-le}
 use mathlib.Core.Path.{_≡_, refl, sym, ap, ap₂, _∙_, subst}
 use mathlib.Core.Logic.{_⊎_, inl, inr}
-use mathlib.Core.List.{List, []}
+use mathlib.Core.List.{List}
+use native.Mathlib.Decide.{ℕ-discrete}
 use native.Mathlib.Nat.{zero-add}
 use native.Mathlib.Numerals.{add-one}
 use native.Mathlib.Omega.{arith}
@@ -10,9 +11,12 @@ use lib.Bits.{bitXor}
 use lib.ListN.{length, getD, set, take, length-set}
 use lib.Seq.{take-suc, take-all, length-take-le}
 use Rattle.blocks.specs.Block.{Apart, store, blockAt}
-use Rattle.blocks.specs.Xor.{xorB, folded}
-use Rattle.blocks.proofs.Laws.Block.{store-nil, store-snoc, set-store, getD-store-other, store-whole, getD-blockAt, length-blockAt}
+use Rattle.blocks.specs.Xor.{xorB}
+use Rattle.blocks.specs.Stripe.{offset, others}
+use Rattle.blocks.proofs.Laws.Block.{store-nil, store-snoc, getD-store-other, store-whole, getD-blockAt, length-blockAt}
 use Rattle.blocks.proofs.Laws.Xor.{getD-xorB, length-xorB}
+use Rattle.blocks.proofs.Laws.Rows.{rest-ext}
+use Rattle.blocks.proofs.Laws.Stripe.{cell, byte-apart, getD-others}
 
 -- after i turns l is l₀ with the first i bytes of b, which has n, stored from `at` on
 pub record Filled (l₀ : List ℕ) (at : ℕ) (b : List ℕ) (n : ℕ) (l : List ℕ) (i : ℕ) : Type 0 where
@@ -53,16 +57,15 @@ outside : {at n from i : ℕ} → Apart at n from n → i < n → (from + i < at
 outside (inl h) lt = inr (omega arith)
 outside (inr h) lt = inl (omega arith)
 
-beside : {at n from i : ℕ} → Apart at n from n → i < n → (at + i < from) ⊎ (from + i ≤ at + i)
-beside (inl h) lt = inl (omega arith)
-beside (inr h) lt = inr (omega arith)
+pub filled-apart : {l₀ : List ℕ} {at from : ℕ} {b : List ℕ} {n : ℕ} {l : List ℕ} {i : ℕ} → Apart at n from n → i < n → Filled l₀ at b n l i → getD l (from + i) 0 ≡ getD (blockAt l₀ from n) i 0
+filled-apart {l₀} {at} {from} {b} {n} {l} {i} apart lt f = filled-other f (from + i) (outside apart lt) ∙ sym (getD-blockAt l₀ from n i lt)
 
 -- ---- a turn of each loop: the byte that it stores is the block's
 
 -- a copy within the list
 pub copied-more : {l₀ : List ℕ} {to from n : ℕ} {l : List ℕ} {i : ℕ} → Apart to n from n → i < n → Filled l₀ to (blockAt l₀ from n) n l i
     → Filled l₀ to (blockAt l₀ from n) n (set l (to + i) (getD l (from + i) 0)) (i + 1)
-copied-more {l₀} {to} {from} {n} {l} {i} apart lt f = filled-more f lt (filled-other f (from + i) (outside apart lt) ∙ sym (getD-blockAt l₀ from n i lt))
+copied-more apart lt f = filled-more f lt (filled-apart apart lt f)
 
 -- a copy out of l into a whole slice
 pub copied-out-more : (l : List ℕ) (at : ℕ) {b₀ b : List ℕ} {i : ℕ} → i < length b₀ → Filled b₀ 0 (blockAt l at (length b₀)) (length b₀) b i
@@ -75,57 +78,30 @@ pub xored-out-more : (l : List ℕ) (at : ℕ) {b₀ b : List ℕ} {i : ℕ} →
 xored-out-more l at {b₀} {b} {i} lt f =
     filled-more₀ f lt (ap₂ bitXor (filled-other f i (inr (omega arith))) (sym (getD-blockAt l at (length b₀) i lt)) ∙ sym (getD-xorB b₀ (blockAt l at (length b₀)) i))
 
--- ---- a loop that writes two blocks at once: a from p on, then b from q on, with the two apart
-pub record Filled₂ (l₀ : List ℕ) (p : ℕ) (a : List ℕ) (q : ℕ) (b : List ℕ) (n : ℕ) (l : List ℕ) (i : ℕ) : Type 0 where
-  pub is : l ≡ store (store l₀ p (take i a)) q (take i b)
-  pub size : length l ≡ length l₀
-  pub long-a : length a ≡ n
-  pub long-b : length b ≡ n
-  pub within : i ≤ n
+-- a fold of two blocks, a and d, into the block at p
+pub length-folded : (l : List ℕ) (p : ℕ) (a d : List ℕ) (n : ℕ) → p + n ≤ length l → length a ≡ n → length d ≡ n → length (xorB (xorB (blockAt l p n) a) d) ≡ n
+length-folded l p a d n h ka kd = length-xorB (xorB (blockAt l p n) a) d n (length-xorB (blockAt l p n) a n (length-blockAt l p n h) ka) kd
 
-pub filled₂-none : {l : List ℕ} {p : ℕ} {a : List ℕ} {q : ℕ} {b : List ℕ} {n : ℕ} → length a ≡ n → length b ≡ n → Filled₂ l p a q b n l 0
-filled₂-none {l} {p} {a} {q} ea eb = record { is = sym (store-nil (store l p []) q ∙ store-nil l p); size = refl; long-a = ea; long-b = eb; within = zero-le }
+pub folded-more : {l₀ : List ℕ} {p : ℕ} (a d : List ℕ) {n : ℕ} {l : List ℕ} {i x : ℕ} → i < n → Filled l₀ p (xorB (xorB (blockAt l₀ p n) a) d) n l i → x ≡ getD a i 0
+    → Filled l₀ p (xorB (xorB (blockAt l₀ p n) a) d) n (set l (p + i) (bitXor (bitXor (getD l (p + i) 0) x) (getD d i 0))) (i + 1)
+folded-more {l₀} {p} a d {n} {l} {i} {x} lt f e =
+    let old : getD l (p + i) 0 ≡ getD (blockAt l₀ p n) i 0 = filled-other f (p + i) (inr (omega arith)) ∙ sym (getD-blockAt l₀ p n i lt) in
+    filled-more f lt
+    (ap₂ (λ (y z : ℕ). bitXor (bitXor y z) (getD d i 0)) old e
+    ∙ ap (λ (y : ℕ). bitXor y (getD d i 0)) (sym (getD-xorB (blockAt l₀ p n) a i))
+    ∙ sym (getD-xorB (xorB (blockAt l₀ p n) a) d i))
 
-filled₂-more : {l₀ : List ℕ} {p : ℕ} {a : List ℕ} {q : ℕ} {b : List ℕ} {n : ℕ} {l : List ℕ} {i v w : ℕ} → Apart p n q n → i < n → Filled₂ l₀ p a q b n l i
-    → v ≡ getD a i 0 → w ≡ getD b i 0 → Filled₂ l₀ p a q b n (set (set l (p + i) v) (q + i) w) (i + 1)
-filled₂-more {l₀} {p} {a} {q} {b} {n} {l} {i} {v} {w} apart lt f ea eb =
-    let k : length (take i b) ≡ i = length-take-le i b (omega arith) in
-    record {
-      is =
-          ap (λ (r : List ℕ). set (set r (p + i) v) (q + i) w) (f .is)
-          ∙ ap (λ (r : List ℕ). set r (q + i) w) (set-store (store l₀ p (take i a)) q (take i b) (p + i) v (subst (λ (m : ℕ). (p + i < q) ⊎ (q + m ≤ p + i)) (sym k) (beside apart lt)))
-          ∙ ap (λ (r : List ℕ). set (store r q (take i b)) (q + i) w) (store-more l₀ p a i v (omega arith) ea)
-          ∙ store-more (store l₀ p (take (i + 1) a)) q b i w (omega arith) eb;
-      size = simp length-set (f .size);
-      long-a = f .long-a;
-      long-b = f .long-b;
-      within = omega arith;
-    }
+-- where the block is a place of stripe S, the turn of byte j finds that byte of all the stripe's places as it was
+pub others-kept : {l₀ b l : List ℕ} {at j : ℕ} (B T S N out p : ℕ) → S < T → j < B → at ≡ offset B T S p → Filled l₀ at b B l j
+    → getD (others B T l S N out) j 0 ≡ getD (others B T l₀ S N out) j 0
+others-kept {l₀} {b} {l} {at} {j} B T S N out p hs hj q f =
+    getD-others B T l S N out j hj ∙ rest-ext N out (cell B T l j S) (cell B T l₀ j S) (λ d hd ne. filled-other f (offset B T S d + j) (clear d (ℕ-discrete d p)))
+    ∙ sym (getD-others B T l₀ S N out j hj)
+  where
+    beside : (d : ℕ) → (offset B T S d + j < offset B T S p) ⊎ (offset B T S p + B ≤ offset B T S d + j) → (offset B T S d + j < at) ⊎ (at + j ≤ offset B T S d + j)
+    beside d (inl h) = inl (omega arith)
+    beside d (inr h) = inr (omega arith)
 
-pub filled₂-all : {l₀ : List ℕ} {p : ℕ} {a : List ℕ} {q : ℕ} {b : List ℕ} {n : ℕ} {l : List ℕ} {i : ℕ} → Filled₂ l₀ p a q b n l i → n ≤ i → l ≡ store (store l₀ p a) q b
-filled₂-all {l₀} {p} {a} {q} {b} {n} {l} {i} f h = f .is ∙ ap₂ (λ (x y : List ℕ). store (store l₀ p x) q y) (take-all i a (omega arith)) (take-all i b (omega arith))
-
-filled₂-other : {l₀ : List ℕ} {p : ℕ} {a : List ℕ} {q : ℕ} {b : List ℕ} {n : ℕ} {l : List ℕ} {i : ℕ} → Filled₂ l₀ p a q b n l i → (j : ℕ) → (j < p) ⊎ (p + i ≤ j) → (j < q) ⊎ (q + i ≤ j)
-    → getD l j 0 ≡ getD l₀ j 0
-filled₂-other {l₀} {p} {a} {q} {b} {n} {l} {i} f j hp hq =
-    ap (λ (r : List ℕ). getD r j 0) (f .is)
-    ∙ getD-store-other (store l₀ p (take i a)) q (take i b) j 0 (subst (λ (k : ℕ). (j < q) ⊎ (q + k ≤ j)) (sym (length-take-le i b (omega arith))) hq)
-    ∙ getD-store-other l₀ p (take i a) j 0 (subst (λ (k : ℕ). (j < p) ⊎ (p + k ≤ j)) (sym (length-take-le i a (omega arith))) hp)
-
--- the parity that a write leaves is as long as what is written
-pub length-folded : (l : List ℕ) (p q : ℕ) (d : List ℕ) → p + length d ≤ length l → q + length d ≤ length l → length (folded l p q d) ≡ length d
-length-folded l p q d hp hq =
-    length-xorB (xorB (blockAt l p (length d)) (blockAt l q (length d))) d (length d)
-    (length-xorB (blockAt l p (length d)) (blockAt l q (length d)) (length d) (length-blockAt l p (length d) hp) (length-blockAt l q (length d) hq)) refl
-
-pub folded-more : {l₀ : List ℕ} {p q : ℕ} {d l : List ℕ} {i : ℕ} → Apart p (length d) q (length d) → i < length d → Filled₂ l₀ p (folded l₀ p q d) q d (length d) l i
-    → Filled₂ l₀ p (folded l₀ p q d) q d (length d) (set (set l (p + i) (bitXor (bitXor (getD l (p + i) 0) (getD l (q + i) 0)) (getD d i 0))) (q + i) (getD d i 0)) (i + 1)
-folded-more {l₀} {p} {q} {d} {l} {i} apart lt f =
-    let n : ℕ = length d in
-    let old : getD l (p + i) 0 ≡ getD (blockAt l₀ p n) i 0 = filled₂-other f (p + i) (inr (omega arith)) (beside apart lt) ∙ sym (getD-blockAt l₀ p n i lt) in
-    let new : getD l (q + i) 0 ≡ getD (blockAt l₀ q n) i 0 = filled₂-other f (q + i) (outside apart lt) (inr (omega arith)) ∙ sym (getD-blockAt l₀ q n i lt) in
-    filled₂-more apart lt f
-    (ap₂ (λ (x y : ℕ). bitXor (bitXor x y) (getD d i 0)) old new
-    ∙ ap (λ (x : ℕ). bitXor x (getD d i 0)) (sym (getD-xorB (blockAt l₀ p n) (blockAt l₀ q n) i))
-    ∙ sym (getD-xorB (xorB (blockAt l₀ p n) (blockAt l₀ q n)) d i))
-    refl
+    clear : (d : ℕ) → Dec (d ≡ p) → (offset B T S d + j < at) ⊎ (at + j ≤ offset B T S d + j)
+    clear d (yes e) = inr (rw (e, q) (omega arith))
+    clear d (no ne) = beside d (byte-apart B T S p S d j hs hs hj (inr ne))

@@ -1,7 +1,7 @@
 -- The places of the images: where they lie, one byte of each, a store into one, and the xor over a stripe byte by byte. Assumes nothing.
 use Prim.Native.Nat.{ℕ, zero, suc, _+_, _*_, _≤_, _<_}
 use mathlib.Core.Path.{_≡_, refl, sym, ap, ap₂, _∙_, subst}
-use mathlib.Core.Logic.{_≢_, _⊎_, inl, inr}
+use mathlib.Core.Logic.{_≢_, _⊎_, inl, inr, ⊎-elim}
 use mathlib.Core.List.{List, [], _∷_}
 use native.Mathlib.Decide.{ℕ-discrete, decLt}
 use native.Mathlib.Nat.{mul-le-mul-right}
@@ -10,7 +10,7 @@ use lib.ListN.{length, getD, length-append, length-replicate}
 use Rattle.blocks.specs.Block.{store, Apart}
 use Rattle.blocks.specs.Xor.{xorB, xorAll, without}
 use Rattle.blocks.specs.Stripe.{offset, place, stripe, others}
-use Rattle.blocks.proofs.Laws.Block.{getD-store-other, blockAt-store, length-blockAt, getD-blockAt, blockAt-short}
+use Rattle.blocks.proofs.Laws.Block.{getD-store-other, blockAt-store, blockAt-other, length-blockAt, getD-blockAt, blockAt-short}
 use Rattle.blocks.proofs.Laws.Xor.{getD-xorB, getD-zeros, length-xorB-short, xorAll-snoc, without-snoc-same, without-snoc-other}
 use Rattle.blocks.proofs.Laws.Rows.{put, put-same, put-other, _⊕_, sum, rest, zero-r}
 use Rattle.blocks.proofs.Laws.Grid.{storeAt, storeAt-same, storeAt-row, storeAt-far}
@@ -65,6 +65,13 @@ length-place B T l S d N hs hd room = length-blockAt l (offset B T S d) B (omega
 
 pub getD-place : (B T : ℕ) (l : List ℕ) (S d j : ℕ) → j < B → getD (place B T l S d) j 0 ≡ cell B T l j S d
 getD-place B T l S d j hj = getD-blockAt l (offset B T S d) B j hj
+
+-- a store into another place leaves it
+pub place-store-other : (B T : ℕ) (l : List ℕ) (S d S′ d′ : ℕ) (v : List ℕ) → S < T → S′ < T → (S′ ≢ S) ⊎ (d′ ≢ d) → length v ≡ B
+    → place B T (store l (offset B T S′ d′) v) S d ≡ place B T l S d
+place-store-other B T l S d S′ d′ v hs hs′ ne full =
+    blockAt-other l (offset B T S′ d′) v (offset B T S d) B
+    (subst (λ (n : ℕ). Apart (offset B T S′ d′) n (offset B T S d) B) (sym full) (⊎-elim inr inl (places-apart B T S d S′ d′ hs hs′ ne)))
 
 -- a block stored into place (S, d) is that place of the grid of bytes j replaced
 pub cell-store : (B T N : ℕ) (l : List ℕ) (S d : ℕ) (v : List ℕ) (j S′ d′ : ℕ) → length l ≡ N * (T * B) → S < T → d < N → length v ≡ B → j < B → S′ < T
@@ -135,3 +142,22 @@ getD-others B T l S (suc N) d j hj = go (ℕ-discrete N d) (getD-others B T l S 
     go (no ne) ih =
         ap (λ (b : List ℕ). getD b j 0) (others-in B T l S N d ne) ∙ getD-xorB (others B T l S N d) (place B T l S N) j
         ∙ ap₂ _⊕_ ih (getD-place B T l S N j hj ∙ sym (put-other f d 0 N ne))
+
+-- a store into another stripe, or into disk d itself, leaves the xor of all but disk d's
+pub others-store : (B T : ℕ) (l : List ℕ) (S N d S′ d′ : ℕ) (v : List ℕ) → S < T → S′ < T → (S′ ≢ S) ⊎ (d′ ≡ d) → length v ≡ B
+    → others B T (store l (offset B T S′ d′) v) S N d ≡ others B T l S N d
+others-store B T l S zero d S′ d′ v hs hs′ o full = refl
+others-store B T l S (suc N) d S′ d′ v hs hs′ o full = go (ℕ-discrete N d) (others-store B T l S N d S′ d′ v hs hs′ o full)
+  where
+    l′ : List ℕ
+    l′ = store l (offset B T S′ d′) v
+
+    away : N ≢ d → (S′ ≢ S) ⊎ (d′ ≡ d) → (S′ ≢ S) ⊎ (d′ ≢ N)
+    away ne (inl n) = inl n
+    away ne (inr e) = inr (λ q. ne (sym q ∙ e))
+
+    go : Dec (N ≡ d) → others B T l′ S N d ≡ others B T l S N d → others B T l′ S (suc N) d ≡ others B T l S (suc N) d
+    go (yes e) ih = others-out B T l′ S N d e ∙ ih ∙ sym (others-out B T l S N d e)
+    go (no ne) ih =
+        others-in B T l′ S N d ne ∙ ap₂ xorB ih (place-store-other B T l S N S′ d′ v hs hs′ (away ne o) full)
+        ∙ sym (others-in B T l S N d ne)

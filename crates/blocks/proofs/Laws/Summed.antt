@@ -1,29 +1,19 @@
--- A loop over the disks of a stripe that xors their places into a block, all but one disk's. Assumes nothing.
-use Prim.Native.Nat.{ℕ, _+_, _*_, _≤_, _<_, zero-le}
+-- A loop over the disks of a stripe that xors their places, all but one disk's, into a block, and one that xors byte j of them. Assumes nothing.
+use Prim.Native.Nat.{ℕ, _+_, _≤_, _<_, zero-le}
 use mathlib.Core.Path.{_≡_, sym, ap, ap₂, _∙_}
 use mathlib.Core.Logic.{_≢_}
 use mathlib.Core.List.{List}
-use native.Mathlib.Nat.{mul-le-mul-left, le-antisymm}
+use native.Mathlib.Nat.{le-antisymm}
 use native.Mathlib.Numerals.{add-one}
 use native.Mathlib.Omega.{arith}
-use lib.ListN.{length, length-replicate}
+use lib.Bits.{bitXor}
+use lib.ListN.{length, getD, length-replicate}
 use Rattle.blocks.specs.Block.{blockAt, store, zeros}
 use Rattle.blocks.specs.Xor.{xorB}
-use Rattle.blocks.specs.Stripe.{offset, others}
+use Rattle.blocks.specs.Stripe.{offset, place, others}
 use Rattle.blocks.proofs.Laws.Block.{store-whole, length-store}
-use Rattle.blocks.proofs.Laws.Stripe.{place-in, others-in, others-out}
-
--- each number on the way to the offset of place (S, d), and the place's end, is at most L
-pub record Lies (B T S d L : ℕ) : Type 0 where
-  pub row : d * T ≤ L
-  pub index : d * T + S ≤ L
-  pub end : offset B T S d + B ≤ L
-
-pub lies : (N B T S d L : ℕ) → 1 ≤ B → S < T → N * (T * B) ≤ L → d < N → Lies B T S d L
-lies N B T S d L one hs room lt =
-    let e : offset B T S d + B ≤ N * (T * B) = place-in B T S d N hs lt in
-    let w : (d * T + S) * 1 ≤ (d * T + S) * B = mul-le-mul-left (d * T + S) one in
-    record { row = omega arith; index = omega arith; end = omega arith }
+use Rattle.blocks.proofs.Laws.Xor.{getD-xorB, getD-zeros}
+use Rattle.blocks.proofs.Laws.Stripe.{getD-place, others-in, others-out}
 
 -- after d of N turns b is the xor of the places of the first d disks but `out`
 pub record Summed (l : List ℕ) (N T S out B : ℕ) (b : List ℕ) (d : ℕ) : Type 0 where
@@ -37,11 +27,12 @@ summed-none b₀ {b} e =
 
 -- a turn that xors a place in, and one that leaves it out
 module _ {l : List ℕ} {N T S out B : ℕ} {b b′ : List ℕ} {d : ℕ} (lt : d < N) where
-  pub summed-in : d ≢ out → Summed l N T S out B b d → b′ ≡ xorB b (blockAt l (offset B T S d) (length b)) → length b′ ≡ length b → Summed l N T S out B b′ (d + 1)
-  summed-in ne f e k =
+  pub summed-in : {at : ℕ} → d ≢ out → at ≡ offset B T S d → Summed l N T S out B b d → b′ ≡ xorB b (blockAt l at (length b)) → length b′ ≡ length b → Summed l N T S out B b′ (d + 1)
+  summed-in ne p f e k =
       record {
         is =
-            e ∙ ap₂ (λ (x : List ℕ) (n : ℕ). xorB x (blockAt l (offset B T S d) n)) (f .is) (f .size)
+            e ∙ ap (λ (n : ℕ). xorB b (blockAt l n (length b))) p
+            ∙ ap₂ (λ (x : List ℕ) (n : ℕ). xorB x (blockAt l (offset B T S d) n)) (f .is) (f .size)
             ∙ sym (others-in B T l S d out ne) ∙ rw (add-one d);
         size = k ∙ f .size;
         within = omega arith;
@@ -53,3 +44,27 @@ module _ {l : List ℕ} {N T S out B : ℕ} {b b′ : List ℕ} {d : ℕ} (lt : 
 
 pub summed-all : {l : List ℕ} {N T S out B : ℕ} {b : List ℕ} {d : ℕ} → Summed l N T S out B b d → N ≤ d → b ≡ others B T l S N out
 summed-all {l} {N} {T} {S} {out} {B} {b} {d} f h = f .is ∙ ap (λ (k : ℕ). others B T l S k out) (le-antisymm (f .within) h)
+
+-- ---- the same of byte j: after d of N turns x is the xor of the bytes of the first d disks but `out`
+pub record SummedByte (l : List ℕ) (N T S out B j x d : ℕ) : Type 0 where
+  pub is : x ≡ getD (others B T l S d out) j 0
+  pub within : d ≤ N
+
+pub byte-none : {l : List ℕ} {N T S out B j : ℕ} → SummedByte l N T S out B j 0 0
+byte-none {l} {N} {T} {S} {out} {B} {j} = record { is = sym (getD-zeros B j); within = zero-le }
+
+module _ {l : List ℕ} {N T S out B j x x′ d : ℕ} (lt : d < N) where
+  pub byte-in : {at : ℕ} → j < B → d ≢ out → at ≡ offset B T S d → SummedByte l N T S out B j x d → x′ ≡ bitXor x (getD l (at + j) 0) → SummedByte l N T S out B j x′ (d + 1)
+  byte-in hj ne p f e =
+      record {
+        is =
+            e ∙ ap (λ (n : ℕ). bitXor x (getD l (n + j) 0)) p ∙ ap₂ bitXor (f .is) (sym (getD-place B T l S d j hj)) ∙ sym (getD-xorB (others B T l S d out) (place B T l S d) j)
+            ∙ ap (λ (b : List ℕ). getD b j 0) (sym (others-in B T l S d out ne)) ∙ rw (add-one d);
+        within = omega arith;
+      }
+
+  pub byte-out : d ≡ out → SummedByte l N T S out B j x d → x′ ≡ x → SummedByte l N T S out B j x′ (d + 1)
+  byte-out o f e = record { is = e ∙ f .is ∙ ap (λ (b : List ℕ). getD b j 0) (sym (others-out B T l S d out o)) ∙ rw (add-one d); within = omega arith }
+
+pub byte-all : {l : List ℕ} {N T S out B j x d : ℕ} → SummedByte l N T S out B j x d → N ≤ d → x ≡ getD (others B T l S N out) j 0
+byte-all {l} {N} {T} {S} {out} {B} {j} {x} {d} f h = f .is ∙ ap (λ (k : ℕ). getD (others B T l S k out) j 0) (le-antisymm (f .within) h)

@@ -1,0 +1,202 @@
+-- Advance, move by move: what a move asks for, the moves made so far, and that behind the last there are none. Assumes nothing.
+use Prim.Native.Nat.{ℕ, _+_, _-_, _*_, _≤_, _<_, min}
+use mathlib.Core.Path.{_≡_, refl, sym, ap, ap₂, _∙_, subst}
+use mathlib.Core.Bool.{Bool, true, false, not}
+use mathlib.Core.Logic.{_≢_, inr}
+use mathlib.Core.List.{List, [], _++_, append-nil}
+use native.Mathlib.Decide.{decLt}
+use native.Mathlib.Nat.{div-le-self}
+use native.Mathlib.Omega.{arith}
+use borrow.Author.Tests.{not-false}
+use lib.ListN.{length}
+use Rattle.layout.specs.declared.Geometry.{Geometry}
+use Rattle.layout.specs.declared.Move.{Move}
+use Rattle.layout.specs.Moves.{moveOf, total}
+use Rattle.layout.specs.Layout.{totalOf, capacity, nextStripe, nextFrom, nextTo, after}
+use Rattle.layout.specs.Limits.{Good}
+use Rattle.layout.proofs.Laws.Bounds.{products}
+use Rattle.layout.proofs.Laws.Standing.{standing, Carries, carries}
+use Rattle.blocks.specs.Block.{Apart, blockAt, store, zeros}
+use Rattle.blocks.specs.Stripe.{offset}
+use Rattle.blocks.proofs.Laws.Stripe.{place-in, places-apart}
+use Rattle.state.specs.declared.Record.{Record}
+use Rattle.state.specs.Good.{geometry, good, Limits}
+use Rattle.state.proofs.Laws.Good.{limits}
+use Rattle.array.specs.Call.{advance, feed, on, made}
+use Rattle.array.specs.Health.{withMoves}
+use Rattle.array.specs.Images.{disksOf, size, Store, stored, recorded}
+use Rattle.array.specs.Table.{idle, refusal}
+use Rattle.array.specs.Effect.{moveStores, advanceStores, effect, Left, called}
+use Rattle.array.proofs.Laws.Stores.{length-stored, stored-append}
+use Rattle.array.proofs.Laws.Table.{some-new, some-left, none-left, over}
+use Rattle.array.proofs.Laws.Passed.{Moves, moves}
+use Rattle.array.proofs.Laws.Called.{called-done}
+use Rattle.array.proofs.Laws.Advance.{advanced, carried, idle-none, advance-split}
+
+-- no array has more moves
+pub total-high : (g : Geometry) → Good g → totalOf g ≤ 268435456
+unfolding total
+total-high g good = omega (arith, div-le-self (g .stripes * g .old * g .new) (g .old + g .new), products g good .by-moves)
+
+-- ---- one move
+
+-- its places lie in the images, and apart
+pub record Step (r : Record) (x : Move) : Type 0 where
+  pub stripe-lt : x .stripe < r .stripes
+  pub from-lt : x .from < disksOf r
+  pub to-lt : x .to < disksOf r
+  pub from-in : offset (r .block) (r .stripes) (x .stripe) (x .from) + r .block ≤ size r
+  pub to-in : offset (r .block) (r .stripes) (x .stripe) (x .to) + r .block ≤ size r
+  pub apart : Apart (offset (r .block) (r .stripes) (x .stripe) (x .to)) (r .block) (offset (r .block) (r .stripes) (x .stripe) (x .from)) (r .block)
+
+module _ (r : Record) where
+  abbrev next : Move
+  next = moveOf (r .old) (r .new) (r .moves)
+
+  pub step : Limits r → idle (geometry r) ≡ false → (x : Move) → x ≡ next → Step r x
+  step l busy x e =
+      let g : Geometry = geometry r in
+      let c : Carries (disksOf r) (r .stripes) (standing g) (standing (after g)) (nextStripe g) (nextFrom g) (nextTo g) = carries g (l .array) (some-left g (l .array) busy) in
+      subst (λ (y : Move). Step r y) (sym e) record {
+        stripe-lt = c .stripe-lt;
+        from-lt = c .from-lt;
+        to-lt = c .to-lt;
+        from-in = place-in (r .block) (r .stripes) (nextStripe g) (nextFrom g) (disksOf r) (c .stripe-lt) (c .from-lt);
+        to-in = place-in (r .block) (r .stripes) (nextStripe g) (nextTo g) (disksOf r) (c .stripe-lt) (c .to-lt);
+        apart = places-apart (r .block) (r .stripes) (nextStripe g) (nextTo g) (nextStripe g) (nextFrom g) (c .stripe-lt) (c .stripe-lt) (inr (c .apart));
+      }
+
+  -- what its two stores leave
+  pub stepped : (img : List ℕ) (x : Move) → x ≡ next → {from to : ℕ} → from ≡ offset (r .block) (r .stripes) (x .stripe) (x .from) → to ≡ offset (r .block) (r .stripes) (x .stripe) (x .to)
+      → {J : List ℕ} → J ≡ store (store img to (blockAt img from (r .block))) from (zeros (r .block)) → J ≡ stored (r .block) (r .stripes) (moveStores r img) img
+  unfolding moveStores stored
+  stepped img x e ef et j =
+      j
+      ∙ ap₂ (λ (f t : ℕ). store (store img t (blockAt img f (r .block))) f (zeros (r .block)))
+      (ef ∙ ap (λ (y : Move). offset (r .block) (r .stripes) (y .stripe) (y .from)) e) (et ∙ ap (λ (y : Move). offset (r .block) (r .stripes) (y .stripe) (y .to)) e)
+
+-- ---- so many moves
+
+busy-of : (g : Geometry) → g .new ≢ 0 → g .moves < totalOf g → idle g ≡ false
+busy-of g nz h = go (idle g) refl
+  where
+    go : (b : Bool) → idle g ≡ b → b ≡ false
+    go true q = absurd (let z : g .moves ≡ totalOf g = none-left g nz q in omega arith)
+    go false q = refl
+
+one-move : (B T : ℕ) (r : Record) (img : List ℕ) → idle (geometry r) ≡ false → stored B T (advanceStores 1 r img) img ≡ stored B T (moveStores r img) img
+unfolding advanceStores stored
+one-move B T r img q =
+    subst (λ (b : Bool). stored B T (elim b as (λ y. List Store) [ true ↦ [] | false ↦ moveStores r img ++ [] ]) img ≡ stored B T (moveStores r img) img)
+    (sym q) (stored-append B T (moveStores r img) [] img)
+
+-- the record behind k moves
+state-of : (k : ℕ) (r : Record) (img : List ℕ) → Good (geometry r) → r .new ≢ 0 → recorded (advanceStores k r img) r ≡ advanced k r
+state-of k r img gd nz = carried (λ x l. Unit) (λ x l g b u. tt) k r img gd nz tt .state
+
+module _ (r : Record) (l : Limits r) (nz : r .new ≢ 0) (img : List ℕ) where
+  abbrev left : ℕ
+  left = totalOf (geometry r) - r .moves
+
+  state-within : (k : ℕ) → k ≤ left → recorded (advanceStores k r img) r ≡ withMoves r (r .moves + k)
+  state-within k h = state-of k r img (l .array) nz ∙ ap {B = Record} (λ (x : ℕ). withMoves r (r .moves + x)) (let e : min k left ≡ k = omega arith in e)
+
+  -- behind the last move there is none
+  none-behind : (j : ℕ) → advanceStores (left + j) r img ≡ advanceStores left r img
+  none-behind j =
+      let ps : List Store = advanceStores left r img in
+      let le : r .moves ≤ totalOf (geometry r) = l .array .moves in
+      let e : r .moves + left ≡ totalOf (geometry r) = omega arith in
+      let q : idle (geometry (recorded ps r)) ≡ true = subst (λ (x : Record). idle (geometry x) ≡ true) (sym (state-within left (omega arith))) (over (geometry (withMoves r (r .moves + left))) e) in
+      advance-split left j r img
+      ∙ ap (λ (x : List Store). ps ++ x) (idle-none j (recorded ps r) (stored (r .block) (r .stripes) ps img) q)
+      ∙ append-nil ps
+
+  pub as-many : (k : ℕ) → advanceStores k r img ≡ advanceStores (min k left) r img
+  as-many k = go (decLt k left)
+    where
+      go : Dec (k < left) → advanceStores k r img ≡ advanceStores (min k left) r img
+      go (yes h) = ap (λ (x : ℕ). advanceStores x r img) (let e : k ≡ min k left = omega arith in e)
+      go (no h) =
+          ap (λ (x : ℕ). advanceStores x r img) (let e : k ≡ left + (k - left) = omega arith in e) ∙ none-behind (k - left)
+          ∙ ap (λ (x : ℕ). advanceStores x r img) (let e : left ≡ min k left = omega arith in e)
+
+-- behind `done` moves of count
+pub record Made (r : Record) (img : List ℕ) (count : ℕ) (J : List ℕ) (done : ℕ) : Type 0 where
+  pub most : done ≤ count
+  pub images : J ≡ stored (r .block) (r .stripes) (advanceStores done r img) img
+  pub long : length J ≡ length img
+
+pub made-none : (r : Record) (img : List ℕ) (count : ℕ) → Made r img count img 0
+unfolding advanceStores stored
+made-none r img count = record { most = omega arith; images = refl; long = refl }
+
+module _ (r : Record) (img : List ℕ) (count : ℕ) (l : Limits r) (nz : r .new ≢ 0) (some : r .moves + count ≤ totalOf (geometry r)) (lent : length img ≡ size r) {J : List ℕ} {done : ℕ} (h : done < count) (f : Made r img count J done) where
+  abbrev now : Record
+  now = withMoves r (r .moves + done)
+
+  still : idle (geometry now) ≡ false
+  still = busy-of (geometry now) nz (let e : r .moves + done < totalOf (geometry r) = omega arith in e)
+
+  -- what the next move asks for
+  pub made-next : (x : Record) → x ≡ now → Limits x × (idle (geometry x) ≡ false) × (length J ≡ size x)
+  made-next x e =
+      let a = l .array in
+      let left : r .moves + done ≤ totalOf (geometry r) = omega arith in
+      let lim : Limits now = record {
+        array = record { disks = a .disks; stripes-low = a .stripes-low; stripes-high = a .stripes-high; moves = left; groups = a .groups };
+        block-low = l .block-low;
+        block-high = l .block-high;
+        out = l .out;
+      } in
+      subst (λ (y : Record). Limits y × (idle (geometry y) ≡ false) × (length J ≡ size y)) (sym e) (lim, still, f .long ∙ lent)
+
+  -- and what it leaves
+  pub made-more : {x : Record} {K : List ℕ} → x ≡ now → K ≡ stored (x .block) (x .stripes) (moveStores x J) J → Made r img count K (done + 1)
+  made-more {x} {K} e q =
+      let ps : List Store = advanceStores done r img in
+      let B : ℕ = r .block in
+      let T : ℕ = r .stripes in
+      let S : List ℕ = stored B T ps img in
+      let q′ : K ≡ stored B T (advanceStores (done + 1) r img) img =
+      q ∙ ap (λ (y : Record). stored (y .block) (y .stripes) (moveStores y J) J) e
+      ∙ ap (λ (y : List ℕ). stored B T (moveStores now y) y) (f .images)
+      ∙ sym (one-move B T now S still)
+      ∙ ap (λ (y : Record). stored B T (advanceStores 1 y S) S) (sym (state-within r l nz img done (omega arith)))
+      ∙ sym (stored-append B T ps (advanceStores 1 (recorded ps r) S) img)
+      ∙ ap (λ (y : List Store). stored B T y img) (sym (advance-split done 1 r img)) in
+      record { most = omega arith; images = q′; long = ap length q′ ∙ length-stored B T (advanceStores (done + 1) r img) img }
+
+-- ---- the call
+
+module _ (img : List ℕ) (r : Record) (k : ℕ) (z : refusal r (capacity (geometry r)) (feed (advance k) (length img) 0) ≡ 0) where
+  passed : Moves (not (good r)) r (length img)
+  unfolding refusal
+  passed = moves false (not (good r)) r (capacity (geometry r)) (length img) 0 k z
+
+  pub advance-limits : Limits r
+  advance-limits = limits r (not-false _ (passed .good))
+
+  -- what making count moves asks for
+  pub advance-passed : (count : ℕ) → count ≡ min k (totalOf (geometry r) - r .moves)
+      → Limits r × (r .new ≢ 0) × (r .moves + count ≤ totalOf (geometry r)) × (length img ≡ size r)
+  advance-passed count e =
+      let le : r .moves ≤ totalOf (geometry r) = advance-limits .array .moves in
+      (advance-limits, some-new (geometry r) (passed .busy), omega arith, passed .long)
+
+  abbrev leaves : ℕ → Record → List Store → Left Record
+  leaves n x ps = record { answer = made n; state = x; images = stored (r .block) (r .stripes) ps img; room = [] }
+
+  done-as : called (on (advance k) img []) r ≡ leaves (recorded (advanceStores k r img) r .moves - r .moves) (recorded (advanceStores k r img) r) (advanceStores k r img)
+  unfolding effect
+  done-as = called-done (on (advance k) img []) r z
+
+  pub advance-done : (count : ℕ) → count ≡ min k (totalOf (geometry r) - r .moves)
+      → called (on (advance k) img []) r ≡ leaves count (withMoves r (r .moves + count)) (advanceStores count r img)
+  advance-done count e =
+      let nz : r .new ≢ 0 = some-new (geometry r) (passed .busy) in
+      let x : Record = withMoves r (r .moves + count) in
+      let same : advanceStores k r img ≡ advanceStores count r img = as-many r advance-limits nz img k ∙ ap (λ (n : ℕ). advanceStores n r img) (sym e) in
+      let state : recorded (advanceStores k r img) r ≡ x = state-of k r img (advance-limits .array) nz ∙ ap {B = Record} (λ (n : ℕ). withMoves r (r .moves + n)) (sym e) in
+      let rise : r .moves + count - r .moves ≡ count = omega arith in
+      done-as ∙ ap₂ (λ (y : Record) (ps : List Store). leaves (y .moves - r .moves) y ps) state same ∙ ap (λ (n : ℕ). leaves n x (advanceStores count r img)) rise

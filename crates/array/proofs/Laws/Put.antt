@@ -1,0 +1,85 @@
+-- The stores of a write, by which of its two disks is absent. Assumes nothing.
+use Prim.Native.Nat.{ℕ, _+_, _*_, _≤_, _<_}
+use mathlib.Core.Path.{_≡_, refl, sym, ap, _∙_}
+use mathlib.Core.Bool.{Bool, true, false}
+use mathlib.Core.Logic.{inr}
+use mathlib.Core.List.{List}
+use lib.ListN.{length}
+use Rattle.layout.specs.declared.Geometry.{Geometry}
+use Rattle.layout.specs.declared.Place.{Place}
+use Rattle.layout.specs.Layout.{layout}
+use Rattle.blocks.specs.Block.{store, Apart}
+use Rattle.blocks.specs.Xor.{xorB, folded}
+use Rattle.blocks.specs.Stripe.{offset, place, others}
+use Rattle.blocks.proofs.Laws.Block.{length-store}
+use Rattle.blocks.proofs.Laws.Stripe.{place-in, places-apart}
+use Rattle.state.specs.declared.Record.{Record}
+use Rattle.state.specs.Good.{geometry}
+use Rattle.array.specs.Health.{absent}
+use Rattle.array.specs.Images.{disksOf, seen, stored}
+use Rattle.array.specs.Effect.{writeStores}
+use Rattle.array.proofs.Laws.Column.{Single}
+use Rattle.array.proofs.Laws.Holding.{single}
+use Rattle.array.proofs.Laws.Reach.{Reached, inside, summed}
+
+-- a write of v to the block at q, with the parity on disk p
+pub record Aimed (r : Record) (len b : ℕ) (v : List ℕ) (q : Place) (p : ℕ) : Type 0 where
+  pub reach : Reached r len b (length v) q
+  pub parity : p ≡ layout (geometry r) .parity (q .stripe)
+
+pub aimed : (r : Record) (len b : ℕ) (v : List ℕ) (q : Place) (p : ℕ) → Reached r len b (length v) q → (g : Geometry) → g ≡ geometry r → p ≡ layout g .parity (q .stripe)
+    → Aimed r len b v q p
+aimed r len b v q p x g e f = record { reach = x; parity = f ∙ ap (λ (x : Geometry). layout x .parity (q .stripe)) e }
+
+module _ {r : Record} {len b : ℕ} {v : List ℕ} {q : Place} {p : ℕ} (a : Aimed r len b v q p) where
+  abbrev x : Reached r len b (length v) q
+  x = a .reach
+
+  abbrev y : p ≡ layout (geometry r) .parity (q .stripe)
+  y = a .parity
+
+  pub parity-lt : p < disksOf r
+  parity-lt = rw y (x .parity-lt)
+
+  -- with the data's disk out the parity's is in
+  other-in : absent (r .health) (q .stripe) (q .disk) ≡ true → absent (r .health) (q .stripe) p ≡ false
+  unfolding Single
+  other-in u = go (absent (r .health) (q .stripe) p) refl
+    where
+      go : (c : Bool) → absent (r .health) (q .stripe) p ≡ c → c ≡ false
+      go true w = absurd (x .apart (sym y ∙ single (disksOf r) (r .stripes) (r .health) (x .here) (q .stripe) p (q .disk) w u))
+      go false w = refl
+
+  -- ---- what the folds ask for
+
+  pub sums : {N : ℕ} → N ≡ disksOf r → (1 ≤ length v) × (q .stripe < r .stripes) × (p < N) × (N * (r .stripes * length v) ≤ len)
+  sums e = let (i, s, l) = summed x e in (i, s, rw e parity-lt, l)
+
+  pub folds : {at to : ℕ} → at ≡ offset (r .block) (r .stripes) (q .stripe) (q .disk) → to ≡ offset (r .block) (r .stripes) (q .stripe) p
+      → (to + length v ≤ len) × (at + length v ≤ len) × Apart to (length v) at (length v)
+  folds f t = (
+    rw (t, x .whole, x .long) (place-in (r .block) (r .stripes) (q .stripe) p (disksOf r) (x .stripe-lt) parity-lt),
+    inside x f,
+    rw (f, t, x .whole) (places-apart (r .block) (r .stripes) (q .stripe) p (q .stripe) (q .disk) (x .stripe-lt) (x .stripe-lt) (inr (λ z. x .apart (sym y ∙ sym z)))),
+  )
+
+  -- ---- what the stores leave
+
+  pub data-out : (img : List ℕ) {N : ℕ} → N ≡ disksOf r → absent (r .health) (q .stripe) (q .disk) ≡ true
+      → store img (offset (length v) (r .stripes) (q .stripe) p) (xorB (xorB (place (length v) (r .stripes) img (q .stripe) p) (others (length v) (r .stripes) img (q .stripe) N (q .disk))) v)
+      ≡ stored (r .block) (r .stripes) (writeStores r img b v) img
+  unfolding writeStores stored seen
+  data-out img e u = rw (e, x .whole, y, x .is, rw (y, x .is) at (other-in u), rw (x .is) at u) refl
+
+  -- the data over what is left of the images by the fold, or with no fold
+  pub both-in : (img : List ℕ) {left : List ℕ} {at to : ℕ} → at ≡ offset (r .block) (r .stripes) (q .stripe) (q .disk) → to ≡ offset (r .block) (r .stripes) (q .stripe) p
+      → absent (r .health) (q .stripe) (q .disk) ≡ false → absent (r .health) (q .stripe) p ≡ false → left ≡ store img to (folded img to at v)
+      → (length left ≡ length img) × (store left at v ≡ stored (r .block) (r .stripes) (writeStores r img b v) img)
+  unfolding writeStores stored seen
+  both-in img {left} {at} {to} f t u w z = (ap length z ∙ length-store img to (folded img to at v), rw (z, f, t, x .whole, y, x .is, rw (y, x .is) at w, rw (x .is) at u) refl)
+
+  pub parity-out : (img : List ℕ) {left : List ℕ} {at : ℕ} → at ≡ offset (r .block) (r .stripes) (q .stripe) (q .disk)
+      → absent (r .health) (q .stripe) (q .disk) ≡ false → absent (r .health) (q .stripe) p ≡ true → left ≡ img
+      → (length left ≡ length img) × (store left at v ≡ stored (r .block) (r .stripes) (writeStores r img b v) img)
+  unfolding writeStores stored seen
+  parity-out img f u w z = (ap length z, rw (z, f, x .is, rw (y, x .is) at w, rw (x .is) at u) refl)

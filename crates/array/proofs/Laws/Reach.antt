@@ -1,0 +1,118 @@
+-- What a read, a view or a write stands on that the table lets through: the rows of the three are the same. Assumes nothing.
+use Prim.Native.Nat.{ℕ, _+_, _*_, _≤_, _<_}
+use mathlib.Core.Path.{_≡_, refl, sym, ap, _∙_, subst}
+use mathlib.Core.Bool.{true, false, not}
+use mathlib.Core.Logic.{_≢_}
+use mathlib.Core.List.{List}
+use native.Mathlib.Nat.{mul-le-mul}
+use native.Mathlib.Omega.{arith}
+use lib.ListN.{length}
+use borrow.Author.Tests.{not-false}
+use Rattle.layout.specs.declared.Geometry.{Geometry}
+use Rattle.layout.specs.declared.Place.{Place}
+use Rattle.layout.specs.Layout.{capacity, layout}
+use Rattle.layout.specs.Limits.{Good}
+use Rattle.blocks.specs.Block.{blockAt}
+use Rattle.blocks.specs.Stripe.{offset, others}
+use Rattle.blocks.proofs.Laws.Stripe.{place-in}
+use Rattle.state.specs.declared.Record.{Record}
+use Rattle.state.specs.Good.{geometry, good, Limits}
+use Rattle.state.proofs.Laws.Good.{limits}
+use Rattle.array.specs.declared.Choice.the-variants.{Part, Scratch}
+use Rattle.array.specs.Answers.{choiceOf}
+use Rattle.array.specs.Call.{read, view, write, feed}
+use Rattle.array.specs.Health.{isLost, absent}
+use Rattle.array.specs.Images.{disksOf, size, seen}
+use Rattle.array.specs.Table.{table, refusal}
+use Rattle.array.specs.Effect.{placeOf, blockOf, viewOf, scratchLeft}
+use Rattle.array.proofs.Laws.Passed.{Reaches, reads}
+use Rattle.array.proofs.Laws.Write.{lS, ld, lp, parity-apart}
+
+-- a place of the images begins below 2^64
+pub place-fits : (r : Record) (s d : ℕ) → Limits r → s < r .stripes → d < disksOf r → offset (r .block) (r .stripes) s d < 18446744073709551616
+place-fits r s d l ls ld =
+    let a = l .array in
+    let n : disksOf r ≤ 32 = omega (arith, a .disks .n-high, a .disks .m-high) in
+    omega (arith, place-in (r .block) (r .stripes) s d (disksOf r) ls ld, mul-le-mul n (mul-le-mul (a .stripes-high) (l .block-high)))
+
+module _ (r : Record) (len b : ℕ) where
+  pub as-view : (room : ℕ) → refusal r (capacity (geometry r)) (feed (view b) len room) ≡ refusal r (capacity (geometry r)) (feed (read b) len room)
+  unfolding refusal table
+  as-view room = refl
+
+  pub as-write : (v : List ℕ) (room : ℕ) → refusal r (capacity (geometry r)) (feed (write b v) len room) ≡ refusal r (capacity (geometry r)) (feed (read b) len (length v))
+  unfolding refusal table
+  as-write v room = refl
+
+-- block b stands at q, inside the images, and the parity of its stripe on another disk
+pub record Reached (r : Record) (len b room : ℕ) (q : Place) : Type 0 where
+  pub limits : Limits r
+  pub here : isLost (r .health) ≡ false
+  pub long : len ≡ size r
+  pub whole : room ≡ r .block
+  pub is : q ≡ placeOf r b
+  pub stripe-lt : q .stripe < r .stripes
+  pub disk-lt : q .disk < disksOf r
+  pub parity-lt : layout (geometry r) .parity (q .stripe) < disksOf r
+  pub apart : layout (geometry r) .parity (q .stripe) ≢ q .disk
+
+module _ (r : Record) (len b room : ℕ) (z : refusal r (capacity (geometry r)) (feed (read b) len room) ≡ 0) (g : Geometry) (e : g ≡ geometry r) where
+  passed : Reaches (not (good r)) r (capacity (geometry r)) len b room
+  unfolding refusal
+  passed = reads false (not (good r)) r (capacity (geometry r)) len room b z
+
+  in-limits : Limits r
+  in-limits = limits r (not-false _ (passed .good))
+
+  pub asked : Good g × (b < capacity g)
+  asked = subst (λ (x : Geometry). Good x × (b < capacity x)) (sym e) (in-limits .array, passed .block-lt)
+
+  pub reached : (q : Place) → q ≡ layout g .place b → Reached r len b room q
+  reached q f =
+      let is : q ≡ placeOf r b = f ∙ ap (λ (x : Geometry). layout x .place b) e in
+      let a = in-limits .array in
+      let lb = passed .block-lt in
+      record {
+        limits = in-limits;
+        here = passed .here;
+        long = passed .long;
+        whole = passed .whole;
+        is = is;
+        stripe-lt = rw is (lS (geometry r) a b lb);
+        disk-lt = rw is (ld (geometry r) a b lb);
+        parity-lt = rw is (lp (geometry r) a b lb);
+        apart = rw is (parity-apart (geometry r) a b lb);
+      }
+
+module _ {r : Record} {len b room : ℕ} {q : Place} (x : Reached r len b room q) where
+  -- its place lies inside the images
+  pub inside : {at : ℕ} → at ≡ offset (r .block) (r .stripes) (q .stripe) (q .disk) → at + room ≤ len
+  inside e = rw (e, x .whole, x .long) (place-in (r .block) (r .stripes) (q .stripe) (q .disk) (disksOf r) (x .stripe-lt) (x .disk-lt))
+
+  pub summed : {N : ℕ} → N ≡ disksOf r → (1 ≤ room) × (q .stripe < r .stripes) × (N * (r .stripes * room) ≤ len)
+  summed e = rw (e, x .whole, x .long) (x .limits .block-low, x .stripe-lt, omega arith)
+
+  pub parity-asked : {g : Geometry} → g ≡ geometry r → Good g × (q .stripe < g .stripes)
+  parity-asked e = subst (λ (y : Geometry). Good y × (q .stripe < y .stripes)) (sym e) (x .limits .array, x .stripe-lt)
+
+  -- what is seen there, by whether its disk is absent
+  pub block-out : (img : List ℕ) {N : ℕ} → N ≡ disksOf r → absent (r .health) (q .stripe) (q .disk) ≡ true
+      → others room (r .stripes) img (q .stripe) N (q .disk) ≡ blockOf r img b
+  unfolding seen
+  block-out img e u = rw (e, x .whole, x .is, rw (x .is) at u) refl
+
+  pub block-in : (img : List ℕ) {at : ℕ} → at ≡ offset (r .block) (r .stripes) (q .stripe) (q .disk) → absent (r .health) (q .stripe) (q .disk) ≡ false
+      → blockAt img at room ≡ blockOf r img b
+  unfolding seen
+  block-in img e u = rw (e, x .whole, x .is, rw (x .is) at u) refl
+
+  -- .. and which view it is
+  pub choice-out : (img scratch : List ℕ) {N : ℕ} → N ≡ disksOf r → absent (r .health) (q .stripe) (q .disk) ≡ true
+      → (Scratch ≡ choiceOf 0 (viewOf r b)) × (others room (r .stripes) img (q .stripe) N (q .disk) ≡ scratchLeft r img b scratch)
+  unfolding viewOf scratchLeft
+  choice-out img scratch e u = rw (e, x .whole, x .is, rw (x .is) at u) (refl, refl)
+
+  pub choice-in : (img scratch : List ℕ) {at : ℕ} → at ≡ offset (r .block) (r .stripes) (q .stripe) (q .disk) → absent (r .health) (q .stripe) (q .disk) ≡ false
+      → (Part at ≡ choiceOf 0 (viewOf r b)) × (scratch ≡ scratchLeft r img b scratch)
+  unfolding viewOf scratchLeft
+  choice-in img scratch e u = rw (e, x .is, rw (x .is) at u) (refl, refl)

@@ -1,0 +1,41 @@
+-- `locate` meets its contract. Assumes nothing.
+use mathlib.Core.Path.{_≡_, refl, sym, _∙_}
+use mathlib.Core.List.{[]}
+use borrow.Author.Needs.{needs}
+use Rattle.layout.specs.Layout.{capacity}
+use Rattle.state.specs.Good.{geometry}
+use Rattle.array.specs.Call.{locate, feed, on}
+use Rattle.array.specs.Table.{refusal}
+use Rattle.array.specs.Effect.{effect}
+use Rattle.array.proofs.Laws.Asking.{locate-asks}
+use Rattle.array.proofs.Laws.Called.{called-refused, called-done}
+use Rattle.array.proofs.asking.locate.Statement.{statement}
+use Rattle.array.proofs.asking.locate.Tie as tie
+
+of-locate-requires : tie.Need-of-locate-requires
+of-locate-requires c κs = search needs
+
+returns : tie.Need-returns
+returns c =
+    let a = c .before .before .args in
+    rw (called-refused (on (locate (a .b)) [] []) (a .r) _ (sym (c .before .of-locate .ensures)) (c .if1 .taken)) refl
+
+geometry-of-requires : tie.Need-geometry-of-requires
+geometry-of-requires c κs = search needs
+
+passed : (c : tie.Else1) → let a = c .before .before .args in refusal (a .r) (capacity (geometry (a .r))) (feed (locate (a .b)) 0 0) ≡ 0
+passed c = sym (c .before .of-locate .ensures) ∙ c .if1 .left
+
+place-of-requires : tie.Need-place-of-requires
+place-of-requires c κs = let a = c .before .before .before .args in locate-asks (a .r) (c .geometry-of .ensures) (a .b) (passed (c .before))
+
+returns-2 : tie.Need-returns-2
+unfolding effect
+returns-2 c =
+    let a = c .before .before .before .before .args in
+    rw (called-done (on (locate (a .b)) [] []) (a .r) (passed (c .before .before)), c .place-of .ensures, c .before .geometry-of .ensures) refl
+
+pub locate-spec : {M : Type 1} → statement M
+locate-spec =
+    tie.close
+    (tie.spec of-locate-requires returns geometry-of-requires place-of-requires returns-2)

@@ -1,0 +1,40 @@
+-- `owner` meets its contract. Assumes nothing.
+use mathlib.Core.Path.{_≡_, refl, sym, _∙_}
+use mathlib.Core.List.{[]}
+use borrow.Author.Needs.{needs}
+use Rattle.layout.specs.Layout.{capacity}
+use Rattle.state.specs.Good.{geometry}
+use Rattle.array.specs.Call.{owner, feed, on}
+use Rattle.array.specs.Table.{refusal}
+use Rattle.array.specs.Effect.{effect}
+use Rattle.array.proofs.Laws.Asking.{owner-asks}
+use Rattle.array.proofs.Laws.Called.{called-refused, called-done}
+use Rattle.array.proofs.asking.owner.Statement.{statement}
+use Rattle.array.proofs.asking.owner.Tie as tie
+
+of-owner-requires : tie.Need-of-owner-requires
+of-owner-requires c κs = search needs
+
+returns : tie.Need-returns
+returns c =
+    let a = c .before .before .args in
+    rw (called-refused (on (owner (a .s) (a .d)) [] []) (a .r) _ (sym (c .before .of-owner .ensures)) (c .if1 .taken)) refl
+
+geometry-of-requires : tie.Need-geometry-of-requires
+geometry-of-requires c κs = search needs
+
+passed : (c : tie.Else1) → let a = c .before .before .args in refusal (a .r) (capacity (geometry (a .r))) (feed (owner (a .s) (a .d)) 0 0) ≡ 0
+passed c = sym (c .before .of-owner .ensures) ∙ c .if1 .left
+
+owner-of-requires : tie.Need-owner-of-requires
+owner-of-requires c κs = let a = c .before .before .before .args in owner-asks (a .r) (c .geometry-of .ensures) (a .s) (a .d) (passed (c .before))
+
+returns-2 : tie.Need-returns-2
+unfolding effect
+returns-2 c =
+    let a = c .before .before .before .before .args in
+    rw (called-done (on (owner (a .s) (a .d)) [] []) (a .r) (passed (c .before .before)), c .owner-of .ensures, c .before .geometry-of .ensures) refl
+
+pub owner-spec : {M : Type 1} → statement M
+owner-spec =
+    tie.close (tie.spec of-owner-requires returns geometry-of-requires owner-of-requires returns-2)

@@ -1,0 +1,48 @@
+-- `status` meets its contract. Assumes nothing.
+use mathlib.Core.Path.{_≡_, refl, sym, _∙_}
+use mathlib.Core.List.{[]}
+use borrow.Author.Needs.{needs}
+use Rattle.layout.specs.Layout.{capacity}
+use Rattle.state.specs.Good.{geometry}
+use Rattle.array.specs.Call.{status, feed, on}
+use Rattle.array.specs.Table.{refusal}
+use Rattle.array.specs.Effect.{effect}
+use Rattle.array.proofs.Laws.Asking.{status-asks}
+use Rattle.array.proofs.Laws.Called.{called-refused, called-done}
+use Rattle.array.proofs.asking.status.Statement.{statement}
+use Rattle.array.proofs.asking.status.Tie as tie
+
+of-status-requires : tie.Need-of-status-requires
+of-status-requires c κs = search needs
+
+returns : tie.Need-returns
+returns c = rw (called-refused (on status [] []) (c .before .before .args .r) _ (sym (c .before .of-status .ensures)) (c .if1 .taken)) refl
+
+geometry-of-requires : tie.Need-geometry-of-requires
+geometry-of-requires c κs = search needs
+
+passed : (c : tie.Else1) → refusal (c .before .before .args .r) (capacity (geometry (c .before .before .args .r))) (feed status 0 0) ≡ 0
+passed c = sym (c .before .of-status .ensures) ∙ c .if1 .left
+
+capacity-of-requires : tie.Need-capacity-of-requires
+capacity-of-requires c κs = status-asks (c .before .before .before .args .r) (c .geometry-of .ensures) (passed (c .before))
+
+total-of-requires : tie.Need-total-of-requires
+total-of-requires c κs = status-asks (c .before .before .before .before .args .r) (c .before .geometry-of .ensures) (passed (c .before .before))
+
+returns-2 : tie.Need-returns-2
+unfolding effect
+returns-2 c =
+    let r = c .before .before .before .before .before .args .r in
+    rw (called-done (on status [] []) r (passed (c .before .before .before)), c .total-of .ensures, c .before .capacity-of .ensures, c .before .before .geometry-of .ensures) refl
+
+pub status-spec : {M : Type 1} → statement M
+status-spec =
+    tie.close
+    (tie.spec
+    of-status-requires
+    returns
+    geometry-of-requires
+    capacity-of-requires
+    total-of-requires
+    returns-2)

@@ -1,0 +1,68 @@
+-- `format` meets its contract: all of the images is one run of zeroes. Assumes nothing.
+use mathlib.Core.Path.{refl, sym, _∙_}
+use mathlib.Core.List.{[]}
+use borrow.Author.Needs.{needs}
+use native.Mathlib.Omega.{arith}
+use Rattle.state.specs.Good.{Limits}
+use Rattle.array.specs.Call.{format, Event, on}
+use Rattle.array.specs.Health.{formatted}
+use Rattle.array.proofs.Laws.Format.{limits}
+use Rattle.array.proofs.Laws.Called.{called-refused}
+use Rattle.array.proofs.Laws.Zeroed.{format-passed, format-done}
+use Rattle.array.proofs.formatting.format.Statement.{statement}
+use Rattle.array.proofs.formatting.format.Tie as tie
+
+of-format-requires : tie.Need-of-format-requires
+of-format-requires c κs = search needs
+
+abbrev event : tie.Start → Event
+event c = on (format (c .args .n) (c .args .block) (c .args .stripes)) (c .args .images .now) []
+
+returns : tie.Need-returns
+returns c =
+    let e = event (c .before .before .before) in
+    let k = c .before .of-format .ensures in
+    (λ r. rw (called-refused e r _ (sym (k r)) (c .if1 .taken)) refl, (λ r. rw (called-refused e r _ (sym (k r)) (c .if1 .taken)) refl, λ r. rw (called-refused e r _ (sym (k r)) (c .if1 .taken)) refl))
+
+zero-block-requires : tie.Need-zero-block-requires
+zero-block-requires c κs = search needs
+
+-- the limits that the numbers given are in
+fits : (c : tie.Else1) → let a = c .before .before .before .args in Limits (formatted (a .n) (a .block) (a .stripes))
+fits c =
+    let a = c .before .before .before .args in
+    let r = formatted (a .n) (a .block) (a .stripes) in
+    limits _ _ _ (format-passed (a .images .now) r _ _ _ (sym (c .before .of-format .ensures r) ∙ c .if1 .left) .fits)
+
+cast-t11 : tie.Need-cast-t11
+cast-t11 c = omega (arith, fits (c .before .before .before .before) .array .disks .n-high)
+
+cast-t13 : tie.Need-cast-t13
+cast-t13 c = omega (arith, fits (c .before .before .before .before) .block-high)
+
+cast-t14 : tie.Need-cast-t14
+cast-t14 c = omega (arith, fits (c .before .before .before .before) .array .stripes-high)
+
+same-length : tie.Need-same-length
+same-length c = search needs
+
+returns-2 : tie.Need-returns-2
+returns-2 c =
+    let e = c .before .before .before .before in
+    let l = e .before .before .before .args .images .now in
+    let k = e .before .of-format .ensures in
+    let z = e .if1 .left in
+    (λ r. rw (format-done l r _ _ _ (sym (k r) ∙ z)) refl, (λ r. rw (format-done l r _ _ _ (sym (k r) ∙ z)) refl, λ r. rw (format-done l r _ _ _ (sym (k r) ∙ z)) (c .before .before .zero-block .ensures)))
+
+pub format-spec : {M : Type 1} → statement M
+format-spec =
+    tie.close
+    (tie.spec
+    of-format-requires
+    returns
+    zero-block-requires
+    cast-t11
+    cast-t13
+    cast-t14
+    same-length
+    returns-2)

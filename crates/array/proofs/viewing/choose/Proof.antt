@@ -1,0 +1,64 @@
+-- `choose` meets its contract. Assumes nothing.
+use mathlib.Core.Path.{sym, _∙_}
+use lib.ListN.{length}
+use borrow.Author.Needs.{needs}
+use Rattle.array.proofs.Laws.Asked.{told}
+use Rattle.array.proofs.Laws.Reach.{as-view, Reached, asked, reached, summed, choice-out, choice-in}
+use Rattle.array.proofs.viewing.choose.Statement.{statement}
+use Rattle.array.proofs.viewing.choose.Tie as tie
+
+geometry-of-requires : tie.Need-geometry-of-requires
+geometry-of-requires c κs = search needs
+
+place-of-requires : tie.Need-place-of-requires
+place-of-requires c κs = asked _ _ _ _ (sym (as-view _ _ _ _) ∙ c .before .before .before .pre) _ (c .geometry-of .ensures)
+
+-- the block's place
+stands : (c : tie.After-place-of) → let a = c .before .before .before .before .args in Reached (a .r) (length (a .images .now)) (a .b) (length (a .scratch .now)) (c .place-of .result)
+stands c = reached _ _ _ _ (sym (as-view _ _ _ _) ∙ c .before .before .before .before .pre) _ (c .before .geometry-of .ensures) _ (c .place-of .ensures)
+
+is-absent-requires : tie.Need-is-absent-requires
+is-absent-requires c κs = search needs
+
+disks-of-requires : tie.Need-disks-of-requires
+disks-of-requires c κs = search needs
+
+cast-xor-others : tie.Need-cast-xor-others
+cast-xor-others c = search needs
+
+xor-others-requires : tie.Need-xor-others-requires
+xor-others-requires c κs = let c2 = c .before .before in summed (stands (c2 .before .before .before)) (c2 .disks-of .ensures)
+
+same-length : tie.Need-same-length
+same-length c = search needs
+
+returns : tie.Need-returns
+returns c =
+    let c1 = c .before .before in
+    let c2 = c1 .before .before .before in
+    let c3 = c2 .before .before in
+    let (x, s) = choice-out (stands (c3 .before)) _ _ (c2 .disks-of .ensures) (told (c3 .is-absent .ensures) (c2 .before .if1 .taken)) in
+    (x, c1 .xor-others .ensures ∙ s)
+
+place-at-requires : tie.Need-place-at-requires
+place-at-requires c κs = let x = stands (c .before .before) in (x .limits, x .stripe-lt, x .disk-lt)
+
+returns-2 : tie.Need-returns-2
+returns-2 c =
+    let c3 = c .before .before in
+    choice-in (stands (c3 .before)) _ _ (c .place-at .ensures) (told (c3 .is-absent .ensures) (c .before .if1 .left))
+
+pub choose-spec : {M : Type 1} → statement M
+choose-spec =
+    tie.close
+    (tie.spec
+    geometry-of-requires
+    place-of-requires
+    is-absent-requires
+    disks-of-requires
+    cast-xor-others
+    xor-others-requires
+    same-length
+    returns
+    place-at-requires
+    returns-2)

@@ -1,0 +1,36 @@
+-- `view_choice` meets its contract. Assumes nothing.
+use mathlib.Core.Path.{refl, sym, _∙_}
+use borrow.Author.Needs.{needs}
+use Rattle.array.specs.Call.{view, on}
+use Rattle.array.specs.Effect.{effect}
+use Rattle.array.proofs.Laws.Called.{called-refused, called-done}
+use Rattle.array.proofs.Laws.Reach.{as-view}
+use Rattle.array.proofs.Laws.Shown.{choice-refused}
+use Rattle.array.proofs.viewing.view_choice.Statement.{statement}
+use Rattle.array.proofs.viewing.view_choice.Tie as tie
+
+of-reach-requires : tie.Need-of-reach-requires
+of-reach-requires c κs = search needs
+
+returns : tie.Need-returns
+returns c =
+    let a = c .before .before .before .before .args in
+    rw (called-refused (on (view (a .b)) (a .images .now) (a .scratch .now)) (a .r) _ (as-view _ _ _ _ ∙ sym (c .before .of-reach .ensures)) (c .if1 .taken)) (choice-refused _ _ (c .if1 .taken), refl)
+
+choose-requires : tie.Need-choose-requires
+choose-requires c κs = as-view _ _ _ _ ∙ sym (c .before .before .of-reach .ensures) ∙ c .before .if1 .left
+
+same-length : tie.Need-same-length
+same-length c = search needs
+
+returns-2 : tie.Need-returns-2
+unfolding effect
+returns-2 c =
+    let c1 = c .before .before in
+    let c2 = c1 .before .before in
+    let a = c2 .before .before .before .before .args in
+    rw (called-done (on (view (a .b)) (a .images .now) (a .scratch .now)) (a .r) (as-view _ _ _ _ ∙ sym (c2 .before .of-reach .ensures) ∙ c2 .if1 .left)) (c1 .choose .ensures)
+
+pub view-choice-spec : {M : Type 1} → statement M
+view-choice-spec =
+    tie.close (tie.spec of-reach-requires returns choose-requires same-length returns-2)

@@ -1,0 +1,55 @@
+-- What the functions' enums say in document 01's terms, case by case. "For an answer that is an enum, a definition gives this paper's number and
+-- values for each case." (Numbers alone are read off an answer by `number`, `shown` and `beside` of Call.)
+use Prim.Native.Nat.{ℕ, zero, suc}
+use Rattle.state.specs.declared.Record.{Record}
+use Rattle.array.specs.declared.Changed.{Changed}
+use Rattle.array.specs.declared.Changed.the-variants as changed
+use Rattle.array.specs.declared.Advanced.{Advanced}
+use Rattle.array.specs.declared.Advanced.the-variants as advanced
+use Rattle.array.specs.declared.Report.{Report}
+use Rattle.array.specs.declared.Report.the-variants as report
+use Rattle.array.specs.declared.Located.{Located}
+use Rattle.array.specs.declared.Located.the-variants as located
+use Rattle.array.specs.declared.Owned.{Owned}
+use Rattle.array.specs.declared.Owned.the-variants as owning
+use Rattle.array.specs.declared.Choice.{Choice}
+use Rattle.array.specs.declared.Choice.the-variants as choice
+use Rattle.array.specs.Call.{Answer, refused, done, made, figures, placed, owned}
+use Rattle.array.specs.Effect.{View, part, scratch}
+
+-- format, grow, out and rebuild: the answer, and the record that is left of r
+abbrev pub changedAnswer : Changed → Answer
+changedAnswer (changed.Refused k) = refused k
+changedAnswer (changed.Done x) = done
+
+abbrev pub changedRecord : Record → Changed → Record
+changedRecord r (changed.Refused k) = r
+changedRecord r (changed.Done x) = x
+
+-- advance
+abbrev pub advancedAnswer : Advanced → Answer
+advancedAnswer (advanced.Refused k) = refused k
+advancedAnswer (advanced.Made k x) = made k
+
+abbrev pub advancedRecord : Record → Advanced → Record
+advancedRecord r (advanced.Refused k) = r
+advancedRecord r (advanced.Made k x) = x
+
+-- status, locate and owner
+abbrev pub reportAnswer : Report → Answer
+reportAnswer (report.Refused k) = refused k
+reportAnswer (report.Figures c t total h) = figures c t total h
+
+abbrev pub locatedAnswer : Located → Answer
+locatedAnswer (located.Refused k) = refused k
+locatedAnswer (located.At q) = placed q
+
+abbrev pub ownedAnswer : Owned → Answer
+ownedAnswer (owning.Refused k) = refused k
+ownedAnswer (owning.By o) = owned o
+
+-- view: what is chosen, given the call's number and where the block is to be had
+abbrev pub choiceOf : ℕ → View → Choice
+choiceOf zero (part at len) = choice.Part at
+choiceOf zero scratch = choice.Scratch
+choiceOf (suc k) v = choice.Refused (suc k)

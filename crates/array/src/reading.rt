@@ -1,0 +1,50 @@
+// Document 01: "**Read**: fills a lent block."
+ghost use mathlib.Core.Path.{_≡_};
+ghost use lib.ListN.{length};
+ghost use Rattle.layout.specs.Layout.{capacity};
+ghost use Rattle.state.specs.Good.{geometry};
+ghost use Rattle.array.specs.Call.{read, feed, on, number};
+ghost use Rattle.array.specs.Table.{refusal};
+ghost use Rattle.array.specs.Effect.{blockOf, called};
+use crate::health::is_absent;
+use crate::places::place_at;
+use crate::refusal::disks_of;
+use crate::refusal::of_reach;
+use blocks::copy_out;
+use blocks::xor_others;
+use layout::place_of;
+use state::Record;
+use state::geometry_of;
+
+// Block b, on a call that the table lets through.
+fn fill(r: Record, images: &[u8], b: u64, block: &mut [u8])
+    requires { ⌜ refusal r (capacity (geometry r)) (feed (read b) (length (now images)) (length (now block))) ≡ 0 ⌝ }
+    ensures { λ _. ⌜ now (block .exit) ≡ blockOf r (now (images .entry)) b ⌝ }
+{
+    let q = place_of(geometry_of(r), b);
+    let health = r.health;
+    if is_absent(health, q.stripe, q.disk) {
+        xor_others(
+            images,
+            disks_of(r) as usize,
+            r.stripes as usize,
+            q.stripe as usize,
+            q.disk as usize,
+            block,
+        );
+    } else {
+        copy_out(images, place_at(r, q.stripe, q.disk), block);
+    }
+}
+
+pub fn read(r: Record, images: &[u8], b: u64, block: &mut [u8]) -> u8
+    ensures answer { λ k. ⌜ k ≡ number (called (on (read b) (now (images .entry)) (now (block .entry))) r .answer) ⌝ }
+    ensures block { λ _. ⌜ now (block .exit) ≡ called (on (read b) (now (images .entry)) (now (block .entry))) r .room ⌝ }
+{
+    let k = of_reach(r, images.len(), b, block.len());
+    if k != 0 {
+        return k;
+    }
+    fill(r, images, b, block);
+    0
+}

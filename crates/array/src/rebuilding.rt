@@ -1,0 +1,54 @@
+// Document 01: "**Rebuild** (d): writes disk d of every stripe as the xor of the others; health whole."
+ghost use mathlib.Core.Path.{_≡_};
+ghost use mathlib.Core.List.{[]};
+ghost use Prim.Native.Nat.{_<_};
+ghost use lib.ListN.{length};
+ghost use Rattle.state.specs.Good.{Limits};
+ghost use Rattle.array.specs.Answers.{changedAnswer, changedRecord};
+ghost use Rattle.array.specs.Call.{rebuild, on};
+ghost use Rattle.array.specs.Images.{disksOf, size, othersIn, stored, fillDisk};
+ghost use Rattle.array.specs.Effect.{called};
+use crate::Changed;
+use crate::health::with_health;
+use crate::refusal::disks_of;
+use crate::refusal::of_rebuild;
+use blocks::rebuild_place;
+use state::Health;
+use state::Record;
+
+// Disk d of every stripe, each summed into `block` and then stored: two slices are told apart once and for all, two parts of the images are not.
+fn fill_disk(r: Record, images: &mut [u8], d: u64, block: &mut [u8])
+    requires { ⌜ Limits r × (d < disksOf r) × (length (now images) ≡ size r) × (length (now block) ≡ r .block) ⌝ }
+    ensures { λ _. ⌜ now (images .exit) ≡ stored (r .block) (r .stripes) (fillDisk (r .stripes) d (λ S. othersIn r (now (images .entry)) S d)) (now (images .entry)) ⌝ }
+{
+    let disks = disks_of(r) as usize;
+    let stripes = r.stripes as usize;
+    let mut s = 0;
+    while s < stripes {
+        rebuild_place(images, disks, stripes, s, d as usize, block);
+        s += 1;
+    }
+}
+
+// The same, with a block of its own to sum into.
+fn fill_disk_alone(r: Record, images: &mut [u8], d: u64)
+    requires { ⌜ Limits r × (d < disksOf r) × (length (now images) ≡ size r) ⌝ }
+    ensures { λ _. ⌜ now (images .exit) ≡ stored (r .block) (r .stripes) (fillDisk (r .stripes) d (λ S. othersIn r (now (images .entry)) S d)) (now (images .entry)) ⌝ }
+{
+    let mut block = [0u8; 4096];
+    let len = r.block as usize;
+    fill_disk(r, images, d, &mut block[..len]);
+}
+
+pub fn rebuild(r: Record, images: &mut [u8], d: u64) -> Changed
+    ensures answer { λ x. ⌜ changedAnswer x ≡ called (on (rebuild d) (now (images .entry)) []) r .answer ⌝ }
+    ensures state { λ x. ⌜ changedRecord r x ≡ called (on (rebuild d) (now (images .entry)) []) r .state ⌝ }
+    ensures images { λ _. ⌜ now (images .exit) ≡ called (on (rebuild d) (now (images .entry)) []) r .images ⌝ }
+{
+    let k = of_rebuild(r, images.len(), d);
+    if k != 0 {
+        return Changed::Refused(k);
+    }
+    fill_disk_alone(r, images, d);
+    Changed::Done(with_health(r, Health::Whole))
+}

@@ -1,0 +1,243 @@
+// The table of refusals, call by call: the first number whose condition holds, or 0. Nothing is looked at but the record, the numbers
+// given and the lengths lent.
+ghost use mathlib.Core.Path.{_≡_};
+ghost use Prim.Native.Nat.{_≤_};
+ghost use Rattle.layout.specs.Layout.{capacity};
+ghost use Rattle.state.specs.Good.{geometry, Limits};
+ghost use Rattle.array.specs.Call.{format, read, grow, advance, out, rebuild, status, locate, owner, feed};
+ghost use Rattle.array.specs.Images.{disksOf, sizeWith};
+ghost use Rattle.array.specs.Table.{idle, formable, refusal};
+use crate::health::is_degraded;
+use crate::health::is_lost;
+use crate::health::is_out;
+use layout::capacity_of;
+use layout::total_of;
+use state::Record;
+use state::block_is_good;
+use state::geometry_of;
+use state::is_good;
+use state::new_is_good;
+use state::old_is_good;
+use state::stripes_are_good;
+
+const RECORD: u8 = 1;
+
+const LOST: u8 = 2;
+
+const DEGRADED: u8 = 3;
+
+const GROWN: u8 = 4;
+
+const NOTHING_TO_MOVE: u8 = 5;
+
+const GEOMETRY: u8 = 6;
+
+const IMAGES: u8 = 7;
+
+const PAST_THE_END: u8 = 8;
+
+const BLOCK_LENGTH: u8 = 9;
+
+const DISK: u8 = 10;
+
+// N, all disks of an array.
+pub fn disks_of(r: Record) -> u64
+    ensures { λ x. ⌜ x ≡ disksOf r ⌝ }
+{
+    r.old as u64 + r.new as u64
+}
+
+// The length of images with this many disks.
+fn size_with(r: Record, m: u64) -> u64
+    requires { ⌜ Limits r × (m ≤ 16) ⌝ }
+    ensures { λ x. ⌜ x ≡ sizeWith r m ⌝ }
+{
+    (r.old as u64 + m) * (r.stripes as u64 * r.block as u64)
+}
+
+// The number of its blocks.
+fn blocks_of(r: Record) -> u64
+    requires { ⌜ Limits r ⌝ }
+    ensures { λ x. ⌜ x ≡ capacity (geometry r) ⌝ }
+{
+    capacity_of(geometry_of(r))
+}
+
+// Is there no move to make?
+fn is_idle(r: Record) -> bool
+    requires { ⌜ Limits r ⌝ }
+    ensures { λ x. ⌜ x ≡ idle (geometry r) ⌝ }
+{
+    if r.new == 0 {
+        return true;
+    }
+    r.moves as u64 == total_of(geometry_of(r))
+}
+
+fn is_formable(n: u64, block: u64, stripes: u64) -> bool
+    ensures { λ x. ⌜ x ≡ formable n block stripes ⌝ }
+{
+    if !old_is_good(n) {
+        return false;
+    }
+    if !block_is_good(block) {
+        return false;
+    }
+    stripes_are_good(stripes)
+}
+
+pub fn of_format(images: usize, n: u64, block: u64, stripes: u64) -> u8
+    ensures { λ k. ⌜ ((r : Record) → k ≡ refusal r (capacity (geometry r)) (feed (format n block stripes) images 0)) ⌝ }
+{
+    if !is_formable(n, block, stripes) {
+        return GEOMETRY;
+    }
+    if images as u64 != n * (stripes * block) {
+        return IMAGES;
+    }
+    0
+}
+
+// Of read, view and write: room is the length of the block that is lent.
+pub fn of_reach(r: Record, images: usize, b: u64, room: usize) -> u8
+    ensures { λ k. ⌜ k ≡ refusal r (capacity (geometry r)) (feed (read b) images room) ⌝ }
+{
+    if !is_good(r) {
+        return RECORD;
+    }
+    let health = r.health;
+    if is_lost(health) {
+        return LOST;
+    }
+    if images as u64 != size_with(r, r.new as u64) {
+        return IMAGES;
+    }
+    if blocks_of(r) <= b {
+        return PAST_THE_END;
+    }
+    if room != r.block as usize {
+        return BLOCK_LENGTH;
+    }
+    0
+}
+
+pub fn of_grow(r: Record, images: usize, m: u64) -> u8
+    ensures { λ k. ⌜ k ≡ refusal r (capacity (geometry r)) (feed (grow m) images 0) ⌝ }
+{
+    if !is_good(r) {
+        return RECORD;
+    }
+    let health = r.health;
+    if is_lost(health) {
+        return LOST;
+    }
+    if is_degraded(health) {
+        return DEGRADED;
+    }
+    if r.new != 0 {
+        return GROWN;
+    }
+    if !new_is_good(r.old as u64, m, r.stripes as u64) {
+        return GEOMETRY;
+    }
+    if images as u64 != size_with(r, m) {
+        return IMAGES;
+    }
+    0
+}
+
+pub fn of_advance(r: Record, images: usize, k: u64) -> u8
+    ensures { λ x. ⌜ x ≡ refusal r (capacity (geometry r)) (feed (advance k) images 0) ⌝ }
+{
+    if !is_good(r) {
+        return RECORD;
+    }
+    let health = r.health;
+    if is_lost(health) {
+        return LOST;
+    }
+    if is_degraded(health) {
+        return DEGRADED;
+    }
+    if is_idle(r) {
+        return NOTHING_TO_MOVE;
+    }
+    if images as u64 != size_with(r, r.new as u64) {
+        return IMAGES;
+    }
+    0
+}
+
+pub fn of_out(r: Record, d: u64) -> u8
+    ensures { λ k. ⌜ k ≡ refusal r (capacity (geometry r)) (feed (out d) 0 0) ⌝ }
+{
+    if !is_good(r) {
+        return RECORD;
+    }
+    let health = r.health;
+    if is_lost(health) {
+        return LOST;
+    }
+    if disks_of(r) <= d {
+        return DISK;
+    }
+    if is_out(health, d) {
+        return DISK;
+    }
+    0
+}
+
+pub fn of_rebuild(r: Record, images: usize, d: u64) -> u8
+    ensures { λ k. ⌜ k ≡ refusal r (capacity (geometry r)) (feed (rebuild d) images 0) ⌝ }
+{
+    if !is_good(r) {
+        return RECORD;
+    }
+    let health = r.health;
+    if is_lost(health) {
+        return LOST;
+    }
+    if images as u64 != size_with(r, r.new as u64) {
+        return IMAGES;
+    }
+    if !is_out(health, d) {
+        return DISK;
+    }
+    0
+}
+
+pub fn of_status(r: Record) -> u8
+    ensures { λ k. ⌜ k ≡ refusal r (capacity (geometry r)) (feed status 0 0) ⌝ }
+{
+    if !is_good(r) {
+        return RECORD;
+    }
+    0
+}
+
+pub fn of_locate(r: Record, b: u64) -> u8
+    ensures { λ k. ⌜ k ≡ refusal r (capacity (geometry r)) (feed (locate b) 0 0) ⌝ }
+{
+    if !is_good(r) {
+        return RECORD;
+    }
+    if blocks_of(r) <= b {
+        return PAST_THE_END;
+    }
+    0
+}
+
+pub fn of_owner(r: Record, s: u64, d: u64) -> u8
+    ensures { λ k. ⌜ k ≡ refusal r (capacity (geometry r)) (feed (owner s d) 0 0) ⌝ }
+{
+    if !is_good(r) {
+        return RECORD;
+    }
+    if (r.stripes as u64) <= s {
+        return PAST_THE_END;
+    }
+    if disks_of(r) <= d {
+        return DISK;
+    }
+    0
+}

@@ -1,0 +1,81 @@
+// Document 01: "**View**: returns the block as a part of the images, or, if its disk is out, as the lent scratch filled with it. Scratch is
+// else untouched."
+ghost use mathlib.Core.Path.{_≡_};
+ghost use lib.ListN.{length};
+ghost use Rattle.layout.specs.Layout.{capacity};
+ghost use Rattle.state.specs.Good.{geometry};
+ghost use Rattle.array.specs.Answers.{choiceOf};
+ghost use Rattle.array.specs.Call.{view, feed, on, number, shown};
+ghost use Rattle.array.specs.Table.{refusal};
+ghost use Rattle.array.specs.Effect.{viewOf, scratchLeft, called};
+use crate::Choice;
+use crate::health::is_absent;
+use crate::places::place_at;
+use crate::refusal::disks_of;
+use crate::refusal::of_reach;
+use blocks::xor_others;
+use layout::place_of;
+use state::Record;
+use state::geometry_of;
+
+// Which it is, with the scratch filled if it is that one, on a call that the table lets through.
+fn choose(r: Record, images: &[u8], b: u64, scratch: &mut [u8]) -> Choice
+    requires { ⌜ refusal r (capacity (geometry r)) (feed (view b) (length (now images)) (length (now scratch))) ≡ 0 ⌝ }
+    ensures { λ x. ⌜ x ≡ choiceOf 0 (viewOf r b) ⌝ }
+    ensures { λ _. ⌜ now (scratch .exit) ≡ scratchLeft r (now (images .entry)) b (now (scratch .entry)) ⌝ }
+{
+    let q = place_of(geometry_of(r), b);
+    let health = r.health;
+    if is_absent(health, q.stripe, q.disk) {
+        xor_others(
+            images,
+            disks_of(r) as usize,
+            r.stripes as usize,
+            q.stripe as usize,
+            q.disk as usize,
+            scratch,
+        );
+        return Choice::Scratch;
+    }
+    Choice::Part(place_at(r, q.stripe, q.disk))
+}
+
+// The view before its part is taken. Its contract has what that of `view` cannot say: what is left of the scratch.
+pub fn view_choice(r: Record, images: &[u8], b: u64, scratch: &mut [u8]) -> Choice
+    ensures answer { λ x. ⌜ x ≡ choiceOf (number (called (on (view b) (now (images .entry)) (now (scratch .entry))) r .answer)) (viewOf r b) ⌝ }
+    ensures scratch { λ _. ⌜ now (scratch .exit) ≡ called (on (view b) (now (images .entry)) (now (scratch .entry))) r .room ⌝ }
+{
+    let k = of_reach(r, images.len(), b, scratch.len());
+    if k != 0 {
+        return Choice::Refused(k);
+    }
+    choose(r, images, b, scratch)
+}
+
+// The view itself, with the refusal's number, or 0, beside it.
+pub fn view<'a>(
+    r: Record,
+    images: &'a [u8],
+    b: u64,
+    scratch: &'a mut [u8],
+    refusal: &mut u8,
+) -> &'a [u8]
+    ensures view { λ v. ⌜ now v ≡ shown (called (on (view b) (now (images .entry)) (now (scratch .entry))) r .answer) ⌝ }
+    ensures number { λ _. ⌜ now (refusal .exit) ≡ number (called (on (view b) (now (images .entry)) (now (scratch .entry))) r .answer) ⌝ }
+{
+    let x = view_choice(r, images, b, scratch);
+    match x {
+        Choice::Refused(k) => {
+            *refusal = k;
+            &images[0..0]
+        }
+        Choice::Scratch => {
+            *refusal = 0;
+            &scratch[..]
+        }
+        Choice::Part(at) => {
+            *refusal = 0;
+            &images[at..at + (r.block as usize)]
+        }
+    }
+}

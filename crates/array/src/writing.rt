@@ -1,0 +1,62 @@
+// Document 01: "**Write**: the data place takes the data, the parity place its old value xor old block xor data; either is skipped if its disk is
+// out. All other bytes stay."
+ghost use mathlib.Core.Path.{_≡_};
+ghost use mathlib.Core.List.{[]};
+ghost use lib.ListN.{length};
+ghost use Rattle.layout.specs.Layout.{capacity};
+ghost use Rattle.state.specs.Good.{geometry};
+ghost use Rattle.array.specs.Call.{write, feed, on, number};
+ghost use Rattle.array.specs.Images.{stored};
+ghost use Rattle.array.specs.Table.{refusal};
+ghost use Rattle.array.specs.Effect.{writeStores, called};
+use crate::health::is_absent;
+use crate::places::place_at;
+use crate::refusal::disks_of;
+use crate::refusal::of_reach;
+use blocks::copy_in;
+use blocks::fold_others;
+use blocks::fold_parity;
+use layout::parity_of;
+use layout::place_of;
+use state::Record;
+use state::geometry_of;
+
+// The parity, then the data, on a call that the table lets through.
+fn put(r: Record, images: &mut [u8], b: u64, bytes: &[u8])
+    requires { ⌜ refusal r (capacity (geometry r)) (feed (write b (now bytes)) (length (now images)) 0) ≡ 0 ⌝ }
+    ensures { λ _. ⌜ now (images .exit) ≡ stored (r .block) (r .stripes) (writeStores r (now (images .entry)) b (now (bytes .entry))) (now (images .entry)) ⌝ }
+{
+    let g = geometry_of(r);
+    let q = place_of(g, b);
+    let p = parity_of(g, q.stripe);
+    let health = r.health;
+    if is_absent(health, q.stripe, q.disk) {
+        fold_others(
+            images,
+            disks_of(r) as usize,
+            r.stripes as usize,
+            q.stripe as usize,
+            q.disk as usize,
+            p as usize,
+            bytes,
+        );
+        return;
+    }
+    let at = place_at(r, q.stripe, q.disk);
+    if !is_absent(health, q.stripe, p) {
+        fold_parity(images, place_at(r, q.stripe, p), at, bytes);
+    }
+    copy_in(images, at, bytes);
+}
+
+pub fn write(r: Record, images: &mut [u8], b: u64, bytes: &[u8]) -> u8
+    ensures answer { λ k. ⌜ k ≡ number (called (on (write b (now (bytes .entry))) (now (images .entry)) []) r .answer) ⌝ }
+    ensures images { λ _. ⌜ now (images .exit) ≡ called (on (write b (now (bytes .entry))) (now (images .entry)) []) r .images ⌝ }
+{
+    let k = of_reach(r, images.len(), b, bytes.len());
+    if k != 0 {
+        return k;
+    }
+    put(r, images, b, bytes);
+    0
+}

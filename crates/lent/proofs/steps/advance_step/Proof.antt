@@ -1,0 +1,24 @@
+-- What `array::advance` ensures, through `moved`.
+use mathlib.Core.Path.{ap, _∙_}
+use borrow.Author.Needs.{needs}
+use Rattle.array.specs.Call.{number, count}
+use Rattle.lent.proofs.steps.advance_step.Statement.{statement}
+use Rattle.lent.proofs.steps.advance_step.Tie as tie
+
+advance-requires : tie.Need-advance-requires
+advance-requires c κs = search needs
+
+moved-requires : tie.Need-moved-requires
+moved-requires c κs = search needs
+
+same-length : tie.Need-same-length
+same-length c = search needs
+
+returns : tie.Need-returns
+returns c =
+    let x = c .before .before .before .advance .ensures in
+    let s = c .moved .ensures in
+    ((s .0 .0 ∙ ap number (x .0), s .0 .1 ∙ ap count (x .0)), (s .1 ∙ x .1 .0, x .1 .1))
+
+pub advance-step-spec : {M : Type 1} → statement M
+advance-step-spec = tie.close (tie.spec advance-requires moved-requires same-length returns)

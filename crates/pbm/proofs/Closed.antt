@@ -1,0 +1,31 @@
+-- What a call that may change the record leaves, from its answer on the record. Assumes nothing.
+use Prim.Native.Nat.{ℕ}
+use mathlib.Core.Path.{_≡_, refl, sym, ap, _∙_}
+use mathlib.Core.List.{List, [], _∷_}
+use Rattle.state.specs.declared.Record.{Record}
+use Rattle.state.specs.Bytes.{encode}
+use Rattle.array.specs.declared.Changed.{Changed}
+use Rattle.array.specs.declared.Changed.the-variants as changed
+use Rattle.array.specs.declared.Advanced.{Advanced}
+use Rattle.array.specs.declared.Advanced.the-variants as advanced
+use Rattle.array.specs.Answers.{changedAnswer, changedRecord, advancedAnswer, advancedRecord}
+use Rattle.array.specs.Call.{Answer, number, count, beside, accepted}
+use Rattle.array.specs.Effect.{Left}
+use Rattle.array.proofs.Laws.OnBytes.{Seals}
+use Rattle.pbm.specs.Closing.{changedBytes, advancedBytes}
+
+module _ {b : List ℕ} {X : Left (List ℕ)} {Y : Left Record} (s : Seals b X Y) (r : Record) where
+  pub numbered : {a : Answer} → a ≡ Y .answer → number a ≡ number (X .answer)
+  numbered q = ap number (q ∙ sym (s .answer))
+
+  pub changed-bytes : (x : Changed) → changedAnswer x ≡ Y .answer → changedRecord r x ≡ Y .state → changedBytes x b ≡ X .state
+  changed-bytes (changed.Refused k) q e = sym (s .kept (ap accepted (sym q)))
+  changed-bytes (changed.Done y) q e = ap encode e ∙ sym (s .written (ap accepted (sym q)))
+
+  pub advanced-bytes : (x : Advanced) → advancedAnswer x ≡ Y .answer → advancedRecord r x ≡ Y .state → advancedBytes x b ≡ X .state
+  advanced-bytes (advanced.Refused k) q e = sym (s .kept (ap accepted (sym q)))
+  advanced-bytes (advanced.Made k y) q e = ap encode e ∙ sym (s .written (ap accepted (sym q)))
+
+  pub counted : (x : Advanced) → advancedAnswer x ≡ Y .answer → (count (advancedAnswer x) ∷ []) ≡ beside 1 (X .answer)
+  counted (advanced.Refused k) q = ap (beside 1) (q ∙ sym (s .answer))
+  counted (advanced.Made k y) q = ap (beside 1) (q ∙ sym (s .answer))

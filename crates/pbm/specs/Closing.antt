@@ -1,0 +1,16 @@
+-- The bytes that a call leaves of a record's: as they were if it is refused, and else those of the record that it leaves.
+use Prim.Native.Nat.{ℕ}
+use mathlib.Core.List.{List}
+use Rattle.state.specs.Bytes.{encode}
+use Rattle.array.specs.declared.Changed.{Changed}
+use Rattle.array.specs.declared.Changed.the-variants as changed
+use Rattle.array.specs.declared.Advanced.{Advanced}
+use Rattle.array.specs.declared.Advanced.the-variants as advanced
+
+abbrev pub changedBytes : Changed → List ℕ → List ℕ
+changedBytes (changed.Refused k) b = b
+changedBytes (changed.Done r) b = encode r
+
+abbrev pub advancedBytes : Advanced → List ℕ → List ℕ
+advancedBytes (advanced.Refused k) b = b
+advancedBytes (advanced.Made k r) b = encode r

@@ -1,0 +1,44 @@
+// The end of a call that may change the record: its bytes are written if the call was accepted, and else left alone.
+ghost use mathlib.Core.Path.{_≡_};
+ghost use lib.ListN.{length};
+ghost use Rattle.array.specs.Answers.{changedAnswer, advancedAnswer};
+ghost use Rattle.array.specs.Call.{number, count};
+ghost use Rattle.pbm.specs.Closing.{changedBytes, advancedBytes};
+use array::Advanced;
+use array::Changed;
+use state::encode;
+
+// Answers the number.
+pub(crate) fn close(rec: &mut [u8], x: Changed) -> u8
+    requires { ⌜ length (now rec) ≡ 16 ⌝ }
+    ensures answer { λ k. ⌜ k ≡ number (changedAnswer x) ⌝ }
+    ensures state { λ _. ⌜ now (rec .exit) ≡ changedBytes x (now (rec .entry)) ⌝ }
+{
+    match x {
+        Changed::Refused(k) => k,
+        Changed::Done(r) => {
+            encode(r, rec);
+            0
+        }
+    }
+}
+
+// The same for advance, with the moves made.
+pub(crate) fn close_advance(rec: &mut [u8], x: Advanced, made: &mut u64) -> u8
+    requires { ⌜ length (now rec) ≡ 16 ⌝ }
+    ensures answer { λ k. ⌜ k ≡ number (advancedAnswer x) ⌝ }
+    ensures made { λ _. ⌜ now (made .exit) ≡ count (advancedAnswer x) ⌝ }
+    ensures state { λ _. ⌜ now (rec .exit) ≡ advancedBytes x (now (rec .entry)) ⌝ }
+{
+    match x {
+        Advanced::Refused(k) => {
+            *made = 0;
+            k
+        }
+        Advanced::Made { count, record } => {
+            *made = count;
+            encode(record, rec);
+            0
+        }
+    }
+}

@@ -1,0 +1,189 @@
+// Shows `view`, the one call that is not exported to C, in its cases: on document 01's array of 3 disks and 15 stripes that grows by 2 disks, with
+// blocks of 4 bytes. A line says what was lent, the number, the view, and what the scratch holds behind the call.
+mod marks;
+mod records;
+
+ghost use mathlib.Core.Path.{_≡_};
+ghost use lib.ListN.{length};
+ghost use Rattle.io.specs.Counts.{Counts};
+use libc::STDOUT_FILENO;
+use marks::mark;
+use marks::write_marks;
+use records::left_by;
+use records::moved;
+use records::without;
+use state::Health;
+use state::Record;
+
+fn wide(x: u8) -> u64 {
+    x as u64
+}
+
+// A space and a number for each byte.
+fn print_bytes(s: &[u8]) {
+    if s.len() == 0 {
+        io::write_all(STDOUT_FILENO, b" empty");
+    }
+    let mut i = 0;
+    while i < s.len() {
+        io::write_all(STDOUT_FILENO, b" ");
+        io::print_decimal(STDOUT_FILENO, wide(s[i]));
+        i += 1;
+    }
+}
+
+fn print_case(b: u64, what: &[u8]) {
+    io::write_all(STDOUT_FILENO, b"block ");
+    io::print_decimal(STDOUT_FILENO, b);
+    io::write_all(STDOUT_FILENO, b", ");
+    io::write_all(STDOUT_FILENO, what);
+}
+
+fn print_view(number: u8, view: &[u8]) {
+    io::write_all(STDOUT_FILENO, b": number ");
+    io::print_decimal(STDOUT_FILENO, wide(number));
+    io::write_all(STDOUT_FILENO, b", view");
+    print_bytes(view);
+}
+
+fn print_scratch(scratch: &[u8]) {
+    io::write_all(STDOUT_FILENO, b", scratch");
+    print_bytes(scratch);
+    io::write_all(STDOUT_FILENO, b"\n");
+}
+
+// One case. The number is 255 before the call, which no call answers.
+fn show_in(scratch: &mut [u8], r: Record, images: &[u8], b: u64, what: &[u8]) {
+    print_case(b, what);
+    let mut number = 255u8;
+    let view = array::view(r, images, b, &mut scratch[..], &mut number);
+    print_view(number, view);
+    print_scratch(scratch);
+}
+
+// With a scratch of a block's length, all sevens, which no block holds.
+fn show(r: Record, images: &[u8], b: u64, what: &[u8]) {
+    let mut scratch = [7u8; 4];
+    show_in(&mut scratch, r, images, b, what);
+}
+
+// With disk d out in the record that this one view is lent.
+fn show_without(d: u64, r: Record, images: &[u8], b: u64, what: &[u8]) {
+    show(without(r, d), images, b, what);
+}
+
+// Not good: an array has 3 disks or more.
+fn no_array() -> Record {
+    Record {
+        old: 2,
+        new: 0,
+        health: Health::Whole,
+        block: 4,
+        stripes: 15,
+        moves: 0,
+    }
+}
+
+// Block 4 is in stripe 2 on disk 1, block 5 on disk 0. What now stands in the place of block 4 is seen through r, by which the disk is still in.
+fn show_disk_out(r: Record, images: &mut [u8])
+    requires { ⌜ length (now images) ≡ 180 ⌝ }
+{
+    let out = without(r, 1);
+    blocks::copy_in(images, blocks::offset_of(15, 4, 2, 1), &[9, 9, 9, 9]);
+    show(out, images, 4, b"disk 1 out and overwritten");
+    show(out, images, 5, b"disk 1 out and overwritten");
+    show(r, images, 4, b"by the record from before");
+    let back = left_by(out, array::rebuild(out, images, 1));
+    show(back, images, 4, b"disk 1 rebuilt");
+}
+
+fn show_refusals(r: Record, images: &[u8]) {
+    show(r, images, 30, b"past the end");
+    let mut short = [7u8; 3];
+    show_in(&mut short, r, images, 4, b"scratch a byte short");
+    show_without(2, without(r, 1), images, 4, b"two disks out");
+    show(no_array(), images, 4, b"a record of 2 disks");
+}
+
+fn show_before_growth(images: &mut [u8]) -> Record
+    requires { ⌜ length (now images) ≡ 180 ⌝ }
+{
+    let r = left_by(no_array(), array::format(images, 3, 4, 15));
+    write_marks(r, images, 30);
+    show(r, images, 4, b"all disks in");
+    show_disk_out(r, images);
+    show_refusals(r, images);
+    r
+}
+
+// Which disk a block is on shows when that disk is out: then the view is the scratch. Move 1 carries block 4 from disk 1 to 3, move 2 block 2 from
+// disk 2 to 3.
+fn show_one_move(r: Record, images: &[u8]) {
+    show_without(1, r, images, 4, b"1 move made, disk 1 out");
+    show_without(3, r, images, 4, b"1 move made, disk 3 out");
+}
+
+fn show_two_moves(r: Record, images: &[u8]) {
+    show_without(1, r, images, 4, b"2 moves made, disk 1 out");
+    show_without(3, r, images, 4, b"2 moves made, disk 3 out");
+    show_without(2, r, images, 2, b"2 moves made, disk 2 out");
+}
+
+fn show_three_moves(r: Record, images: &[u8]) {
+    show_without(2, r, images, 2, b"3 moves made, disk 2 out");
+    show_without(3, r, images, 2, b"3 moves made, disk 3 out");
+}
+
+fn show_moves(grown: Record, images: &mut [u8]) -> Record {
+    let one = moved(grown, images, 1);
+    show_one_move(one, images);
+    let two = moved(one, images, 1);
+    show_two_moves(two, images);
+    let three = moved(two, images, 1);
+    show_three_moves(three, images);
+    three
+}
+
+fn show_last_move(three: Record, images: &mut [u8]) -> Record {
+    let most = moved(three, images, 14);
+    show(most, images, 30, b"17 moves made");
+    let all = moved(most, images, 1);
+    show(all, images, 30, b"18 moves made");
+    all
+}
+
+// Block 30 is in stripe 0 on disk 3.
+fn show_new_block(all: Record, images: &mut [u8]) {
+    let bytes = mark(30);
+    array::write(all, images, 30, &bytes);
+    show(all, images, 30, b"written");
+    show_without(3, all, images, 30, b"written, disk 3 out");
+}
+
+fn show_growth(r: Record, images: &mut [u8]) {
+    show(r, images, 4, b"images of 5 disks before growth");
+    let grown = left_by(r, array::grow(r, images, 2));
+    let three = show_moves(grown, images);
+    let all = show_last_move(three, images);
+    show_new_block(all, images);
+}
+
+// 3 disks are the first 180 bytes.
+fn show_cases(images: &mut [u8])
+    requires { ⌜ Counts 180 (now images) ⌝ }
+{
+    let r = show_before_growth(&mut images[..180]);
+    show_growth(r, images);
+}
+
+// Room for 5 disks.
+fn images_buffer() -> [u8; 300]
+    ensures { λ r. ⌜ (300 ≡ length r) × Counts 180 r ⌝ }
+{
+    [0; 300]
+}
+
+fn main() {
+    let mut images = images_buffer();
+    show_cases(&mut images);
+}

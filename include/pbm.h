@@ -1,0 +1,181 @@
+/*
+ * pbm.h - a RAID-5 array that grows by adding disks (parity-based migration), over memory that the caller lends.
+ *
+ * The library keeps nothing between calls. What it knows of an array is in a record of 16 bytes, what the array holds
+ * is in the images of its disks; the caller keeps both and lends them to each call.
+ *
+ * SIZES
+ *   n   old disks, 3 to 16            m   new disks, 1 to 16; 0 before growth      N   all disks, n + m
+ *   B   block length, 1 to 4096       T   stripes, 1 to 1048576                    t   moves done
+ *   Place (S, d) is block S of disk d. Stripe S is its N places.
+ *
+ * IMAGES
+ *   One slice of N * T * B bytes, disk 0 first, each disk T * B bytes. Place (S, d) begins at byte (d * T + S) * B.
+ *
+ * RECORD
+ *   byte 0       n
+ *   byte 1       m
+ *   byte 2       health: 0 whole, 1 one disk out, 2 lost
+ *   byte 3       the disk that is out; 0 unless health is 1
+ *   bytes 4-5    B, least byte first, as T and t
+ *   bytes 6-7    zero
+ *   bytes 8-11   T
+ *   bytes 12-15  t
+ *   A record is good exactly if each field is in its limits, bytes 6-7 are zero, the out disk is below N, t is at most
+ *   the total of moves, T * n * m / (n + m), and, with m above 0, T is a multiple of n * (n + m). With m = 0, t = 0.
+ *   pbm_format makes a good record and every call leaves one: a caller need not set a byte of it.
+ *
+ * BLOCKS
+ *   are numbered from 0. There are T * (n - 1), and T * (n + m - 1) from the last move of a growth on; the new ones are
+ *   zero. Reads and writes are accepted at any time of a growth.
+ *
+ * A DISK THAT IS OUT
+ *   may hold any bytes: it is not read. A block that stands on it is the xor of its stripe's other places. It is
+ *   written by pbm_rebuild and pbm_format alone. While a disk is out a growth stands still, and goes on later where it
+ *   stopped. With a second disk out the array is lost.
+ *
+ * WHAT THE CALLER SEES TO
+ *   1. Each pointer is good for its length: to read if it is const, else to read and write. A pointer to a number is
+ *      good for one uint64_t and aligned.
+ *   2. No pointer is null, not even that of a slice of length 0.
+ *   3. No two things lent to one call overlap.
+ *   4. Between calls nothing else writes the record, nor the images but for a disk that is out.
+ *   Nothing else can go wrong: any bytes in the record, any lengths and any numbers are answered, if by a refusal.
+ *   Where 4 is broken, calls stay within what they are lent, but the blocks may hold anything.
+ *
+ * REFUSALS
+ *   Each call returns 0, done, or the lowest number below whose condition holds. A refusal changes no byte of record,
+ *   images or block, and sets every number beside it to 0.
+ *
+ *    1  record            not 16 bytes long: all calls; not good: all but format
+ *    2  lost              health is lost: all but format, status, locate, owner
+ *    3  degraded          a disk is out: grow, advance
+ *    4  grown             m is not 0: grow
+ *    5  nothing to move   m is 0, or t is the total: advance
+ *    6  geometry          n, B or T outside its limits: format; m outside, or T no multiple of n * (n + m): grow
+ *    7  images            length not N * T * B (grow: the new N): all but out, status, locate, owner
+ *    8  past the end      block number at or above capacity: read, write, locate; S not below T: owner
+ *    9  block length      lent block not B bytes: read, write
+ *   10  disk              not below N, or out already: out; not the disk that is out: rebuild; not below N: owner
+ */
+#ifndef PBM_H
+#define PBM_H
+
+#include <stddef.h>
+#include <stdint.h>
+
+#ifdef __cplusplus
+extern "C" {
+#endif
+
+/* The length of a record. */
+enum { PBM_RECORD_LEN = 16 };
+
+/* What a call returns. */
+enum {
+    PBM_DONE = 0,
+    PBM_RECORD = 1,
+    PBM_LOST = 2,
+    PBM_DEGRADED = 3,
+    PBM_GROWN = 4,
+    PBM_NOTHING_TO_MOVE = 5,
+    PBM_GEOMETRY = 6,
+    PBM_IMAGES = 7,
+    PBM_PAST_THE_END = 8,
+    PBM_BLOCK_LENGTH = 9,
+    PBM_DISK = 10
+};
+
+/* Health, as pbm_status tells it. */
+enum { PBM_HEALTH_WHOLE = 0, PBM_HEALTH_OUT = 1, PBM_HEALTH_LOST = 2 };
+
+/* What stands on a place, as pbm_owner tells it. */
+enum { PBM_BLANK = 0, PBM_PARITY = 1, PBM_DATA = 2 };
+
+/*
+ * Makes a new array of n disks with `stripes` stripes and blocks of `block_len` bytes: zeroes the images and sets the
+ * record.
+ * Lent: record, written, with any bytes in it before; images of n disks, written.
+ * Refusals: 1 record (by its length alone), 6 geometry, 7 images.
+ */
+uint8_t pbm_format(uint8_t *record, size_t record_len, uint8_t *images, size_t images_len,
+                   uint64_t n, uint64_t block_len, uint64_t stripes);
+
+/*
+ * Fills `into` with block `block`.
+ * Lent: record and images, read; into, written, B bytes.
+ * Refusals: 1 record, 2 lost, 7 images, 8 past the end, 9 block length.
+ */
+uint8_t pbm_read(const uint8_t *record, size_t record_len, const uint8_t *images, size_t images_len,
+                 uint64_t block, uint8_t *into, size_t into_len);
+
+/*
+ * Replaces block `block` by `data`: the block's place takes the data, the parity place its old value xor the old block
+ * xor the data; either is skipped if its disk is out. All other bytes stay.
+ * Lent: record, read; images, written; data, read, B bytes.
+ * Refusals: 1 record, 2 lost, 7 images, 8 past the end, 9 block length.
+ */
+uint8_t pbm_write(const uint8_t *record, size_t record_len, uint8_t *images, size_t images_len,
+                  uint64_t block, const uint8_t *data, size_t data_len);
+
+/*
+ * Begins a growth by m disks: zeroes the images behind the first n disks, whatever they held, and sets m. No block has
+ * moved yet. An array grows once.
+ * Lent: record, written; images of n + m disks, those of the new ones written.
+ * Refusals: 1 record, 2 lost, 3 degraded, 4 grown, 6 geometry, 7 images.
+ */
+uint8_t pbm_grow(uint8_t *record, size_t record_len, uint8_t *images, size_t images_len, uint64_t m);
+
+/*
+ * Makes the next k moves of the growth, or all that are left if those are fewer, and sets `made` to how many, which is
+ * t's rise. A move copies a block to its new place and zeroes the place it left. With k = 0 it makes none.
+ * Lent: record and images, written; made, written.
+ * Refusals: 1 record, 2 lost, 3 degraded, 5 nothing to move, 7 images.
+ */
+uint8_t pbm_advance(uint8_t *record, size_t record_len, uint8_t *images, size_t images_len,
+                    uint64_t k, uint64_t *made);
+
+/*
+ * Reports disk `disk` out: a whole array is then one with that disk out, one with another disk out is lost.
+ * Lent: record, written.
+ * Refusals: 1 record, 2 lost, 10 disk.
+ */
+uint8_t pbm_out(uint8_t *record, size_t record_len, uint64_t disk);
+
+/*
+ * Writes disk `disk`, which is out, in every stripe as the xor of the others. The array is then whole.
+ * Lent: record, written; images, those of the disk written.
+ * Refusals: 1 record, 2 lost, 7 images, 10 disk.
+ */
+uint8_t pbm_rebuild(uint8_t *record, size_t record_len, uint8_t *images, size_t images_len, uint64_t disk);
+
+/*
+ * Tells the capacity in blocks, the moves done, their total (0 before growth), the health (PBM_HEALTH_WHOLE, _OUT or
+ * _LOST) and the disk that is out (0 unless health is PBM_HEALTH_OUT).
+ * Lent: record, read; the five numbers, written.
+ * Refusals: 1 record.
+ */
+uint8_t pbm_status(const uint8_t *record, size_t record_len, uint64_t *capacity, uint64_t *moves,
+                   uint64_t *total, uint64_t *health, uint64_t *out_disk);
+
+/*
+ * Tells the stripe and the disk on which block `block` now stands, whether that disk is out or not.
+ * Lent: record, read; the two numbers, written.
+ * Refusals: 1 record, 8 past the end.
+ */
+uint8_t pbm_locate(const uint8_t *record, size_t record_len, uint64_t block, uint64_t *stripe, uint64_t *disk);
+
+/*
+ * Tells what now stands on disk `disk` of stripe `stripe`: its role (PBM_BLANK, PBM_PARITY or PBM_DATA) and the number
+ * of the block (0 unless the role is PBM_DATA).
+ * Lent: record, read; the two numbers, written.
+ * Refusals: 1 record, 8 past the end (of the stripes), 10 disk.
+ */
+uint8_t pbm_owner(const uint8_t *record, size_t record_len, uint64_t stripe, uint64_t disk,
+                  uint64_t *role, uint64_t *block);
+
+#ifdef __cplusplus
+}
+#endif
+
+#endif

@@ -1,0 +1,167 @@
+/* Every call of pbm.h from C: n = 3, m = 2, T = 15, B = 4. Prints what each returns and leaves; tests/c_interface.rs has the values. */
+#include "pbm.h"
+
+#include <stdio.h>
+#include <stdlib.h>
+#include <string.h>
+
+enum { STRIPES = 15, BLOCK = 4, DISK = STRIPES * BLOCK };
+
+static uint8_t *record, *images, *block;
+static size_t images_len;
+
+/* Just so many bytes, without a value, so that memcheck knows their ends and what was set. */
+static uint8_t *take(size_t len)
+{
+    uint8_t *bytes = (uint8_t *)malloc(len);
+    if (bytes == NULL) exit(1);
+    return bytes;
+}
+
+static void show_record(void)
+{
+    int i;
+    printf("record");
+    for (i = 0; i < PBM_RECORD_LEN; i++) printf(" %d", record[i]);
+    printf("\n");
+}
+
+static void show_status(void)
+{
+    uint64_t capacity = 9, moves = 9, total = 9, health = 9, out = 9;
+    int number = pbm_status(record, PBM_RECORD_LEN, &capacity, &moves, &total, &health, &out);
+    printf("status %d: capacity %d, moves %d of %d, health %d, out %d\n", number, (int)capacity, (int)moves, (int)total,
+           (int)health, (int)out);
+}
+
+static void show_place(uint64_t number)
+{
+    uint64_t stripe = 9, disk = 9;
+    int answer = pbm_locate(record, PBM_RECORD_LEN, number, &stripe, &disk);
+    printf("locate %d: %d (%d, %d)\n", (int)number, answer, (int)stripe, (int)disk);
+}
+
+static void show_owner(uint64_t stripe, uint64_t disk)
+{
+    uint64_t role = 9, number = 9;
+    int answer = pbm_owner(record, PBM_RECORD_LEN, stripe, disk, &role, &number);
+    printf("owner (%d, %d): %d role %d, block %d\n", (int)stripe, (int)disk, answer, (int)role, (int)number);
+}
+
+static void show_read(uint64_t number)
+{
+    int answer = pbm_read(record, PBM_RECORD_LEN, images, images_len, number, block, BLOCK);
+    printf("read %d: %d %.4s\n", (int)number, answer, (const char *)block);
+}
+
+static void show_write(uint64_t number, const char *data)
+{
+    uint8_t *bytes = take(BLOCK);
+    int answer;
+    memcpy(bytes, data, BLOCK);
+    answer = pbm_write(record, PBM_RECORD_LEN, images, images_len, number, bytes, BLOCK);
+    printf("write %d: %d\n", (int)number, answer);
+    free(bytes);
+}
+
+static void show_advance(uint64_t k)
+{
+    uint64_t made = 9;
+    int answer = pbm_advance(record, PBM_RECORD_LEN, images, images_len, k, &made);
+    printf("advance %d: %d made %d\n", (int)k, answer, (int)made);
+}
+
+static void show_out(uint64_t disk) { printf("out %d: %d\n", (int)disk, pbm_out(record, PBM_RECORD_LEN, disk)); }
+
+static void show_rebuild(uint64_t disk)
+{
+    printf("rebuild %d: %d\n", (int)disk, pbm_rebuild(record, PBM_RECORD_LEN, images, images_len, disk));
+}
+
+/* What a disk that is out holds is of no matter: without a value to memcheck. */
+static void lose(uint64_t disk)
+{
+    uint8_t *garbage = take(DISK);
+    show_out(disk);
+    memcpy(images + disk * DISK, garbage, DISK);
+    free(garbage);
+}
+
+static void format(void)
+{
+    images_len = 3 * DISK;
+    images = take(images_len);
+    printf("format n = 2: %d\n", pbm_format(record, PBM_RECORD_LEN, images, images_len, 2, BLOCK, STRIPES));
+    printf("format: %d\n", pbm_format(record, PBM_RECORD_LEN, images, images_len, 3, BLOCK, STRIPES));
+    show_record();
+    show_status();
+}
+
+static void grow(void)
+{
+    uint8_t *more = take(5 * DISK);
+    printf("grow, images of 3 disks: %d\n", pbm_grow(record, PBM_RECORD_LEN, images, images_len, 2));
+    memcpy(more, images, images_len);
+    free(images);
+    images = more;
+    images_len = 5 * DISK;
+    printf("grow: %d\n", pbm_grow(record, PBM_RECORD_LEN, images, images_len, 2));
+    printf("grow again: %d\n", pbm_grow(record, PBM_RECORD_LEN, images, images_len, 2));
+    show_status();
+}
+
+int main(void)
+{
+    record = take(PBM_RECORD_LEN);
+    block = take(BLOCK);
+
+    format();
+    show_place(5);
+    show_write(4, "four");
+    show_write(5, "five");
+    show_write(30, "past");
+    show_read(4);
+    printf("read, 3 bytes: %d\n", pbm_read(record, PBM_RECORD_LEN, images, images_len, 4, block, 3));
+    printf("read, record of 15 bytes: %d\n", pbm_read(record, 15, images, images_len, 4, block, BLOCK));
+    show_advance(1);
+
+    grow();
+    show_owner(3, 0);
+    show_advance(2);
+    show_owner(3, 0);
+    show_owner(3, 3);
+    show_owner(2, 3);
+    show_owner(15, 0);
+    show_owner(0, 5);
+    show_place(4);
+    show_place(30);
+
+    lose(3);
+    show_read(4);
+    show_write(4, "FOUR");
+    show_advance(1);
+    show_out(3);
+    show_rebuild(2);
+    show_rebuild(3);
+    show_read(4);
+    show_record();
+
+    show_advance(100);
+    show_advance(100);
+    show_status();
+    show_place(30);
+    show_owner(1, 2);
+    show_write(59, "last");
+    lose(0);
+    show_read(59);
+    show_read(5);
+    lose(1);
+    show_read(59);
+    show_status();
+    show_place(59);
+
+    free(images);
+    free(block);
+    free(record);
+    return 0;
+}

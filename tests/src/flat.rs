@@ -1,0 +1,120 @@
+//! "The flat list of demand 3": a small machine that is fed each call's arguments and the lengths lent, and no byte of
+//! record or images.
+
+use crate::layout::{Layout, Owner};
+use crate::pbm::{Answer, Call};
+use crate::record::{Health, Record};
+use crate::table::{refusal, Lent};
+
+pub struct Flat {
+    /// n, m, B, T, t and health.
+    pub numbers: Record,
+    /// By Layout, where each of the blocks stands.
+    pub layout: Layout,
+    /// The list of blocks, one behind the other.
+    blocks: Vec<u8>,
+}
+
+impl Flat {
+    /// What an accepted format makes.
+    pub fn format(n: u64, block_len: u64, stripes: u64) -> Flat {
+        Flat {
+            numbers: Record::new(n, block_len, stripes),
+            layout: Layout::home(n, stripes),
+            blocks: vec![0; (stripes * (n - 1) * block_len) as usize],
+        }
+    }
+
+    /// The list's length.
+    pub fn capacity(&self) -> u64 {
+        self.blocks.len() as u64 / self.numbers.block_len
+    }
+
+    pub fn block(&self, block: u64) -> &[u8] {
+        let len = self.numbers.block_len as usize;
+        &self.blocks[block as usize * len..][..len]
+    }
+
+    /// One call. `block` is a write's data, or what a read fills.
+    pub fn step(&mut self, call: Call, lent: &Lent, block: &mut [u8]) -> Answer {
+        assert_eq!(self.numbers.capacity(), self.capacity());
+        match refusal(&self.numbers, call, lent) {
+            0 => self.accept(call, block),
+            number => Answer::refused(number),
+        }
+    }
+
+    fn accept(&mut self, call: Call, room: &mut [u8]) -> Answer {
+        let numbers = &mut self.numbers;
+        match call {
+            Call::Format {
+                n,
+                block_len,
+                stripes,
+            } => *self = Flat::format(n, block_len, stripes),
+            Call::Read { block } => room.copy_from_slice(self.block(block)),
+            Call::Write { block } => {
+                let len = room.len();
+                self.blocks[block as usize * len..][..len].copy_from_slice(room);
+            }
+            Call::Grow { m } => {
+                numbers.m = m;
+                self.layout.grow(m);
+            }
+            Call::Advance { k } => {
+                let made = k.min(numbers.total() - numbers.moves);
+                numbers.moves += made;
+                self.layout.advance(made);
+                self.lengthen();
+                return Answer::done(&[made]);
+            }
+            Call::Out { disk } => {
+                numbers.health = match numbers.health {
+                    Health::Whole => Health::Out(disk),
+                    _ => Health::Lost,
+                }
+            }
+            Call::Rebuild { .. } => numbers.health = Health::Whole,
+            Call::Status => return self.status(),
+            Call::Locate { block } => {
+                let (stripe, disk) = self.layout.place(block);
+                return Answer::done(&[stripe, disk]);
+            }
+            Call::Owner { stripe, disk } => return owned(self.layout.owner(stripe, disk)),
+        }
+        Answer::done(&[])
+    }
+
+    /// "puts T × m zero blocks behind the list" once t is the total. A growth has at least one move, so grow need not look.
+    fn lengthen(&mut self) {
+        let Record {
+            m,
+            stripes,
+            block_len,
+            ..
+        } = self.numbers;
+        if self.numbers.is_grown() {
+            let len = self.blocks.len() as u64 + stripes * m * block_len;
+            self.blocks.resize(len as usize, 0);
+        }
+    }
+
+    fn status(&self) -> Answer {
+        let (health, out) = match self.numbers.health {
+            Health::Whole => (0, 0),
+            Health::Out(disk) => (1, disk),
+            Health::Lost => (2, 0),
+        };
+        let total = self.layout.total();
+        Answer::done(&[self.capacity(), self.numbers.moves, total, health, out])
+    }
+}
+
+/// The answer of owner.
+pub fn owned(owner: Owner) -> Answer {
+    match owner {
+        Owner::Blank => Answer::done(&[0, 0]),
+        Owner::Parity => Answer::done(&[1, 0]),
+        Owner::Data(block) => Answer::done(&[2, block]),
+    }
+}

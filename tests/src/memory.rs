@@ -1,0 +1,216 @@
+//! Memory to lend: on the heap, or between protected pages, where a byte read or written outside of what was lent ends the
+//! run.
+
+use std::cell::Cell;
+use std::ffi::{c_int, c_void};
+use std::io::Write;
+use std::ptr::null_mut;
+use std::slice::{from_raw_parts, from_raw_parts_mut};
+
+/// One slice that can be lent.
+pub trait Memory {
+    /// From now on it holds just these bytes.
+    fn hold(&mut self, bytes: &[u8]);
+    fn bytes(&self) -> &[u8];
+    /// To lend for reading alone.
+    fn shared(&mut self) -> &[u8];
+    /// To lend for writing.
+    fn exclusive(&mut self) -> &mut [u8];
+}
+
+impl Memory for Vec<u8> {
+    fn hold(&mut self, bytes: &[u8]) {
+        *self = bytes.to_vec(); // a new allocation of just this length, so that memcheck knows its ends
+    }
+
+    fn bytes(&self) -> &[u8] {
+        self
+    }
+
+    fn shared(&mut self) -> &[u8] {
+        self
+    }
+
+    fn exclusive(&mut self) -> &mut [u8] {
+        self
+    }
+}
+
+/// Which end of a slice touches a protected page. The other end has unprotected bytes next to it.
+#[derive(Clone, Copy, Debug, PartialEq, Eq)]
+pub enum Side {
+    Start,
+    End,
+}
+
+/// A slice between protected pages; write-protected itself while it is lent for reading alone.
+pub struct Guarded {
+    side: Side,
+    /// Whole pages, with a protected one before and one behind.
+    room: *mut u8,
+    room_len: usize,
+    len: usize,
+    access: Access,
+    sealed: bool,
+}
+
+#[derive(Clone, Copy, PartialEq, Eq)]
+enum Access {
+    None = PROT_NONE as isize,
+    Read = PROT_READ as isize,
+    Write = (PROT_READ | PROT_WRITE) as isize,
+}
+
+const PAGE: usize = 4096;
+
+impl Guarded {
+    pub fn new(side: Side) -> Guarded {
+        Guarded::map(side, PAGE)
+    }
+
+    /// A slice of zeros, of which only the pages that are touched take memory.
+    pub fn zeros(side: Side, len: usize) -> Guarded {
+        let mut zeros = Guarded::map(side, len);
+        zeros.len = len;
+        zeros
+    }
+
+    /// A slice of which no byte may be read or written.
+    pub fn sealed(len: usize) -> Guarded {
+        let mut sealed = Guarded::zeros(Side::Start, len);
+        sealed.sealed = true;
+        sealed
+    }
+
+    /// A slice of length 0, with room for more.
+    fn map(side: Side, len: usize) -> Guarded {
+        let room_len = len.next_multiple_of(PAGE);
+        // SAFETY: new pages.
+        let all = unsafe {
+            mmap(
+                null_mut(),
+                room_len + 2 * PAGE,
+                PROT_NONE,
+                MAP_PRIVATE | MAP_ANONYMOUS | MAP_NORESERVE,
+                -1,
+                0,
+            )
+        };
+        assert_ne!(all as isize, -1, "mmap");
+        Guarded {
+            side,
+            room: all.cast::<u8>().wrapping_add(PAGE),
+            room_len,
+            len: 0,
+            access: Access::None,
+            sealed: false,
+        }
+    }
+
+    fn allow(&mut self, access: Access) {
+        if self.access != access && !self.sealed {
+            // SAFETY: the room's own pages, borrowed exclusively.
+            let changed = unsafe { mprotect(self.room.cast(), self.room_len, access as c_int) };
+            assert_eq!(changed, 0, "mprotect");
+            self.access = access;
+        }
+    }
+
+    fn start(&self) -> *mut u8 {
+        match self.side {
+            Side::Start => self.room,
+            Side::End => self.room.wrapping_add(self.room_len - self.len),
+        }
+    }
+}
+
+impl Memory for Guarded {
+    fn hold(&mut self, bytes: &[u8]) {
+        if bytes.len() > self.room_len {
+            *self = Guarded::map(self.side, bytes.len());
+        }
+        self.len = bytes.len();
+        self.exclusive().copy_from_slice(bytes);
+    }
+
+    fn bytes(&self) -> &[u8] {
+        // SAFETY: within the room, readable unless sealed, and borrowed from self.
+        unsafe { from_raw_parts(self.start(), self.len) }
+    }
+
+    fn shared(&mut self) -> &[u8] {
+        self.allow(Access::Read);
+        self.bytes()
+    }
+
+    fn exclusive(&mut self) -> &mut [u8] {
+        self.allow(Access::Write);
+        // SAFETY: within the room, writable unless sealed, and borrowed exclusively from self.
+        unsafe { from_raw_parts_mut(self.start(), self.len) }
+    }
+}
+
+impl Drop for Guarded {
+    fn drop(&mut self) {
+        let start = self.room.wrapping_sub(PAGE);
+        // SAFETY: the pages of `map`, to which no reference is left.
+        let freed = unsafe { munmap(start.cast(), self.room_len + 2 * PAGE) };
+        assert_eq!(freed, 0, "munmap");
+    }
+}
+
+thread_local! {
+    static DOING: Cell<u64> = const { Cell::new(0) };
+}
+
+/// Until the next call, a fault in this thread tells this seed. (What a test has printed is lost when it ends by a fault.)
+pub fn on_fault_tell(seed: u64) {
+    DOING.set(seed);
+    // SAFETY: a handler that only writes and ends the process.
+    unsafe {
+        signal(SIGSEGV, fault);
+        signal(SIGBUS, fault);
+    }
+}
+
+extern "C" fn fault(_: c_int) {
+    let mut text = [0u8; 160];
+    let mut rest = &mut text[..];
+    let _ = writeln!(
+        rest,
+        "\na byte outside of what was lent was touched, or one lent for reading alone was written: SEED={}",
+        DOING.get()
+    );
+    let len = 160 - rest.len();
+    // SAFETY: both may be called from a handler.
+    unsafe {
+        write(2, text.as_ptr().cast(), len);
+        _exit(1);
+    }
+}
+
+const PROT_NONE: c_int = 0;
+const PROT_READ: c_int = 1;
+const PROT_WRITE: c_int = 2;
+const MAP_PRIVATE: c_int = 0x02;
+const MAP_ANONYMOUS: c_int = 0x20;
+const MAP_NORESERVE: c_int = 0x4000;
+const SIGBUS: c_int = 7;
+const SIGSEGV: c_int = 11;
+
+// The C library's, as Linux on x86-64 has them.
+extern "C" {
+    fn mmap(
+        address: *mut c_void,
+        len: usize,
+        access: c_int,
+        flags: c_int,
+        file: c_int,
+        offset: i64,
+    ) -> *mut c_void;
+    fn munmap(address: *mut c_void, len: usize) -> c_int;
+    fn mprotect(address: *mut c_void, len: usize, access: c_int) -> c_int;
+    fn signal(number: c_int, handler: extern "C" fn(c_int)) -> usize;
+    fn write(file: c_int, bytes: *const c_void, len: usize) -> isize;
+    fn _exit(status: c_int) -> !;
+}

@@ -1,0 +1,95 @@
+//! Document 01's table of refusals, row by row.
+
+use crate::pbm::Call::{self, *};
+use crate::record::{Health, Record};
+
+/// What the table reads of the slices that are lent; the length of one that a call does not take is not looked at.
+#[derive(Clone, Copy, Debug)]
+pub struct Lent {
+    pub record_len: usize,
+    /// whether the record's bytes, if 16, are good
+    pub good: bool,
+    pub images_len: usize,
+    pub block_len: usize,
+}
+
+/// The numbers that a call can answer, by its name.
+pub fn rows(name: &str) -> &'static [u8] {
+    match name {
+        "format" => &[1, 6, 7],
+        "read" | "write" => &[1, 2, 7, 8, 9],
+        "grow" => &[1, 2, 3, 4, 6, 7],
+        "advance" => &[1, 2, 3, 5, 7],
+        "out" => &[1, 2, 10],
+        "rebuild" => &[1, 2, 7, 10],
+        "status" => &[1],
+        "locate" => &[1, 8],
+        "owner" => &[1, 8, 10],
+        _ => panic!("no call {name}"),
+    }
+}
+
+/// Whether the row's condition holds for this call, whatever those of the rows above say.
+pub fn holds(row: u8, record: &Record, call: Call, lent: &Lent) -> bool {
+    let is_out = matches!(record.health, Health::Out(_));
+    match (row, call) {
+        (1, Format { .. }) => lent.record_len != 16,
+        (1, _) => lent.record_len != 16 || !lent.good,
+        (2, Format { .. } | Status | Locate { .. } | Owner { .. }) => false,
+        (2, _) => record.health == Health::Lost,
+        (3, Grow { .. } | Advance { .. }) => is_out,
+        (4, Grow { .. }) => record.m != 0,
+        (5, Advance { .. }) => record.m == 0 || record.moves == record.total(),
+        (
+            6,
+            Format {
+                n,
+                block_len,
+                stripes,
+            },
+        ) => {
+            !(3..=16).contains(&n)
+                || !(1..=4096).contains(&block_len)
+                || !(1..=1_048_576).contains(&stripes)
+        }
+        (6, Grow { m }) => {
+            !(1..=16).contains(&m) || !record.stripes.is_multiple_of(record.n * (record.n + m))
+        }
+        (
+            7,
+            Format {
+                n,
+                block_len,
+                stripes,
+            },
+        ) => differs(lent.images_len, &[n, stripes, block_len]),
+        (7, Grow { m }) => differs(
+            lent.images_len,
+            &[record.n.saturating_add(m), record.stripes, record.block_len],
+        ),
+        (7, Read { .. } | Write { .. } | Advance { .. } | Rebuild { .. }) => differs(
+            lent.images_len,
+            &[record.disks(), record.stripes, record.block_len],
+        ),
+        (8, Read { block } | Write { block } | Locate { block }) => block >= record.capacity(),
+        (8, Owner { stripe, .. }) => stripe >= record.stripes,
+        (9, Read { .. } | Write { .. }) => lent.block_len as u64 != record.block_len,
+        (10, Out { disk }) => disk >= record.disks() || record.health == Health::Out(disk),
+        (10, Rebuild { disk }) => record.health != Health::Out(disk),
+        (10, Owner { disk, .. }) => disk >= record.disks(),
+        _ => false,
+    }
+}
+
+/// The lowest number whose condition holds, or 0.
+pub fn refusal(record: &Record, call: Call, lent: &Lent) -> u8 {
+    (1..=10)
+        .find(|&row| holds(row, record, call, lent))
+        .unwrap_or(0)
+}
+
+/// Whether a length is not the product; factors may be any numbers.
+fn differs(len: usize, factors: &[u64]) -> bool {
+    let product = factors.iter().try_fold(1u64, |p, &f| p.checked_mul(f));
+    product != Some(len as u64)
+}

@@ -1,0 +1,181 @@
+//! "Drawers on the bench" of document 01, through the exported calls. The cases of the program are in zone_moves.rs.
+
+use yuzkamide_tests::array::Array;
+use yuzkamide_tests::pbm::{Answer, Call};
+
+const PAST_THE_END: Answer = refused(8);
+const BLANK: [u64; 2] = [0, 0];
+const PARITY: [u64; 2] = [1, 0];
+
+const fn refused(number: u8) -> Answer {
+    Answer {
+        number,
+        beside: [0; 5],
+    }
+}
+
+fn at(stripe: u64, disk: u64) -> Answer {
+    Answer::done(&[stripe, disk])
+}
+
+fn data(block: u64) -> [u64; 2] {
+    [2, block]
+}
+
+/// n = 3, m = 2, T = 15, after so many moves, made one by one.
+fn three_and_two(moves: u64) -> Array {
+    let mut array = Array::format(3, 4, 15);
+    assert_eq!(array.grow(2), Answer::done(&[]));
+    for _ in 0..moves {
+        assert_eq!(array.advance(1), Answer::done(&[1]));
+    }
+    array
+}
+
+fn owners(array: &mut Array, stripe: u64) -> Vec<[u64; 2]> {
+    (0..array.record().disks())
+        .map(|disk| {
+            let answer = array.owner(stripe, disk);
+            assert_eq!(answer.number, 0);
+            [answer.beside[0], answer.beside[1]]
+        })
+        .collect()
+}
+
+#[test]
+fn total_18_capacity_30_then_60() {
+    let mut array = Array::format(3, 4, 15);
+    assert_eq!(array.call(Call::Status), Answer::done(&[30, 0, 0, 0, 0]));
+    assert_eq!(array.grow(2), Answer::done(&[]));
+    for moves in 0..18 {
+        let status = Answer::done(&[30, moves, 18, 0, 0]);
+        assert_eq!(array.call(Call::Status), status);
+        assert_eq!(array.advance(1), Answer::done(&[1]));
+    }
+    assert_eq!(array.call(Call::Status), Answer::done(&[60, 18, 18, 0, 0]));
+}
+
+#[test]
+fn block_5_before_growth() {
+    let mut array = Array::format(3, 4, 15);
+    assert_eq!(array.locate(5), at(2, 0));
+    assert_eq!(owners(&mut array, 2), [data(5), data(4), PARITY]);
+}
+
+#[test]
+fn move_0_takes_the_parity_of_stripe_3_from_disk_0_to_3() {
+    let before = owners(&mut three_and_two(0), 3);
+    assert_eq!(before, [PARITY, data(7), data(6), BLANK, BLANK]);
+    let after = owners(&mut three_and_two(1), 3);
+    assert_eq!(after, [BLANK, data(7), data(6), PARITY, BLANK]);
+}
+
+#[test]
+fn move_1_takes_block_4_from_disk_1_to_3() {
+    assert_eq!(three_and_two(1).locate(4), at(2, 1));
+    assert_eq!(three_and_two(2).locate(4), at(2, 3));
+}
+
+#[test]
+fn move_2_takes_block_2_of_stripe_1_from_disk_2_to_3() {
+    assert_eq!(three_and_two(2).locate(2), at(1, 2));
+    assert_eq!(three_and_two(3).locate(2), at(1, 3));
+}
+
+/// A move copies the block and zeroes the place it left; the parity moves as a block does.
+#[test]
+fn the_bytes_move_too() {
+    let mut array = three_and_two(0);
+    let place = |stripe: usize, disk: usize| (disk * 15 + stripe) * 4..(disk * 15 + stripe + 1) * 4;
+    array.write(4, b"four");
+    array.write(6, b"six!");
+    assert_eq!(array.0.images[place(3, 0)], *b"six!");
+    assert_eq!(array.advance(2), Answer::done(&[2]));
+    for (at, bytes) in [
+        (place(3, 0), [0; 4]),
+        (place(3, 3), *b"six!"),
+        (place(2, 1), [0; 4]),
+        (place(2, 3), *b"four"),
+        (place(2, 2), *b"four"),
+    ] {
+        assert_eq!(array.0.images[at], bytes);
+    }
+}
+
+/// The remainder of p + Z × m − 2i goes negative at move 2 already.
+#[test]
+fn every_block_keeps_its_bytes() {
+    let data = |block: u64| [1, 2, 3, block as u8];
+    let mut array = three_and_two(0);
+    for block in 0..30 {
+        array.write(block, &data(block));
+    }
+    for _ in 0..18 {
+        assert_eq!(array.advance(1), Answer::done(&[1]));
+        for block in 0..30 {
+            assert_eq!(array.read(block), data(block), "{:?}", array.record());
+        }
+    }
+}
+
+#[test]
+fn block_6_ends_on_disk_4() {
+    assert_eq!(three_and_two(18).locate(6), at(3, 4));
+}
+
+#[test]
+fn block_0_never_moves() {
+    for moves in 0..=18 {
+        assert_eq!(three_and_two(moves).locate(0), at(0, 2));
+    }
+}
+
+#[test]
+fn new_blocks_open_with_the_last_move() {
+    let mut array = three_and_two(17);
+    for call in [
+        Call::Locate { block: 30 },
+        Call::Read { block: 30 },
+        Call::Write { block: 30 },
+    ] {
+        assert_eq!(array.call(call), PAST_THE_END);
+    }
+    assert_eq!(array.advance(100), Answer::done(&[1]));
+    assert_eq!(array.advance(100), refused(5));
+    assert_eq!(array.locate(30), at(0, 3));
+    assert_eq!(array.locate(32), at(1, 2));
+    assert_eq!(array.locate(59), at(14, 3));
+    assert_eq!(array.locate(60), PAST_THE_END);
+    assert_eq!(array.read(30), [0; 4]);
+    array.write(59, b"last");
+    assert_eq!(array.read(59), b"last");
+}
+
+#[test]
+fn four_and_one() {
+    let mut array = Array::format(4, 1, 20);
+    assert_eq!(array.grow(1), Answer::done(&[]));
+    assert_eq!(array.call(Call::Status), Answer::done(&[60, 0, 16, 0, 0]));
+    assert_eq!(Array::format(4, 1, 19).grow(1), refused(6));
+}
+
+#[test]
+fn limits_of_a_format() {
+    for (n, block_len, number) in [
+        (2, 1, 6),
+        (3, 1, 0),
+        (16, 1, 0),
+        (17, 1, 6),
+        (3, 4096, 0),
+        (3, 4097, 6),
+    ] {
+        let mut array = Array::format(3, 1, 1);
+        array.0.images.resize((n * block_len * 2) as usize, 0);
+        let call = Call::Format {
+            n,
+            block_len,
+            stripes: 2,
+        };
+        assert_eq!(array.call(call), refused(number), "{call:?}");
+    }
+}

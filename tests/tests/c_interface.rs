@@ -1,0 +1,90 @@
+//! The header and the archive as a C and a C++ program meet them.
+
+use std::process::Command;
+use yuzkamide_tests::compile::{archive, interface, run, text};
+use yuzkamide_tests::pbm::NAMES;
+
+/// What tests/c/interface.c prints.
+const PRINTED: &str = "\
+format n = 2: 6
+format: 0
+record 3 0 0 0 4 0 0 0 15 0 0 0 0 0 0 0
+status 0: capacity 30, moves 0 of 0, health 0, out 0
+locate 5: 0 (2, 0)
+write 4: 0
+write 5: 0
+write 30: 8
+read 4: 0 four
+read, 3 bytes: 9
+read, record of 15 bytes: 1
+advance 1: 5 made 0
+grow, images of 3 disks: 7
+grow: 0
+grow again: 4
+status 0: capacity 30, moves 0 of 18, health 0, out 0
+owner (3, 0): 0 role 1, block 0
+advance 2: 0 made 2
+owner (3, 0): 0 role 0, block 0
+owner (3, 3): 0 role 1, block 0
+owner (2, 3): 0 role 2, block 4
+owner (15, 0): 8 role 0, block 0
+owner (0, 5): 10 role 0, block 0
+locate 4: 0 (2, 3)
+locate 30: 8 (0, 0)
+out 3: 0
+read 4: 0 four
+write 4: 0
+advance 1: 3 made 0
+out 3: 10
+rebuild 2: 10
+rebuild 3: 0
+read 4: 0 FOUR
+record 3 2 0 0 4 0 0 0 15 0 0 0 2 0 0 0
+advance 100: 0 made 16
+advance 100: 5 made 0
+status 0: capacity 60, moves 18 of 18, health 0, out 0
+locate 30: 0 (0, 3)
+owner (1, 2): 0 role 2, block 32
+write 59: 0
+out 0: 0
+read 59: 0 last
+read 5: 0 five
+out 1: 0
+read 59: 2 five
+status 0: capacity 60, moves 18 of 18, health 2, out 0
+locate 59: 0 (14, 3)
+";
+
+fn prints(name: &str, compiler: &[&str]) {
+    let program = interface(name, compiler);
+    let output = run(&mut Command::new(program));
+    assert_eq!(text(&output.stdout), PRINTED);
+}
+
+#[test]
+fn from_c() {
+    prints("interface-c", &["gcc", "-std=c11"]);
+}
+
+#[test]
+fn from_c_plus_plus() {
+    prints("interface-c++", &["g++", "-std=c++11", "-x", "c++"]);
+}
+
+#[test]
+fn the_archive_has_the_ten_functions() {
+    let output = run(Command::new("nm")
+        .args(["--extern-only", "--defined-only"])
+        .arg(archive()));
+    // address, kind and name; T is a function
+    let mut found: Vec<String> = text(&output.stdout)
+        .lines()
+        .map(|line| line.split_whitespace().collect::<Vec<_>>())
+        .filter(|words| words.len() == 3 && words[2].starts_with("pbm_"))
+        .map(|words| words[1..].join(" "))
+        .collect();
+    found.sort_unstable();
+    let mut wanted = NAMES.map(|name| format!("T pbm_{name}"));
+    wanted.sort_unstable();
+    assert_eq!(found, wanted);
+}

@@ -1,0 +1,132 @@
+//! Arrays at the limits, through all calls: the record's numbers need all of their bytes there, and images are large.
+
+use yuzkamide_tests::array::Array;
+use yuzkamide_tests::images::place;
+use yuzkamide_tests::layout::Layout;
+use yuzkamide_tests::memory::{Guarded, Memory, Side};
+use yuzkamide_tests::pbm::{Answer, Call, Loan};
+use yuzkamide_tests::record::Record;
+
+/// What block `block` is written with.
+fn data(block: u64, block_len: u64) -> Vec<u8> {
+    (0..block_len)
+        .map(|at| {
+            (block + at)
+                .wrapping_mul(0x9e37_79b9_7f4a_7c15)
+                .to_le_bytes()[7]
+        })
+        .collect()
+}
+
+fn write_all(array: &mut Array, blocks: std::ops::Range<u64>) {
+    let block_len = array.record().block_len;
+    for block in blocks {
+        array.write(block, &data(block, block_len));
+    }
+}
+
+fn read_all(array: &mut Array) {
+    let block_len = array.record().block_len;
+    for block in 0..array.record().capacity() {
+        assert_eq!(
+            array.read(block),
+            data(block, block_len),
+            "block {block}, {:?}",
+            array.record()
+        );
+    }
+}
+
+/// Grows by these budgets, the last of which must complete it, and reads every block behind each; then loses and rebuilds the
+/// first and the last disk.
+fn grows(home: Record, m: u64, budgets: &[u64]) {
+    let mut array = Array::format(home.n, home.block_len, home.stripes);
+    write_all(&mut array, 0..home.capacity());
+    assert_eq!(array.grow(m), Answer::done(&[]));
+    let mut record = Record { m, ..home };
+    for &k in budgets {
+        let made = k.min(record.total() - record.moves);
+        assert_eq!(array.advance(k), Answer::done(&[made]));
+        record.moves += made;
+        assert_eq!(array.0.record, record.bytes());
+        if !record.is_grown() {
+            read_all(&mut array);
+        }
+    }
+    assert!(record.is_grown());
+    write_all(&mut array, home.capacity()..record.capacity());
+    read_all(&mut array);
+    for disk in [0, record.disks() - 1] {
+        loses(&mut array, disk);
+        assert_eq!(array.0.record, record.bytes());
+    }
+}
+
+/// All blocks can be read with the disk out, whatever it holds, and again once it is rebuilt.
+fn loses(array: &mut Array, disk: u64) {
+    let record = array.record();
+    assert_eq!(array.call(Call::Out { disk }), Answer::done(&[]));
+    let len = (record.stripes * record.block_len) as usize;
+    array.0.images[disk as usize * len..][..len].fill(0xff);
+    read_all(array);
+    assert_eq!(array.call(Call::Rebuild { disk }), Answer::done(&[]));
+    read_all(array);
+}
+
+#[test]
+fn the_most_stripes() {
+    let mut array = Array::format(3, 1, 1_048_576);
+    assert_eq!(
+        array.0.record,
+        [3, 0, 0, 0, 1, 0, 0, 0, 0, 0, 16, 0, 0, 0, 0, 0]
+    );
+    write_all(&mut array, 0..2_097_152);
+    read_all(&mut array);
+    assert_eq!(array.locate(2_097_151), Answer::done(&[1_048_575, 1]));
+    assert_eq!(array.locate(2_097_152), Answer::refused(8));
+}
+
+/// T is the largest multiple of 3 × 4, and t passes 65,535.
+#[test]
+fn the_most_stripes_that_grow() {
+    let home = Record::new(3, 1, 1_048_572);
+    grows(home, 1, &[65_535, 1, 720_000, u64::MAX]);
+}
+
+#[test]
+fn the_most_disks_with_the_longest_blocks() {
+    grows(Record::new(16, 4096, 512), 16, &[1, 2000, 2095]);
+}
+
+/// Images of 17 GB, all zero at first. Each block is in a stripe of its own, so the parity is equal to it.
+#[test]
+fn places_beyond_32_bits() {
+    let mut record = Record::new(3, 4096, 1_048_572);
+    record.m = 1;
+    record.moves = record.total() - 6;
+    let mut layout = Layout::of(&record);
+    let mut loan = Loan::guarded(Side::End);
+    loan.record.hold(&record.bytes());
+    loan.images = Guarded::zeros(Side::End, record.images_len() as usize);
+
+    let last = record.capacity() - 1;
+    let blocks: Vec<u64> = (0..12).map(|i| last - 2 * i).chain([0, last / 2]).collect();
+    for &block in &blocks {
+        loan.block.hold(&data(block, 4096));
+        assert_eq!(loan.call(Call::Write { block }), Answer::done(&[]));
+    }
+    for made in [0, 1, 5] {
+        assert_eq!(loan.call(Call::Advance { k: made }), Answer::done(&[made]));
+        layout.advance(made);
+        for &block in &blocks {
+            let data = data(block, 4096);
+            let (stripe, disk) = layout.place(block);
+            let images = loan.images.bytes();
+            assert!(images[place(&record, stripe, disk)] == data);
+            assert!(images[place(&record, stripe, layout.parity(stripe))] == data);
+            loan.block.hold(&[0; 4096]);
+            assert_eq!(loan.call(Call::Read { block }), Answer::done(&[]));
+            assert!(loan.block.bytes() == data, "block {block}");
+        }
+    }
+}

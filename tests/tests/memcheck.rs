@@ -1,0 +1,56 @@
+//! Valgrind's memcheck over the C program and over short histories: no byte outside of what was lent is touched, and no answer
+//! hangs on a byte that was never set.
+
+use std::env::current_exe;
+use std::process::Command;
+use yuzkamide_tests::compile::{interface, run, text};
+use yuzkamide_tests::history::{self, Tally};
+use yuzkamide_tests::pbm::Bytes;
+use yuzkamide_tests::random::Random;
+
+const HISTORIES: u64 = 5;
+
+fn memcheck() -> Command {
+    assert!(
+        Command::new("valgrind").arg("--version").output().is_ok(),
+        "valgrind is missing: install the Debian package `valgrind`"
+    );
+    let mut command = Command::new("valgrind");
+    command.args([
+        "--tool=memcheck",
+        "--quiet",
+        "--leak-check=no",
+        "--error-exitcode=9",
+    ]);
+    command
+}
+
+#[test]
+fn over_the_c_program() {
+    let program = interface("interface-memcheck", &["gcc", "-std=c11"]);
+    run(memcheck().arg("--track-origins=yes").arg(program));
+}
+
+/// Memory on the heap, of just the length that is lent.
+#[test]
+fn histories_on_the_heap() {
+    let seed = Random::seed("histories_on_the_heap");
+    for seed in (0..HISTORIES).map(|i| seed.wrapping_add(i)) {
+        let loan = Bytes {
+            record: Vec::new(),
+            images: Vec::new(),
+            block: Vec::new(),
+        };
+        history::run(seed, loan, &mut Tally::default());
+    }
+}
+
+#[test]
+fn over_histories() {
+    let seed = Random::seed("over_histories").to_string();
+    let output = run(memcheck()
+        .arg(current_exe().unwrap())
+        .args(["--exact", "histories_on_the_heap"])
+        .env("SEED", seed));
+    assert!(text(&output.stdout).contains("1 passed"));
+}

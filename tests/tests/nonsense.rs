@@ -1,0 +1,443 @@
+//! Any bytes in a record, any lengths and any numbers: the answer is the table's, and what is refused is not touched.
+
+use yuzkamide_tests::flat::owned;
+use yuzkamide_tests::layout::Layout;
+use yuzkamide_tests::memory::{Guarded, Memory, Side};
+use yuzkamide_tests::pbm::{Answer, Bytes, Call, Loan};
+use yuzkamide_tests::random::Random;
+use yuzkamide_tests::record::{good, Health, Record};
+use yuzkamide_tests::table::{refusal, Lent};
+
+const HOME: Record = Record {
+    n: 3,
+    m: 0,
+    health: Health::Whole,
+    block_len: 4,
+    stripes: 15,
+    moves: 0,
+};
+const GROWING: Record = Record {
+    m: 2,
+    moves: 5,
+    ..HOME
+};
+
+/// Good records of all kinds, none larger than 40 KB.
+fn records() -> Vec<Record> {
+    let grown = Record {
+        moves: 18,
+        ..GROWING
+    };
+    let large = Record {
+        n: 16,
+        m: 16,
+        block_len: 2,
+        stripes: 512,
+        moves: 2049,
+        ..HOME
+    };
+    let out = |record: Record, disk| Record {
+        health: Health::Out(disk),
+        ..record
+    };
+    let lost = |record: Record| Record {
+        health: Health::Lost,
+        ..record
+    };
+    vec![
+        HOME,
+        GROWING,
+        grown,
+        large,
+        out(HOME, 2),
+        out(GROWING, 4),
+        out(grown, 0),
+        out(large, 31),
+        lost(HOME),
+        lost(GROWING),
+    ]
+}
+
+/// A call of each kind, right for the record if any is.
+fn calls(record: &Record) -> [Call; 10] {
+    let out = match record.health {
+        Health::Out(disk) => disk,
+        _ => 0,
+    };
+    [
+        Call::Format {
+            n: record.n,
+            block_len: record.block_len,
+            stripes: record.stripes,
+        },
+        Call::Read { block: 4 },
+        Call::Write { block: 4 },
+        Call::Grow { m: 2 },
+        Call::Advance { k: 3 },
+        Call::Out { disk: 1 },
+        Call::Rebuild { disk: out },
+        Call::Status,
+        Call::Locate {
+            block: record.capacity() - 1,
+        },
+        Call::Owner {
+            stripe: record.stripes - 1,
+            disk: record.disks() - 1,
+        },
+    ]
+}
+
+/// The length of images that the call asks for.
+fn images_len(call: Call, record: &Record) -> usize {
+    let disks = match call {
+        Call::Format { .. } => record.n,
+        Call::Grow { m } => record.n + m,
+        _ => record.disks(),
+    };
+    (disks * record.stripes * record.block_len) as usize
+}
+
+fn bytes(call: Call, record: &Record) -> Bytes {
+    Bytes {
+        record: record.bytes().to_vec(),
+        images: vec![0x5a; images_len(call, record)],
+        block: vec![0xa5; record.block_len as usize],
+    }
+}
+
+/// What the table says to the call on these bytes.
+fn wanted(call: Call, lent: &Bytes) -> u8 {
+    let sixteen: [u8; 16] = lent.record[..].try_into().unwrap_or_default();
+    let lengths = Lent {
+        record_len: lent.record.len(),
+        good: good(sixteen),
+        images_len: lent.images.len(),
+        block_len: lent.block.len(),
+    };
+    refusal(&Record::of(sixteen), call, &lengths)
+}
+
+/// Memory on either side of a protected page, to make calls in.
+struct Desk([Loan<Guarded>; 2]);
+
+impl Desk {
+    fn new() -> Desk {
+        Desk([Loan::guarded(Side::Start), Loan::guarded(Side::End)])
+    }
+
+    /// Makes the call; the number that it gave, which is the table's. A refusal touched nothing; an accepted call left a good
+    /// record, and answered from it if that is all it reads.
+    fn check(&mut self, call: Call, lent: &Bytes) -> u8 {
+        let number = wanted(call, lent);
+        let wanted = match number {
+            0 => answer_from_record(call, &lent.record),
+            _ => Some(Answer::refused(number)),
+        };
+        for loan in &mut self.0 {
+            loan.lend(lent);
+            let answer = loan.call(call);
+            let what = || format!("{call:?} on record {:?}", lent.record);
+            assert_eq!(answer.number, number, "{}", what());
+            assert_eq!(answer, wanted.unwrap_or(answer), "{}", what());
+            let left = loan.left();
+            let untouched = left == *lent;
+            assert!(number == 0 || untouched, "{} changed a byte", what());
+            let good = || good(left.record[..].try_into().unwrap());
+            assert!(number != 0 || good(), "{} left {:?}", what(), left.record);
+        }
+        number
+    }
+}
+
+/// The answer of a call that reads the record alone; places of arrays that take long to lay out are left to places.rs.
+fn answer_from_record(call: Call, record: &[u8]) -> Option<Answer> {
+    let record = Record::of(record.try_into().unwrap());
+    let answer = match call {
+        Call::Locate { .. } | Call::Owner { .. } if record.stripes > 10_000 => return None,
+        Call::Status => {
+            let (health, out) = match record.health {
+                Health::Whole => (0, 0),
+                Health::Out(disk) => (1, disk),
+                Health::Lost => (2, 0),
+            };
+            let numbers = [record.capacity(), record.moves, record.total(), health, out];
+            Answer::done(&numbers)
+        }
+        Call::Locate { block } => {
+            let (stripe, disk) = Layout::of(&record).place(block);
+            Answer::done(&[stripe, disk])
+        }
+        Call::Owner { stripe, disk } => owned(Layout::of(&record).owner(stripe, disk)),
+        _ => return None,
+    };
+    Some(answer)
+}
+
+#[test]
+fn good_records_with_one_bit_off() {
+    let mut desk = Desk::new();
+    let (mut still_good, mut bad) = (0, 0);
+    for record in records() {
+        for bit in 0..128 {
+            for call in calls(&record) {
+                let mut lent = bytes(call, &record);
+                lent.record[bit / 8] ^= 1 << (bit % 8);
+                match desk.check(call, &lent) {
+                    1 => bad += 1,
+                    _ => still_good += 1,
+                }
+            }
+        }
+    }
+    println!("{still_good} calls on good records, {bad} on others");
+    assert!(still_good > 1000 && bad > 5000);
+}
+
+#[test]
+fn every_value_of_every_byte_of_a_record() {
+    let mut desk = Desk::new();
+    for record in [HOME, GROWING] {
+        for at in 0..16 {
+            for value in 0..=255 {
+                for call in [Call::Read { block: 4 }, Call::Out { disk: 1 }, Call::Status] {
+                    let mut lent = bytes(call, &record);
+                    lent.record[at] = value;
+                    desk.check(call, &lent);
+                }
+            }
+        }
+    }
+}
+
+/// Records with each field near its limits, so that some half of them are good.
+#[test]
+fn random_records() {
+    let mut random = Random::new("random_records");
+    let mut desk = Desk::new();
+    let (mut accepted, mut refused) = (0, 0);
+    for _ in 0..10_000 {
+        let record = random_record(&mut random);
+        for call in calls(&GROWING) {
+            let mut lent = bytes(call, &GROWING);
+            lent.record = record.to_vec();
+            let fields = Record::of(record);
+            if random.one_in(2) && fields.images_len() < 10_000 {
+                lent.images = random.bytes(images_len(call, &fields));
+                lent.block = random.bytes(fields.block_len as usize);
+            }
+            match desk.check(call, &lent) {
+                0 => accepted += 1,
+                _ => refused += 1,
+            }
+        }
+    }
+    println!("{accepted} accepted, {refused} refused");
+    assert!(accepted > 10_000 && refused > 10_000);
+}
+
+fn random_record(random: &mut Random) -> [u8; 16] {
+    let n = 2 + random.below(5);
+    let m = random.below(4);
+    let group = n * (n + m);
+    let stripes = group * random.below(4) + random.below(16) / 15;
+    let total = stripes * n * m / (n + m);
+    let mut bytes = Record {
+        n,
+        m,
+        health: Health::Whole,
+        block_len: random.below(5),
+        stripes,
+        moves: random.below(total + 2),
+    }
+    .bytes();
+    bytes[2] = random.below(13) as u8 / 4;
+    if bytes[2] == 1 || random.one_in(16) {
+        bytes[3] = random.below(n + m + 1) as u8;
+    }
+    if random.one_in(8) {
+        bytes[random.below(16) as usize] = random.word() as u8;
+    }
+    bytes
+}
+
+#[test]
+fn bytes_without_any_sense() {
+    let mut random = Random::new("bytes_without_any_sense");
+    let mut desk = Desk::new();
+    for _ in 0..5_000 {
+        for call in calls(&GROWING) {
+            let mut lent = bytes(call, &GROWING);
+            random.fill(&mut lent.record);
+            desk.check(call, &lent);
+        }
+    }
+}
+
+#[test]
+fn every_length_off() {
+    let mut desk = Desk::new();
+    for record in records() {
+        for call in calls(&record) {
+            let right = bytes(call, &record);
+            for record_len in [0, 1, 15, 16, 17, 32, 4096] {
+                for images_len in lengths(right.images.len()) {
+                    for block_len in lengths(right.block.len()) {
+                        let mut lent = right.clone();
+                        lent.record.resize(record_len, 0);
+                        lent.images.resize(images_len, 0);
+                        lent.block.resize(block_len, 0);
+                        desk.check(call, &lent);
+                    }
+                }
+            }
+        }
+    }
+}
+
+fn lengths(right: usize) -> [usize; 6] {
+    [0, 1, right - 1, right, right + 1, 2 * right]
+}
+
+#[test]
+fn every_number_off() {
+    let mut desk = Desk::new();
+    for record in records() {
+        for number in numbers(&record) {
+            for call in [
+                Call::Format {
+                    n: number,
+                    block_len: record.block_len,
+                    stripes: record.stripes,
+                },
+                Call::Format {
+                    n: record.n,
+                    block_len: number,
+                    stripes: record.stripes,
+                },
+                Call::Format {
+                    n: record.n,
+                    block_len: record.block_len,
+                    stripes: number,
+                },
+                Call::Read { block: number },
+                Call::Write { block: number },
+                Call::Advance { k: number },
+                Call::Out { disk: number },
+                Call::Rebuild { disk: number },
+                Call::Locate { block: number },
+                Call::Owner {
+                    stripe: number,
+                    disk: 0,
+                },
+                Call::Owner {
+                    stripe: 0,
+                    disk: number,
+                },
+            ] {
+                desk.check(call, &bytes(call, &record));
+            }
+            let call = Call::Grow { m: number };
+            for m in [0, 1, 2, 16] {
+                desk.check(call, &bytes(Call::Grow { m }, &record));
+            }
+        }
+    }
+}
+
+/// Numbers around all limits, and the same again with high bits set.
+fn numbers(record: &Record) -> Vec<u64> {
+    let limits = [
+        0,
+        record.n,
+        16,
+        record.disks(),
+        record.block_len,
+        4096,
+        record.stripes,
+        1_048_576,
+        record.total(),
+        record.capacity(),
+        record.images_len(),
+    ];
+    let near = limits
+        .iter()
+        .flat_map(|&x| [x.wrapping_sub(1), x, x + 1])
+        .collect::<Vec<u64>>();
+    let high = [0, 1 << 8, 1 << 16, 1 << 31, 1 << 32, 1 << 48, 1 << 63];
+    high.iter()
+        .flat_map(|high| near.iter().map(move |x| x.wrapping_add(*high)))
+        .collect()
+}
+
+/// Lengths that a product in 32 bits, or one that leaves out a factor, would take for right.
+#[test]
+fn products_beyond_32_bits() {
+    let mut desk = Desk::new();
+    let record = Record {
+        n: 4,
+        block_len: 4096,
+        stripes: 1_048_576,
+        ..HOME
+    };
+    assert_eq!(record.images_len(), 1 << 34);
+    for call in calls(&record) {
+        for images_len in [0, 4, 4096, 4 * 4096, 1 << 20, 1 << 22] {
+            let lent = Bytes {
+                record: record.bytes().to_vec(),
+                images: vec![0; images_len],
+                block: vec![0; 4096],
+            };
+            let number = desk.check(call, &lent);
+            assert!(number != 0 || !call.takes_images());
+        }
+    }
+}
+
+/// A slice of 2^40 bytes is refused by its length; no byte of it can be touched here.
+#[test]
+fn huge_slices() {
+    const HUGE: usize = 1 << 40;
+    for record in records() {
+        for call in calls(&record) {
+            let right = bytes(call, &record);
+            let number = |lent: Lent| refusal(&record, call, &lent);
+            let lengths = Lent {
+                record_len: 16,
+                good: true,
+                images_len: right.images.len(),
+                block_len: right.block.len(),
+            };
+            let guarded = || {
+                let mut loan = Loan::guarded(Side::End);
+                loan.lend(&right);
+                loan
+            };
+
+            let mut loan = guarded();
+            loan.record = Guarded::sealed(HUGE);
+            assert_eq!(loan.call(call), Answer::refused(1), "{call:?}");
+            if call.takes_images() {
+                let mut loan = guarded();
+                loan.images = Guarded::sealed(HUGE);
+                let images_len = HUGE;
+                let wanted = number(Lent {
+                    images_len,
+                    ..lengths
+                });
+                assert_eq!(loan.call(call), Answer::refused(wanted), "{call:?}");
+                assert_eq!(loan.record.bytes(), right.record);
+            }
+            if call.takes_block() {
+                let mut loan = guarded();
+                loan.block = Guarded::sealed(HUGE);
+                let block_len = HUGE;
+                let wanted = number(Lent {
+                    block_len,
+                    ..lengths
+                });
+                assert_eq!(loan.call(call), Answer::refused(wanted), "{call:?}");
+                assert!(loan.images.bytes() == right.images);
+            }
+        }
+    }
+}

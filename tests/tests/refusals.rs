@@ -1,0 +1,393 @@
+//! Every row of document 01's table of refusals, for every call that it names: alone, and with a lower row's condition holding
+//! as well, which then wins. A refused call changes no byte and sets every number beside its answer to 0.
+
+use std::collections::HashSet;
+use yuzkamide_tests::memory::Side;
+use yuzkamide_tests::pbm::{Answer, Bytes, Call, Loan, NAMES};
+use yuzkamide_tests::random::Random;
+use yuzkamide_tests::record::{good, Health, Record};
+use yuzkamide_tests::table::{holds, rows, Lent};
+
+/// One call and what it is lent.
+#[derive(Clone, Debug)]
+struct Case {
+    call: Call,
+    record: Record,
+    /// What is done to the record's bytes.
+    damage: Option<fn(&mut Vec<u8>)>,
+    images_len: u64,
+    block_len: u64,
+}
+
+const WHOLE: Record = Record {
+    n: 3,
+    m: 0,
+    health: Health::Whole,
+    block_len: 4,
+    stripes: 15,
+    moves: 0,
+};
+const GROWING: Record = Record {
+    m: 2,
+    moves: 5,
+    ..WHOLE
+};
+
+/// A call of this name that is accepted: n = 3, m = 2, T = 15, B = 4.
+fn accepted(name: &str) -> Case {
+    let case = |call, record: Record, images_len| Case {
+        call,
+        record,
+        damage: None,
+        images_len,
+        block_len: 4,
+    };
+    let degraded = Record {
+        health: Health::Out(1),
+        ..GROWING
+    };
+    match name {
+        "format" => case(
+            Call::Format {
+                n: 3,
+                block_len: 4,
+                stripes: 15,
+            },
+            WHOLE,
+            180,
+        ),
+        "read" => case(Call::Read { block: 4 }, GROWING, 300),
+        "write" => case(Call::Write { block: 4 }, GROWING, 300),
+        "grow" => case(Call::Grow { m: 2 }, WHOLE, 300),
+        "advance" => case(Call::Advance { k: 3 }, GROWING, 300),
+        "out" => case(Call::Out { disk: 1 }, GROWING, 0),
+        "rebuild" => case(Call::Rebuild { disk: 1 }, degraded, 300),
+        "status" => case(Call::Status, GROWING, 0),
+        "locate" => case(Call::Locate { block: 4 }, GROWING, 0),
+        "owner" => case(Call::Owner { stripe: 2, disk: 1 }, GROWING, 0),
+        _ => panic!("no call {name}"),
+    }
+}
+
+/// One way to make a row's condition hold for some calls.
+struct Spoil {
+    calls: &'static [&'static str],
+    row: u8,
+    how: &'static str,
+    change: fn(&mut Case),
+}
+
+const fn spoil(
+    calls: &'static [&'static str],
+    row: u8,
+    how: &'static str,
+    change: fn(&mut Case),
+) -> Spoil {
+    Spoil {
+        calls,
+        row,
+        how,
+        change,
+    }
+}
+
+const ALL: &[&str] = &NAMES;
+const BUT_FORMAT: &[&str] = &[
+    "read", "write", "grow", "advance", "out", "rebuild", "status", "locate", "owner",
+];
+const ON_BLOCKS: &[&str] = &["read", "write"];
+const ON_NUMBERED: &[&str] = &["read", "write", "locate"];
+const ON_IMAGES: &[&str] = &["format", "read", "write", "grow", "advance", "rebuild"];
+const IN_HEALTH: &[&str] = &["read", "write", "grow", "advance", "out", "rebuild"];
+
+const SPOILS: &[Spoil] = &[
+    spoil(ALL, 1, "no record", |c| c.damage = Some(|r| r.clear())),
+    spoil(ALL, 1, "15 bytes", |c| c.damage = Some(|r| r.truncate(15))),
+    spoil(ALL, 1, "17 bytes", |c| c.damage = Some(|r| r.push(0))),
+    spoil(ALL, 1, "32 bytes", |c| c.damage = Some(|r| r.resize(32, 0))),
+    spoil(BUT_FORMAT, 1, "n = 2", |c| c.damage = Some(|r| r[0] = 2)),
+    spoil(BUT_FORMAT, 1, "n = 17", |c| c.damage = Some(|r| r[0] = 17)),
+    spoil(BUT_FORMAT, 1, "m = 17", |c| c.damage = Some(|r| r[1] = 17)),
+    spoil(BUT_FORMAT, 1, "health 3", |c| c.damage = Some(|r| r[2] = 3)),
+    spoil(BUT_FORMAT, 1, "an out disk of no disk", |c| {
+        c.damage = Some(|r| r[2..4].copy_from_slice(&[1, 5]))
+    }),
+    spoil(BUT_FORMAT, 1, "whole with an out disk", |c| {
+        c.damage = Some(|r| r[2..4].copy_from_slice(&[0, 1]))
+    }),
+    spoil(BUT_FORMAT, 1, "lost with an out disk", |c| {
+        c.damage = Some(|r| r[2..4].copy_from_slice(&[2, 1]))
+    }),
+    spoil(BUT_FORMAT, 1, "B = 0", |c| c.damage = Some(|r| r[4] = 0)),
+    spoil(BUT_FORMAT, 1, "B = 4100", |c| {
+        c.damage = Some(|r| r[5] = 16)
+    }),
+    spoil(BUT_FORMAT, 1, "byte 6", |c| c.damage = Some(|r| r[6] = 1)),
+    spoil(BUT_FORMAT, 1, "byte 7", |c| c.damage = Some(|r| r[7] = 128)),
+    spoil(BUT_FORMAT, 1, "T = 0", |c| c.damage = Some(|r| r[8] = 0)),
+    spoil(BUT_FORMAT, 1, "T above 1,048,576", |c| {
+        c.damage = Some(|r| r[10] = 16)
+    }),
+    spoil(BUT_FORMAT, 1, "T no multiple, m not 0", |c| {
+        c.damage = Some(|r| (r[1], r[8]) = (2, 14))
+    }),
+    spoil(BUT_FORMAT, 1, "t above the total", |c| {
+        c.damage = Some(|r| r[12] = 19)
+    }),
+    spoil(BUT_FORMAT, 1, "t = 1, m = 0", |c| {
+        c.damage = Some(|r| (r[1], r[12]) = (0, 1))
+    }),
+    spoil(IN_HEALTH, 2, "lost", |c| c.record.health = Health::Lost),
+    spoil(&["grow", "advance"], 3, "disk 0 out", |c| {
+        c.record.health = Health::Out(0)
+    }),
+    spoil(&["grow", "advance"], 3, "disk 2 out", |c| {
+        c.record.health = Health::Out(2)
+    }),
+    spoil(&["grow"], 4, "m = 2", |c| c.record.m = 2),
+    spoil(&["grow"], 4, "m = 2, under way", |c| {
+        (c.record.m, c.record.moves) = (2, 7)
+    }),
+    spoil(&["grow"], 4, "m = 2, complete", |c| {
+        (c.record.m, c.record.moves) = (2, 18)
+    }),
+    spoil(&["advance"], 5, "m = 0", |c| {
+        (c.record.m, c.record.moves, c.images_len) = (0, 0, 180)
+    }),
+    spoil(&["advance"], 5, "t is the total", |c| c.record.moves = 18),
+    spoil(&["advance"], 5, "t is the total, k = 0", |c| {
+        (c.record.moves, c.call) = (18, Call::Advance { k: 0 })
+    }),
+    spoil(&["format"], 6, "n = 0", |c| format(c, 0, 4, 15)),
+    spoil(&["format"], 6, "n = 2", |c| format(c, 2, 4, 15)),
+    spoil(&["format"], 6, "n = 17", |c| format(c, 17, 4, 15)),
+    spoil(&["format"], 6, "n = 259", |c| format(c, 259, 4, 15)),
+    spoil(&["format"], 6, "n = 2^64 - 1", |c| {
+        format(c, u64::MAX, 4, 15)
+    }),
+    spoil(&["format"], 6, "B = 0", |c| format(c, 3, 0, 15)),
+    spoil(&["format"], 6, "B = 4097", |c| format(c, 3, 4097, 15)),
+    spoil(&["format"], 6, "B = 65540", |c| format(c, 3, 65540, 1)),
+    spoil(&["format"], 6, "B = 2^64 - 1", |c| {
+        format(c, 3, u64::MAX, 15)
+    }),
+    spoil(&["format"], 6, "T = 0", |c| format(c, 3, 4, 0)),
+    spoil(&["format"], 6, "T = 1,048,577", |c| {
+        format(c, 3, 1, 1_048_577)
+    }),
+    spoil(&["format"], 6, "T = 2^32 + 15", |c| {
+        format(c, 3, 4, (1 << 32) + 15)
+    }),
+    spoil(&["format"], 6, "T = 2^64 - 1", |c| {
+        format(c, 3, 4, u64::MAX)
+    }),
+    spoil(&["format"], 6, "a product of 180 modulo 2^64", |c| {
+        format(c, (1 << 62) + 3, 4, 15)
+    }),
+    spoil(&["grow"], 6, "m = 0", |c| grow(c, 0, 180)),
+    spoil(&["grow"], 6, "m = 17", |c| grow(c, 17, 1200)),
+    spoil(&["grow"], 6, "m = 258", |c| grow(c, 258, 15_660)),
+    spoil(&["grow"], 6, "m = 2^64 - 1", |c| grow(c, u64::MAX, 120)),
+    spoil(&["grow"], 6, "m = 2^64 - 3: n + m = 0", |c| {
+        grow(c, u64::MAX - 2, 0)
+    }),
+    spoil(&["grow"], 6, "m = 1, of which T is no multiple", |c| {
+        grow(c, 1, 240)
+    }),
+    spoil(&["grow"], 6, "T is a multiple of n + m alone", |c| {
+        (c.record.stripes, c.images_len) = (20, 400)
+    }),
+    spoil(ON_IMAGES, 7, "a byte more", |c| c.images_len += 1),
+    spoil(ON_IMAGES, 7, "a byte less", |c| {
+        c.images_len = c.images_len.saturating_sub(1)
+    }),
+    spoil(ON_IMAGES, 7, "none", |c| c.images_len = 0),
+    spoil(ON_IMAGES, 7, "a disk more", |c| c.images_len += 60),
+    spoil(ON_IMAGES, 7, "a disk less", |c| {
+        c.images_len = c.images_len.saturating_sub(60)
+    }),
+    spoil(
+        &["read", "write", "grow", "advance", "rebuild"],
+        7,
+        "n disks",
+        |c| c.images_len = 180,
+    ),
+    spoil(ON_NUMBERED, 8, "the capacity", |c| number(c, 30)),
+    spoil(ON_NUMBERED, 8, "a block that comes later", |c| {
+        number(c, 59)
+    }),
+    spoil(ON_NUMBERED, 8, "2^32 + 4", |c| number(c, (1 << 32) + 4)),
+    spoil(ON_NUMBERED, 8, "2^64 - 1", |c| number(c, u64::MAX)),
+    spoil(ON_NUMBERED, 8, "the grown capacity", |c| {
+        c.record.moves = 18;
+        number(c, 60)
+    }),
+    spoil(&["owner"], 8, "T", |c| stripe(c, 15)),
+    spoil(&["owner"], 8, "2^32 + 2", |c| stripe(c, (1 << 32) + 2)),
+    spoil(&["owner"], 8, "2^64 - 1", |c| stripe(c, u64::MAX)),
+    spoil(ON_BLOCKS, 9, "a byte less", |c| c.block_len = 3),
+    spoil(ON_BLOCKS, 9, "a byte more", |c| c.block_len = 5),
+    spoil(ON_BLOCKS, 9, "none", |c| c.block_len = 0),
+    spoil(ON_BLOCKS, 9, "two blocks", |c| c.block_len = 8),
+    spoil(ON_BLOCKS, 9, "260 bytes", |c| c.block_len = 260),
+    spoil(&["out", "rebuild", "owner"], 10, "N", |c| disk(c, 5)),
+    spoil(&["out", "rebuild", "owner"], 10, "257", |c| disk(c, 257)),
+    spoil(&["out", "rebuild", "owner"], 10, "2^32 + 1", |c| {
+        disk(c, (1 << 32) + 1)
+    }),
+    spoil(&["out", "rebuild", "owner"], 10, "2^64 - 1", |c| {
+        disk(c, u64::MAX)
+    }),
+    spoil(&["out"], 10, "out already", |c| {
+        c.record.health = Health::Out(1)
+    }),
+    spoil(&["rebuild"], 10, "another is out", |c| disk(c, 2)),
+    spoil(&["rebuild"], 10, "none is out", |c| {
+        c.record.health = Health::Whole;
+        disk(c, 0)
+    }),
+];
+
+/// With images of the length that the numbers ask for, where there is memory for it.
+fn format(case: &mut Case, n: u64, block_len: u64, stripes: u64) {
+    case.call = Call::Format {
+        n,
+        block_len,
+        stripes,
+    };
+    let len = n.wrapping_mul(block_len).wrapping_mul(stripes);
+    case.images_len = if len < 1 << 22 { len } else { 180 };
+}
+
+fn grow(case: &mut Case, m: u64, images_len: u64) {
+    (case.call, case.images_len) = (Call::Grow { m }, images_len);
+}
+
+fn number(case: &mut Case, number: u64) {
+    match &mut case.call {
+        Call::Read { block } | Call::Write { block } | Call::Locate { block } => *block = number,
+        call => panic!("{call:?} has no block number"),
+    }
+}
+
+fn stripe(case: &mut Case, number: u64) {
+    match &mut case.call {
+        Call::Owner { stripe, .. } => *stripe = number,
+        call => panic!("{call:?} has no stripe"),
+    }
+}
+
+fn disk(case: &mut Case, number: u64) {
+    match &mut case.call {
+        Call::Out { disk } | Call::Rebuild { disk } | Call::Owner { disk, .. } => *disk = number,
+        call => panic!("{call:?} has no disk"),
+    }
+}
+
+impl Case {
+    /// What is lent, with any bytes in images and block.
+    fn bytes(&self) -> Bytes {
+        let mut random = Random::seeded(self.images_len);
+        let mut record = self.record.bytes().to_vec();
+        if let Some(damage) = self.damage {
+            damage(&mut record);
+        }
+        Bytes {
+            record,
+            images: random.bytes(self.images_len as usize),
+            block: random.bytes(self.block_len as usize),
+        }
+    }
+
+    /// The rows whose conditions hold, those from 2 on read on the record without its damage.
+    fn holding(&self) -> Vec<u8> {
+        let lent = Lent {
+            record_len: 16,
+            good: self.damage.is_none() && good(self.record.bytes()),
+            images_len: self.images_len as usize,
+            block_len: self.block_len as usize,
+        };
+        let damaged = |row: u8| row == 1 && self.damage.is_some();
+        (1..=10)
+            .filter(|&row| damaged(row) || holds(row, &self.record, self.call, &lent))
+            .collect()
+    }
+
+    /// Makes the call, its slices once behind a protected page and once before one, and sees that it gives this number; that a
+    /// refusal sets the numbers beside it to 0 and changes no byte.
+    fn gives(&self, number: u8, how: &str) {
+        let lent = self.bytes();
+        for side in [Side::Start, Side::End] {
+            let mut loan = Loan::guarded(side);
+            loan.lend(&lent);
+            let answer = loan.call(self.call);
+            assert_eq!(answer.number, number, "{how}: {self:?}");
+            if number != 0 {
+                assert_eq!(answer, Answer::refused(number), "{how}: {self:?}");
+                let left = loan.left();
+                assert_eq!(left.record, lent.record, "record, {how}: {self:?}");
+                assert!(left.images == lent.images, "images, {how}: {self:?}");
+                assert_eq!(left.block, lent.block, "block, {how}: {self:?}");
+            }
+        }
+    }
+}
+
+fn spoils(name: &str) -> impl Iterator<Item = &'static Spoil> + Clone + use<'_> {
+    SPOILS.iter().filter(move |s| s.calls.contains(&name))
+}
+
+#[test]
+fn each_call_is_accepted_unspoilt() {
+    for name in NAMES {
+        let case = accepted(name);
+        assert_eq!(case.holding(), [], "{name}");
+        case.gives(0, "unspoilt");
+    }
+}
+
+#[test]
+fn each_row_alone() {
+    for name in NAMES {
+        let mut alone = HashSet::new();
+        for spoil in spoils(name) {
+            let mut case = accepted(name);
+            (spoil.change)(&mut case);
+            let holding = case.holding();
+            assert_eq!(holding[0], spoil.row, "{name}: {}", spoil.how);
+            if holding.len() == 1 {
+                alone.insert(spoil.row);
+            }
+            case.gives(spoil.row, spoil.how);
+        }
+        for row in rows(name) {
+            // an array that is lost has no one disk out: for rebuild 10 holds too
+            let never = (name, *row) == ("rebuild", 2);
+            assert_eq!(alone.contains(row), !never, "{name}: {row} alone");
+        }
+    }
+}
+
+#[test]
+fn the_lowest_number_wins() {
+    for name in NAMES {
+        let mut tried = HashSet::new();
+        for low in spoils(name) {
+            for high in spoils(name).filter(|high| high.row > low.row) {
+                let mut case = accepted(name);
+                (low.change)(&mut case);
+                (high.change)(&mut case);
+                let holding = case.holding();
+                if holding.contains(&low.row) && holding.contains(&high.row) {
+                    case.gives(holding[0], &format!("{} and {}", low.how, high.how));
+                    tried.insert((holding[0], high.row));
+                }
+            }
+        }
+        for pair in rows(name).windows(2) {
+            // an array that is lost has no one disk out: 2 and 3 cannot both hold
+            let both = (pair[0], pair[1]);
+            assert!(both == (2, 3) || tried.contains(&both), "{name}: {both:?}");
+        }
+    }
+}
