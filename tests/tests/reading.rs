@@ -1,4 +1,4 @@
-//! docs/READING.md names only what is there: every path, every must-fail edit, and every definition, theorem, field and
+//! docs/READING.md names only what is there: every path, crate and must-fail edit, and every definition, theorem, field and
 //! function that it sets in backquotes.
 
 use std::collections::HashSet;
@@ -43,6 +43,9 @@ fn exists(name: &str, words: &HashSet<String>) -> bool {
                 .join("must-fail")
                 .join(format!("{edit}.edit"))
                 .exists();
+    }
+    if root().join("crates").join(name).is_dir() {
+        return true;
     }
     name.split(|c: char| c.is_whitespace() || "(),.".contains(c))
         .filter(|part| !part.is_empty())

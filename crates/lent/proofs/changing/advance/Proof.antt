@@ -1,25 +1,22 @@
--- `advance` meets its contract, by the walk of `Walk`. Its step returns a `Progress`, whose answer is a `Count`.
+-- `advance` meets its contract, by the walk of `OneNumber`. Its step returns a `Progress`, whose answer is a `Count`.
 use mathlib.Core.Path.{_≡_, ap}
 use mathlib.Core.List.{[], _∷_}
-use contract.Running.{givenOf, tables, tablesOf}
 use denote.Steps.{only}
 use denote.Struct.Laws as LL
-use denote.Triple.Spec.{tripleOf}
-use denote.Triple.Table.{entered, cited}
 use Rattle.array.specs.Call.{number, count, advance as #advance}
 use Rattle.lent.proofs.Count as N
 use Rattle.lent.proofs.Count.Laws as N′
 use Rattle.lent.proofs.steps.Progress as S
 use Rattle.lent.proofs.steps.Progress.Laws as S′
-use Rattle.lent.proofs.Walk as walk
+use Rattle.lent.proofs.Walks.Changing.{Answered}
+use Rattle.lent.proofs.Walks.OneNumber.{meets}
 use Rattle.lent.proofs.steps.advance_step.Symbol as step
 use Rattle.lent.proofs.steps.advance_step.Met as step-thm
-use Rattle.lent.proofs.changing.advance as advance
 use Rattle.lent.proofs.changing.advance.Key as key
 use Rattle.lent.proofs.changing.advance.Statement.{statement}
 use Rattle.lent.proofs.changing.advance.Code as code
 
-abbrev moved : walk.Answered
+abbrev moved : Answered
 moved = record {
   Row = S.the-row;
   Ans = N.the-row;
@@ -38,9 +35,5 @@ moved = record {
 }
 
 pub advance-spec : {M : Type 1} → statement M
-unfolding code.routine tablesOf
-advance-spec 𝓤 H 𝓜 𝓖 𝓡 =
-    entered 𝓤 H (tripleOf 𝓤 H (𝓖 .A) advance.signature (advance.spec 𝓤 H (𝓖 .A) (𝓜 .mem) (𝓡 .run)))
-    (tables 𝓤 H 𝓜 𝓡 code.env .C) (tables 𝓤 H 𝓜 𝓡 code.env .Λ) key.name code.function (code.unfolded 𝓤 H 𝓜 𝓡)
-    (walk.meets moved 𝓤 H (𝓖 .A) #advance (givenOf 𝓤 H 𝓜 𝓖) step.name (tablesOf 𝓤 H 𝓜 (tables 𝓤 H 𝓜 𝓡 code.env))
-    (cited 𝓤 H (walk.Known moved 𝓤 H (𝓖 .A) #advance) 𝓜 𝓡 code.env step.name step.routine code.calls-lent·steps·advance-step (step-thm.met 𝓤 H 𝓜 𝓖 𝓡)))
+unfolding code.routine
+advance-spec 𝓤 H 𝓜 𝓖 𝓡 = meets moved 𝓤 H 𝓜 𝓖 𝓡 #advance code.env key.name step.name (code.unfolded 𝓤 H 𝓜 𝓡) step.routine code.calls-lent·steps·advance-step (step-thm.met 𝓤 H 𝓜 𝓖 𝓡)
