@@ -11,6 +11,7 @@ const COMPUTED: &[(&str, &str)] = &[
     ("array/parity_on_old_disk", "/proofs/Drawers.antt:"),
     ("array/parity_skipped", "/proofs/Drawers.antt:"),
     ("array/place_left_full", "/proofs/Drawers.antt:"),
+    ("array/read_of_zeros", "/proofs/Drawers.antt:"),
     ("array/rebuild_sums_itself", "/proofs/Drawers.antt:"),
     ("array/second_out_kept", "/proofs/Drawers.antt:"),
     ("history/lengthened_late", "/proofs/Sample.antt:"),

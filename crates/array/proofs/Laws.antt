@@ -1,13 +1,10 @@
 -- The laws of the definitions, from the bottom; a file for each call that stores or looks at bytes.
-pub mod Asked
-pub mod Bounds
 pub mod Column
 pub mod Carry
 pub mod Stores
 pub mod Rows
 pub mod Table
 pub mod Passed
-pub mod Called
 pub mod Acting
 pub mod OnBytes
 pub mod Holding
@@ -16,15 +13,8 @@ pub mod Lists
 pub mod Format
 pub mod Read
 pub mod Write
-pub mod Reach
-pub mod Shown
-pub mod Put
 pub mod Grow
 pub mod Advance
-pub mod Asking
 pub mod Out
 pub mod Rebuild
 pub mod Kept
-pub mod Zeroed
-pub mod Filled
-pub mod Moving

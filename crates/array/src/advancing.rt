@@ -47,10 +47,10 @@ fn make_moves(r: Record, images: &mut [u8], count: u32)
 }
 
 // The lesser of the budget and the moves that are left.
-fn moves_due(k: u64, left: u64) -> u64
+fn moves_due(k: u64, left: u32) -> u32
     ensures { λ x. ⌜ x ≡ min k left ⌝ }
 {
-    if k < left { k } else { left }
+    if k < left as u64 { k as u32 } else { left }
 }
 
 pub fn advance(r: Record, images: &mut [u8], k: u64) -> Advanced
@@ -62,7 +62,8 @@ pub fn advance(r: Record, images: &mut [u8], k: u64) -> Advanced
     if refused != 0 {
         return Advanced::Refused(refused);
     }
-    let count = moves_due(k, total_of(geometry_of(r)) - r.moves as u64) as u32;
+    let left = (total_of(geometry_of(r)) - r.moves as u64) as u32;
+    let count = moves_due(k, left);
     make_moves(r, images, count);
     Advanced::Made {
         count: count as u64,

@@ -8,8 +8,8 @@ use Rattle.layout.specs.declared.Geometry.{Geometry}
 use Rattle.layout.specs.Layout.{totalOf}
 use Rattle.state.specs.Good.{geometry, Limits}
 use Rattle.array.specs.Call.{advance, on}
-use Rattle.array.proofs.Laws.Called.{called-refused}
-use Rattle.array.proofs.Laws.Moving.{total-high, advance-limits, advance-passed, advance-done}
+use Rattle.array.proofs.Calls.Called.{called-refused}
+use Rattle.array.proofs.Calls.Moving.{total-high, advance-limits, advance-passed, advance-done}
 use Rattle.array.proofs.advancing.advance.Statement.{statement}
 use Rattle.array.proofs.advancing.advance.Tie as tie
 
@@ -34,11 +34,16 @@ total-of-requires c κs = rw (c .geometry-of .ensures) (fits (c .before) .array)
 total-is : (c : tie.After-total-of) → c .total-of .result ≡ totalOf (geometry (c .before .before .before .before .before .args .r))
 total-is c = c .total-of .ensures ∙ ap (λ (g : Geometry). totalOf g) (c .before .geometry-of .ensures)
 
-cast-moves-due : tie.Need-cast-moves-due
-cast-moves-due c = search needs
+cast-left : tie.Need-cast-left
+cast-left c = search needs
 
-sub-moves-due : tie.Need-sub-moves-due
-sub-moves-due c = rw (total-is (c .before)) (fits (c .before .before .before) .array .moves)
+sub-left : tie.Need-sub-left
+sub-left c = rw (total-is (c .before)) (fits (c .before .before .before) .array .moves)
+
+cast-left-2 : tie.Need-cast-left-2
+cast-left-2 c =
+    let e = c .before .before .before in
+    omega (arith, total-is (c .before), total-high (geometry (e .before .before .before .args .r)) (fits e .array))
 
 moves-due-requires : tie.Need-moves-due-requires
 moves-due-requires c κs = search needs
@@ -49,19 +54,15 @@ due c =
     let a = c .before .before .before .before .before .before .before .args in
     c .moves-due .ensures ∙ ap (λ (n : ℕ). min (a .k) (n - a .r .moves)) (total-is (c .before .before))
 
-cast-count : tie.Need-cast-count
-cast-count c =
-    let e = c .before .before .before .before in
-    omega (arith, due c, total-high (geometry (e .before .before .before .args .r)) (fits e .array))
-
 make-moves-requires : tie.Need-make-moves-requires
 make-moves-requires c κs =
-    let e = c .before .before .before .before .before in
+    let t = c .before .before .before in
+    let e = t .before .before in
     let a = e .before .before .before .args in
-    advance-passed (a .images .now) (a .r) (a .k) (sym (e .before .of-advance .ensures) ∙ e .if1 .left) _ (due (c .before))
+    advance-passed (a .images .now) (a .r) (a .k) (sym (e .before .of-advance .ensures) ∙ e .if1 .left) _ (omega (arith, c .before .moves-due .ensures, total-is t, fits e .array .moves))
 
-cast-t8 : tie.Need-cast-t8
-cast-t8 c = search needs
+cast-t9 : tie.Need-cast-t9
+cast-t9 c = search needs
 
 add-with-moves : tie.Need-add-with-moves
 add-with-moves c =
@@ -92,12 +93,12 @@ advance-spec =
     returns
     geometry-of-requires
     total-of-requires
-    cast-moves-due
-    sub-moves-due
+    cast-left
+    sub-left
+    cast-left-2
     moves-due-requires
-    cast-count
     make-moves-requires
-    cast-t8
+    cast-t9
     add-with-moves
     with-moves-requires
     same-length

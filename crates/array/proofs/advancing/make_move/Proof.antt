@@ -4,7 +4,7 @@ use native.Mathlib.Omega.{arith}
 use Rattle.state.specs.Good.{geometry}
 use Rattle.layout.proofs.Laws.Numbers.{has-new}
 use Rattle.array.proofs.Laws.Table.{some-left}
-use Rattle.array.proofs.Laws.Moving.{total-high, Step, step, stepped}
+use Rattle.array.proofs.Calls.Moving.{total-high, Step, step, stepped}
 use Rattle.array.proofs.advancing.make_move.Statement.{statement}
 use Rattle.array.proofs.advancing.make_move.Tie as tie
 

@@ -6,7 +6,7 @@ use native.Mathlib.Omega.{arith}
 use Rattle.state.specs.Good.{geometry}
 use Rattle.array.specs.Images.{stored}
 use Rattle.array.specs.Effect.{advanceStores}
-use Rattle.array.proofs.Laws.Moving.{total-high, Made, made-none, made-next, made-more}
+use Rattle.array.proofs.Calls.Moving.{total-high, Made, made-none, made-next, made-more}
 use Rattle.array.proofs.advancing.make_moves.Statement.{statement}
 use Rattle.array.proofs.advancing.make_moves.Tie as tie
 

@@ -7,8 +7,8 @@ use Rattle.state.specs.Good.{geometry}
 use Rattle.array.specs.Call.{owner, feed, on}
 use Rattle.array.specs.Table.{refusal}
 use Rattle.array.specs.Effect.{effect}
-use Rattle.array.proofs.Laws.Asking.{owner-asks}
-use Rattle.array.proofs.Laws.Called.{called-refused, called-done}
+use Rattle.array.proofs.Calls.Asking.{owner-asks}
+use Rattle.array.proofs.Calls.Called.{called-refused, called-done}
 use Rattle.array.proofs.asking.owner.Statement.{statement}
 use Rattle.array.proofs.asking.owner.Tie as tie
 

@@ -7,8 +7,8 @@ use Rattle.state.specs.Good.{geometry}
 use Rattle.array.specs.Call.{status, feed, on}
 use Rattle.array.specs.Table.{refusal}
 use Rattle.array.specs.Effect.{effect}
-use Rattle.array.proofs.Laws.Asking.{status-asks}
-use Rattle.array.proofs.Laws.Called.{called-refused, called-done}
+use Rattle.array.proofs.Calls.Asking.{status-asks}
+use Rattle.array.proofs.Calls.Called.{called-refused, called-done}
 use Rattle.array.proofs.asking.status.Statement.{statement}
 use Rattle.array.proofs.asking.status.Tie as tie
 

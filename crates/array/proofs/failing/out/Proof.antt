@@ -10,8 +10,8 @@ use Rattle.array.specs.Health.{withHealth}
 use Rattle.array.specs.Images.{recorded}
 use Rattle.array.specs.Table.{refusal}
 use Rattle.array.specs.Effect.{effect}
-use Rattle.array.proofs.Laws.Asking.{out-asks}
-use Rattle.array.proofs.Laws.Called.{called-refused, called-done}
+use Rattle.array.proofs.Calls.Asking.{out-asks}
+use Rattle.array.proofs.Calls.Called.{called-refused, called-done}
 use Rattle.array.proofs.failing.out.Statement.{statement}
 use Rattle.array.proofs.failing.out.Tie as tie
 

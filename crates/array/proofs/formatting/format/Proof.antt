@@ -7,8 +7,8 @@ use Rattle.state.specs.Good.{Limits}
 use Rattle.array.specs.Call.{format, Event, on}
 use Rattle.array.specs.Health.{formatted}
 use Rattle.array.proofs.Laws.Format.{limits}
-use Rattle.array.proofs.Laws.Called.{called-refused}
-use Rattle.array.proofs.Laws.Zeroed.{format-passed, format-done}
+use Rattle.array.proofs.Calls.Called.{called-refused}
+use Rattle.array.proofs.Calls.Zeroed.{format-passed, format-done}
 use Rattle.array.proofs.formatting.format.Statement.{statement}
 use Rattle.array.proofs.formatting.format.Tie as tie
 

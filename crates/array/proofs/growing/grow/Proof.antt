@@ -5,8 +5,8 @@ use borrow.Author.Needs.{needs}
 use native.Mathlib.Omega.{arith}
 use lib.ListN.{length}
 use Rattle.array.specs.Call.{grow, on}
-use Rattle.array.proofs.Laws.Called.{called-refused}
-use Rattle.array.proofs.Laws.Zeroed.{Sizes, grow-sizes, grow-done}
+use Rattle.array.proofs.Calls.Called.{called-refused}
+use Rattle.array.proofs.Calls.Zeroed.{Sizes, grow-sizes, grow-done}
 use Rattle.array.proofs.growing.grow.Statement.{statement}
 use Rattle.array.proofs.growing.grow.Tie as tie
 
@@ -32,10 +32,10 @@ cast-at-3 : tie.Need-cast-at-3
 cast-at-3 c = search needs
 
 mul-at : tie.Need-mul-at
-mul-at c = omega (arith, passed (c .before .before .before) .disk)
+mul-at c = omega (arith, passed (c .before .before .before) .sizes .disk)
 
 mul-at-2 : tie.Need-mul-at-2
-mul-at-2 c = omega (arith, passed (c .before .before .before) .at)
+mul-at-2 c = omega (arith, passed (c .before .before .before) .sizes .all)
 
 sub-zero-block : tie.Need-sub-zero-block
 sub-zero-block c = passed (c .before .before .before .before) .within

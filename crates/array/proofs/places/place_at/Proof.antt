@@ -1,6 +1,6 @@
 -- `place_at` meets its contract. Assumes nothing.
 use borrow.Author.Needs.{needs}
-use Rattle.array.proofs.Laws.Reach.{place-fits}
+use Rattle.array.proofs.Calls.Reach.{place-fits}
 use Rattle.array.proofs.places.place_at.Statement.{statement}
 use Rattle.array.proofs.places.place_at.Tie as tie
 

@@ -2,8 +2,8 @@
 use mathlib.Core.Path.{_∙_}
 use lib.ListN.{length}
 use borrow.Author.Needs.{needs}
-use Rattle.array.proofs.Laws.Asked.{told}
-use Rattle.array.proofs.Laws.Reach.{Reached, asked, reached, inside, summed, block-out, block-in}
+use Rattle.array.proofs.Calls.Asked.{told}
+use Rattle.array.proofs.Calls.Reach.{Reached, asked, reached, inside, summed, block-out, block-in}
 use Rattle.array.proofs.reading.fill.Statement.{statement}
 use Rattle.array.proofs.reading.fill.Tie as tie
 

@@ -1,7 +1,7 @@
 -- `fill_disk_alone` meets its contract: any block of B bytes will do. Assumes nothing.
 use mathlib.Core.Path.{sym}
 use borrow.Author.Needs.{needs}
-use Rattle.array.proofs.Laws.Filled.{prefix}
+use Rattle.array.proofs.Calls.Filled.{prefix}
 use Rattle.array.proofs.rebuilding.fill_disk_alone.Statement.{statement}
 use Rattle.array.proofs.rebuilding.fill_disk_alone.Tie as tie
 

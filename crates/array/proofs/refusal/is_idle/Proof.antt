@@ -3,7 +3,7 @@ use mathlib.Core.Path.{refl, ap, _∙_}
 use borrow.Author.Needs.{needs}
 use Rattle.layout.specs.Layout.{totalOf}
 use Rattle.array.specs.Table.{idle}
-use Rattle.array.proofs.Laws.Asked.{same, other}
+use Rattle.array.proofs.Calls.Asked.{same, other}
 use Rattle.array.proofs.refusal.is_idle.Statement.{statement}
 use Rattle.array.proofs.refusal.is_idle.Tie as tie
 

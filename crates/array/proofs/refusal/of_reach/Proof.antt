@@ -7,7 +7,7 @@ use Rattle.state.proofs.Laws.Good.{limits}
 use Rattle.state.proofs.Laws.Tests.{went-on, returned}
 use Rattle.array.specs.Health.{isLost, isDegraded}
 use Rattle.array.specs.Table.{table, refusal}
-use Rattle.array.proofs.Laws.Asked.{same, other, under, over, told}
+use Rattle.array.proofs.Calls.Asked.{same, other, under, over, told}
 use Rattle.array.proofs.refusal.of_reach.Statement.{statement}
 use Rattle.array.proofs.refusal.of_reach.Tie as tie
 

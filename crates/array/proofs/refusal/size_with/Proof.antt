@@ -2,7 +2,7 @@
 use Prim.Native.Nat.{_+_}
 use native.Mathlib.Omega.{arith}
 use borrow.Author.Needs.{needs}
-use Rattle.array.proofs.Laws.Bounds.{Bounded, bounded}
+use Rattle.array.proofs.Calls.Bounds.{Bounded, bounded}
 use Rattle.array.proofs.refusal.size_with.Statement.{statement}
 use Rattle.array.proofs.refusal.size_with.Tie as tie
 

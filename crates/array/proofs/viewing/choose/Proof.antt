@@ -2,8 +2,8 @@
 use mathlib.Core.Path.{sym, _∙_}
 use lib.ListN.{length}
 use borrow.Author.Needs.{needs}
-use Rattle.array.proofs.Laws.Asked.{told}
-use Rattle.array.proofs.Laws.Reach.{as-view, Reached, asked, reached, summed, choice-out, choice-in}
+use Rattle.array.proofs.Calls.Asked.{told}
+use Rattle.array.proofs.Calls.Reach.{as-view, Reached, asked, reached, summed, choice-out, choice-in}
 use Rattle.array.proofs.viewing.choose.Statement.{statement}
 use Rattle.array.proofs.viewing.choose.Tie as tie
 

@@ -6,7 +6,7 @@ use borrow.Author.Needs.{needs}
 use Rattle.array.specs.declared.Choice.{Choice}
 use Rattle.array.specs.Call.{view, on}
 use Rattle.array.specs.Effect.{called}
-use Rattle.array.proofs.Laws.Shown.{Shows, shows}
+use Rattle.array.proofs.Calls.Shown.{Shows, shows}
 use Rattle.array.proofs.viewing.view.Statement.{statement}
 use Rattle.array.proofs.viewing.view.Tie as tie
 

@@ -3,9 +3,9 @@ use mathlib.Core.Path.{refl, sym, _∙_}
 use borrow.Author.Needs.{needs}
 use Rattle.array.specs.Call.{view, on}
 use Rattle.array.specs.Effect.{effect}
-use Rattle.array.proofs.Laws.Called.{called-refused, called-done}
-use Rattle.array.proofs.Laws.Reach.{as-view}
-use Rattle.array.proofs.Laws.Shown.{choice-refused}
+use Rattle.array.proofs.Calls.Called.{called-refused, called-done}
+use Rattle.array.proofs.Calls.Reach.{as-view}
+use Rattle.array.proofs.Calls.Shown.{choice-refused}
 use Rattle.array.proofs.viewing.view_choice.Statement.{statement}
 use Rattle.array.proofs.viewing.view_choice.Tie as tie
 

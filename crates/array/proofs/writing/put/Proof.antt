@@ -8,9 +8,9 @@ use Rattle.blocks.specs.Block.{store}
 use Rattle.state.proofs.Laws.Tests.{went-on, returned}
 use Rattle.array.specs.Images.{stored}
 use Rattle.array.specs.Effect.{writeStores}
-use Rattle.array.proofs.Laws.Asked.{told}
-use Rattle.array.proofs.Laws.Reach.{as-write, Reached, asked, reached, inside, parity-asked}
-use Rattle.array.proofs.Laws.Put.{Aimed, aimed, parity-lt, sums, folds, data-out, both-in, parity-out}
+use Rattle.array.proofs.Calls.Asked.{told}
+use Rattle.array.proofs.Calls.Reach.{as-write, Reached, asked, reached, inside, parity-asked}
+use Rattle.array.proofs.Calls.Put.{Aimed, aimed, parity-lt, sums, folds, data-out, both-in, parity-out}
 use Rattle.array.proofs.writing.put.Statement.{statement}
 use Rattle.array.proofs.writing.put.Tie as tie
 

@@ -18,8 +18,8 @@ use Rattle.array.specs.Call.{view, Event, on, fed, Answer, bytes, number
 use Rattle.array.specs.Health.{absent}
 use Rattle.array.specs.Table.{refusal}
 use Rattle.array.specs.Effect.{placeOf, View, part, scratch, viewOf, scratchLeft, viewed, effect, called}
-use Rattle.array.proofs.Laws.Called.{called-refused, called-done}
-use Rattle.array.proofs.Laws.Reach.{as-view, Reached, reached, inside}
+use Rattle.array.proofs.Calls.Called.{called-refused, called-done}
+use Rattle.array.proofs.Calls.Reach.{as-view, Reached, reached, inside}
 
 pub choice-refused : (k : ℕ) (v : View) → k ≢ 0 → Refused k ≡ choiceOf k v
 choice-refused zero v nz = absurd (nz refl)

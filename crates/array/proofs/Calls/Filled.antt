@@ -26,7 +26,7 @@ use Rattle.array.specs.Table.{refusal}
 use Rattle.array.specs.Effect.{effect, called}
 use Rattle.array.proofs.Laws.Stores.{length-stored, stored-append, stored-last, recorded-last}
 use Rattle.array.proofs.Laws.Passed.{Rebuilds, rebuilds}
-use Rattle.array.proofs.Laws.Called.{called-done}
+use Rattle.array.proofs.Calls.Called.{called-done}
 
 -- the first n of k zeroes
 pub prefix : (n k : ℕ) → n ≤ k → length (take n (zeros k)) ≡ n

@@ -4,7 +4,6 @@ use mathlib.Core.Path.{_≡_, refl, sym, ap, _∙_, subst}
 use mathlib.Core.Bool.{true, false, not}
 use mathlib.Core.Logic.{_≢_}
 use mathlib.Core.List.{List}
-use native.Mathlib.Nat.{mul-le-mul}
 use native.Mathlib.Omega.{arith}
 use lib.ListN.{length}
 use borrow.Author.Tests.{not-false}
@@ -27,13 +26,14 @@ use Rattle.array.specs.Table.{table, refusal}
 use Rattle.array.specs.Effect.{placeOf, blockOf, viewOf, scratchLeft}
 use Rattle.array.proofs.Laws.Passed.{Reaches, reads}
 use Rattle.array.proofs.Laws.Write.{lS, ld, lp, parity-apart}
+use Rattle.array.proofs.Calls.Bounds.{bounded}
 
 -- a place of the images begins below 2^64
 pub place-fits : (r : Record) (s d : ℕ) → Limits r → s < r .stripes → d < disksOf r → offset (r .block) (r .stripes) s d < 18446744073709551616
 place-fits r s d l ls ld =
     let a = l .array in
     let n : disksOf r ≤ 32 = omega (arith, a .disks .n-high, a .disks .m-high) in
-    omega (arith, place-in (r .block) (r .stripes) s d (disksOf r) ls ld, mul-le-mul n (mul-le-mul (a .stripes-high) (l .block-high)))
+    omega (arith, place-in (r .block) (r .stripes) s d (disksOf r) ls ld, bounded (disksOf r) (r .stripes) (r .block) n (a .stripes-high) (l .block-high) .all)
 
 module _ (r : Record) (len b : ℕ) where
   pub as-view : (room : ℕ) → refusal r (capacity (geometry r)) (feed (view b) len room) ≡ refusal r (capacity (geometry r)) (feed (read b) len room)

@@ -3,7 +3,7 @@ use Prim.Native.Nat.{ℕ, zero, suc, _+_, _-_, _*_, _≤_}
 use mathlib.Core.Path.{_≡_, sym, ap, ap₂, _∙_}
 use mathlib.Core.Bool.{false, not}
 use mathlib.Core.List.{List, [], _∷_}
-use native.Mathlib.Nat.{zero-mul, mul-le-mul}
+use native.Mathlib.Nat.{zero-mul}
 use native.Mathlib.Omega.{arith}
 use borrow.Author.Tests.{not-false}
 use lib.ListN.{length, length-replicate}
@@ -21,7 +21,8 @@ use Rattle.array.specs.Table.{refusal}
 use Rattle.array.specs.Effect.{effect, called}
 use Rattle.array.proofs.Laws.Stores.{stored-append, stored-last, recorded-last}
 use Rattle.array.proofs.Laws.Passed.{Formats, Grows, formats, grows}
-use Rattle.array.proofs.Laws.Called.{called-done}
+use Rattle.array.proofs.Calls.Bounds.{Bounded, bounded}
+use Rattle.array.proofs.Calls.Called.{called-done}
 
 -- one run of zeroes behind another
 zeros-behind : (img : List ℕ) (at a b : ℕ) → store (store img at (zeros a)) (at + a) (zeros b) ≡ store img at (zeros (a + b))
@@ -59,8 +60,7 @@ zeroed B T first img (suc more) =
 -- of a grow to m more disks
 pub record Sizes (r : Record) (len m : ℕ) : Type 0 where
   pub small : m ≤ 16
-  pub disk : r .stripes * r .block ≤ 4294967296
-  pub at : r .old * (r .stripes * r .block) ≤ 68719476736
+  pub sizes : Bounded (r .old) (r .stripes) (r .block)
   pub within : r .old * (r .stripes * r .block) ≤ len
 
 module _ (img : List ℕ) (r : Record) where
@@ -87,9 +87,8 @@ module _ (img : List ℕ) (r : Record) where
   grow-sizes m z =
       let p : Grows (not (good r)) r (length img) m = grow-passed m z in
       let l : Limits r = limits r (not-false _ (p .good)) in
-      let disk : r .stripes * r .block ≤ 4294967296 = mul-le-mul (l .array .stripes-high) (l .block-high) in
-      let at : r .old * (r .stripes * r .block) ≤ 68719476736 = mul-le-mul (l .array .disks .n-high) disk in
-      record { small = new-good _ _ _ (p .fits) .1; disk = disk; at = at; within = omega (arith, p .long) }
+      let b : Bounded (r .old) (r .stripes) (r .block) = bounded (r .old) (r .stripes) (r .block) (omega (arith, l .array .disks .n-high)) (l .array .stripes-high) (l .block-high) in
+      record { small = new-good _ _ _ (p .fits) .1; sizes = b; within = omega (arith, p .long) }
 
   pub grow-done : (m : ℕ) → refusal r (capacity (geometry r)) (feed (grow m) (length img) 0) ≡ 0
       → let at = r .old * (r .stripes * r .block) in

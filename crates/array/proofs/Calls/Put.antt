@@ -20,7 +20,7 @@ use Rattle.array.specs.Images.{disksOf, seen, stored}
 use Rattle.array.specs.Effect.{writeStores}
 use Rattle.array.proofs.Laws.Column.{Single}
 use Rattle.array.proofs.Laws.Holding.{single}
-use Rattle.array.proofs.Laws.Reach.{Reached, inside, summed}
+use Rattle.array.proofs.Calls.Reach.{Reached, inside, summed}
 
 -- a write of v to the block at q, with the parity on disk p
 pub record Aimed (r : Record) (len b : ℕ) (v : List ℕ) (q : Place) (p : ℕ) : Type 0 where

@@ -30,7 +30,7 @@ use Rattle.array.specs.Effect.{moveStores, advanceStores, effect, Left, 
 use Rattle.array.proofs.Laws.Stores.{length-stored, stored-append}
 use Rattle.array.proofs.Laws.Table.{some-new, some-left, none-left, over}
 use Rattle.array.proofs.Laws.Passed.{Moves, moves}
-use Rattle.array.proofs.Laws.Called.{called-done}
+use Rattle.array.proofs.Calls.Called.{called-done}
 use Rattle.array.proofs.Laws.Advance.{advanced, carried, idle-none, advance-split}
 
 -- no array has more moves
@@ -177,12 +177,9 @@ module _ (img : List ℕ) (r : Record) (k : ℕ) (z : refusal r (capacity (geome
   pub advance-limits : Limits r
   advance-limits = limits r (not-false _ (passed .good))
 
-  -- what making count moves asks for
-  pub advance-passed : (count : ℕ) → count ≡ min k (totalOf (geometry r) - r .moves)
-      → Limits r × (r .new ≢ 0) × (r .moves + count ≤ totalOf (geometry r)) × (length img ≡ size r)
-  advance-passed count e =
-      let le : r .moves ≤ totalOf (geometry r) = advance-limits .array .moves in
-      (advance-limits, some-new (geometry r) (passed .busy), omega arith, passed .long)
+  -- what making moves asks for, of which there are so many
+  pub advance-passed : (count : ℕ) → r .moves + count ≤ totalOf (geometry r) → Limits r × (r .new ≢ 0) × (r .moves + count ≤ totalOf (geometry r)) × (length img ≡ size r)
+  advance-passed count some = (advance-limits, some-new (geometry r) (passed .busy), some, passed .long)
 
   abbrev leaves : ℕ → Record → List Store → Left Record
   leaves n x ps = record { answer = made n; state = x; images = stored (r .block) (r .stripes) ps img; room = [] }
