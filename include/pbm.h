@@ -23,25 +23,33 @@
  *   bytes 12-15  t
  *   A record is good exactly if each field is in its limits, bytes 6-7 are zero, the out disk is below N, t is at most
  *   the total of moves, T * n * m / (n + m), and, with m above 0, T is a multiple of n * (n + m). With m = 0, t = 0.
- *   pbm_format makes a good record and every call leaves one: a caller need not set a byte of it.
+ *   pbm_format makes a good record and every accepted call leaves one: a caller need not set a byte of it.
  *
  * BLOCKS
  *   are numbered from 0. There are T * (n - 1), and T * (n + m - 1) from the last move of a growth on; the new ones are
- *   zero. Reads and writes are accepted at any time of a growth.
+ *   zero. Reads and writes are accepted between any two moves of a growth. Who wants to add m disks one day must choose
+ *   T as a multiple of n * (n + m) when the array is formatted.
  *
  * A DISK THAT IS OUT
  *   may hold any bytes: it is not read. A block that stands on it is the xor of its stripe's other places. It is
  *   written by pbm_rebuild and pbm_format alone. While a disk is out a growth stands still, and goes on later where it
- *   stopped. With a second disk out the array is lost.
+ *   stopped. With a second disk out the array is lost, until it is formatted anew.
  *
  * WHAT THE CALLER SEES TO
  *   1. Each pointer is good for its length: to read if it is const, else to read and write. A pointer to a number is
  *      good for one uint64_t and aligned.
  *   2. No pointer is null, not even that of a slice of length 0.
  *   3. No two things lent to one call overlap.
- *   4. Between calls nothing else writes the record, nor the images but for a disk that is out.
- *   Nothing else can go wrong: any bytes in the record, any lengths and any numbers are answered, if by a refusal.
- *   Where 4 is broken, calls stay within what they are lent, but the blocks may hold anything.
+ *   4. One call at a time: while a call runs nothing else writes what it is lent, nor reads what it writes. Scanner and
+ *      saw take turns, with a lock of the caller's if they are threads.
+ *   5. Each call is lent the record and the images as the last call left them. Between calls nothing else writes them,
+ *      save a disk that is out; and no older copy takes their place: an old record beside newer images is a good record,
+ *      and a block read by it may be another block.
+ *   6. A call that has begun runs to its end. If the process is killed in it, or power is lost, record and images need not
+ *      fit one another any more, and no call can tell.
+ *   Nothing else can go wrong: any bytes in the record, any lengths and any numbers are answered, if by a refusal. Where 5
+ *   is broken calls stay within what they are lent, but what they read and write may be anything.
+ *   The archive is for x86-64.
  *
  * REFUSALS
  *   Each call returns 0, done, or the lowest number below whose condition holds. A refusal changes no byte of record,

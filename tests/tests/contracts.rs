@@ -1,4 +1,5 @@
-//! Every function that another module can call says what it answers, and entry points require nothing: they refuse.
+//! Every function that another module can call says what it answers and what it leaves of everything that it is lent to write,
+//! and entry points require nothing: they refuse.
 
 use std::fs;
 use std::path::{Path, PathBuf};
@@ -8,12 +9,31 @@ use yuzkamide_tests::program::target;
 const ENTRY_CRATES: &[&str] = &["array", "lent", "pbm"];
 const ENTRY_POINT: &str = "answer_to";
 
+/// A slice of which a part may be returned cannot be named at exit; `view_choice` says what is left of it.
+const SPENT: &[(&str, &str)] = &[("view<'a>", "scratch")];
+
 struct Function {
     name: String,
     /// Another crate can call it.
     exported: bool,
     file: PathBuf,
+    /// From the name to the body.
+    signature: String,
     clauses: Vec<String>,
+}
+
+impl Function {
+    /// The parameters that it is lent to write.
+    fn written(&self) -> Vec<&str> {
+        let parameters = self.signature.split(") ->").next().unwrap();
+        let parameters = parameters.split("ensures").next().unwrap();
+        parameters
+            .split(['(', ','])
+            .filter_map(|p| p.split_once(": &"))
+            .filter(|(_, kind)| kind.split_whitespace().any(|word| word == "mut"))
+            .map(|(name, _)| name.trim())
+            .collect()
+    }
 }
 
 fn sources(folder: &Path, found: &mut Vec<PathBuf>) {
@@ -54,8 +74,10 @@ fn public_functions() -> Vec<Function> {
                         .map(|l| l.trim().to_string()),
                 );
             }
+            let signature = format!("{rest} {}", clauses.join(" "));
             all.push(Function {
                 name,
+                signature,
                 exported: !head.starts_with("pub(crate)"),
                 file: file.clone(),
                 clauses,
@@ -85,6 +107,29 @@ fn every_public_function_says_what_it_answers() {
             f.file.display()
         );
     }
+}
+
+#[test]
+fn every_public_function_says_what_it_leaves() {
+    let mut seen = 0;
+    for f in public_functions() {
+        for name in f.written() {
+            let exit = format!("{name} .exit");
+            let says = f
+                .clauses
+                .iter()
+                .any(|c| c.starts_with("ensures ") && c.contains(&exit));
+            assert_ne!(
+                says,
+                SPENT.contains(&(f.name.as_str(), name)),
+                "{} in {}: what is left of {name}",
+                f.name,
+                f.file.display()
+            );
+            seen += 1;
+        }
+    }
+    assert!(seen > 40, "the search finds what is lent: {seen}");
 }
 
 #[test]

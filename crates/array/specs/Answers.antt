@@ -1,6 +1,8 @@
 -- What the functions' enums say in document 01's terms, case by case. "For an answer that is an enum, a definition gives this paper's number and
 -- values for each case." (Numbers alone are read off an answer by `number`, `shown` and `beside` of Call.)
-use Prim.Native.Nat.{ℕ, zero, suc}
+use Prim.Native.Nat.{ℕ, zero, suc, _+_}
+use mathlib.Core.List.{List}
+use Rattle.blocks.specs.Block.{blockAt}
 use Rattle.state.specs.declared.Record.{Record}
 use Rattle.array.specs.declared.Changed.{Changed}
 use Rattle.array.specs.declared.Changed.the-variants as changed
@@ -14,7 +16,7 @@ use Rattle.array.specs.declared.Owned.{Owned}
 use Rattle.array.specs.declared.Owned.the-variants as owning
 use Rattle.array.specs.declared.Choice.{Choice}
 use Rattle.array.specs.declared.Choice.the-variants as choice
-use Rattle.array.specs.Call.{Answer, refused, done, made, figures, placed, owned}
+use Rattle.array.specs.Call.{Answer, refused, done, bytes, made, figures, placed, owned}
 use Rattle.array.specs.Effect.{View, part, scratch}
 
 -- format, grow, out and rebuild: the answer, and the record that is left of r
@@ -53,3 +55,21 @@ abbrev pub choiceOf : ℕ → View → Choice
 choiceOf zero (part at len) = choice.Part at
 choiceOf zero scratch = choice.Scratch
 choiceOf (suc k) v = choice.Refused (suc k)
+
+-- "returns the block as a part of the images, or, if its disk is out, as the lent scratch": where the view begins, given where those two begin
+abbrev pub begins : Choice → ℕ × ℕ → ℕ × ℕ → ℕ × ℕ
+begins (choice.Refused k) img scr = img
+begins (choice.Part at) img scr = (img .0, at + img .1)
+begins choice.Scratch img scr = scr
+
+-- the answer of a choice, given the block's size, the images, and the scratch as it is left
+abbrev pub choiceAnswer : Choice → ℕ → List ℕ → List ℕ → Answer
+choiceAnswer (choice.Refused k) len img scr = refused k
+choiceAnswer (choice.Part at) len img scr = bytes (blockAt img at len)
+choiceAnswer choice.Scratch len img scr = bytes scr
+
+-- the bytes of the images that a choice needs: up to the end of its part
+abbrev pub ends : Choice → ℕ → ℕ
+ends (choice.Refused k) len = 0
+ends (choice.Part at) len = at + len
+ends choice.Scratch len = 0

@@ -1,10 +1,11 @@
 // Document 01: "**View**: returns the block as a part of the images, or, if its disk is out, as the lent scratch filled with it. Scratch is
 // else untouched."
+ghost use Prim.Native.Nat.{_≤_};
 ghost use mathlib.Core.Path.{_≡_};
 ghost use lib.ListN.{length};
 ghost use Rattle.layout.specs.Layout.{capacity};
 ghost use Rattle.state.specs.Good.{geometry};
-ghost use Rattle.array.specs.Answers.{choiceOf};
+ghost use Rattle.array.specs.Answers.{choiceOf, choiceAnswer, begins, ends};
 ghost use Rattle.array.specs.Call.{view, feed, on, number, shown};
 ghost use Rattle.array.specs.Table.{refusal};
 ghost use Rattle.array.specs.Effect.{viewOf, scratchLeft, called};
@@ -52,7 +53,37 @@ pub fn view_choice(r: Record, images: &[u8], b: u64, scratch: &mut [u8]) -> Choi
     choose(r, images, b, scratch)
 }
 
-// The view itself, with the refusal's number, or 0, beside it.
+// What a choice names: a part of the images, or the scratch, which is lent here only to be read; and its number.
+fn part_of<'a>(
+    x: Choice,
+    len: usize,
+    images: &'a [u8],
+    scratch: &'a [u8],
+    refusal: &mut u8,
+) -> &'a [u8]
+    requires { ⌜ ends x len ≤ length (now images) ⌝ }
+    ensures view { λ v. ⌜ now v ≡ shown (choiceAnswer x len (now (images .entry)) (now (scratch .entry))) ⌝ }
+    ensures place { λ v. ⌜ v .ptr ≡ begins x (images .entry .ptr) (scratch .entry .ptr) ⌝ }
+    ensures number { λ _. ⌜ now (refusal .exit) ≡ number (choiceAnswer x len (now (images .entry)) (now (scratch .entry))) ⌝ }
+{
+    match x {
+        Choice::Refused(k) => {
+            *refusal = k;
+            &images[0..0]
+        }
+        Choice::Scratch => {
+            *refusal = 0;
+            scratch
+        }
+        Choice::Part(at) => {
+            *refusal = 0;
+            &images[at..at + len]
+        }
+    }
+}
+
+// The view itself, with the refusal's number, or 0, beside it. No branch: `view_choice` alone has the scratch to change, and what it leaves is in its
+// contract.
 pub fn view<'a>(
     r: Record,
     images: &'a [u8],
@@ -61,21 +92,9 @@ pub fn view<'a>(
     refusal: &mut u8,
 ) -> &'a [u8]
     ensures view { λ v. ⌜ now v ≡ shown (called (on (view b) (now (images .entry)) (now (scratch .entry))) r .answer) ⌝ }
+    ensures place { λ v. ⌜ v .ptr ≡ begins (choiceOf (number (called (on (view b) (now (images .entry)) (now (scratch .entry))) r .answer)) (viewOf r b)) (images .entry .ptr) (scratch .entry .ptr) ⌝ }
     ensures number { λ _. ⌜ now (refusal .exit) ≡ number (called (on (view b) (now (images .entry)) (now (scratch .entry))) r .answer) ⌝ }
 {
     let x = view_choice(r, images, b, scratch);
-    match x {
-        Choice::Refused(k) => {
-            *refusal = k;
-            &images[0..0]
-        }
-        Choice::Scratch => {
-            *refusal = 0;
-            &scratch[..]
-        }
-        Choice::Part(at) => {
-            *refusal = 0;
-            &images[at..at + (r.block as usize)]
-        }
-    }
+    part_of(x, r.block as usize, images, &scratch[..], refusal)
 }

@@ -1,8 +1,9 @@
 // The calls that reach one block. The record is lent, and only read.
 ghost use mathlib.Core.Path.{_≡_};
 ghost use mathlib.Core.List.{[]};
+ghost use Rattle.array.specs.Answers.{choiceOf, begins};
 ghost use Rattle.array.specs.Call.{read, view, write, on, number, shown};
-ghost use Rattle.array.specs.Effect.{called};
+ghost use Rattle.array.specs.Effect.{viewOf, called};
 use state::Record;
 
 pub fn read(rec: &Record, images: &[u8], b: u64, block: &mut [u8]) -> u8
@@ -21,6 +22,7 @@ pub fn view<'a>(
     refusal: &mut u8,
 ) -> &'a [u8]
     ensures view { λ v. ⌜ now v ≡ shown (called (on (view b) (now (images .entry)) (now (scratch .entry))) (now (rec .entry)) .answer) ⌝ }
+    ensures place { λ v. ⌜ v .ptr ≡ begins (choiceOf (number (called (on (view b) (now (images .entry)) (now (scratch .entry))) (now (rec .entry)) .answer)) (viewOf (now (rec .entry)) b)) (images .entry .ptr) (scratch .entry .ptr) ⌝ }
     ensures number { λ _. ⌜ now (refusal .exit) ≡ number (called (on (view b) (now (images .entry)) (now (scratch .entry))) (now (rec .entry)) .answer) ⌝ }
 {
     let r = *rec;

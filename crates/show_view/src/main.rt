@@ -168,6 +168,60 @@ fn show_growth(r: Record, images: &mut [u8]) {
     show_new_block(all, images);
 }
 
+// One stripe on 3 disks, with blocks as long as `bytes`, which block b is written with. Block 0 is on disk 2, block 1 on disk 1.
+fn one_stripe(images: &mut [u8], b: u64, bytes: &[u8]) -> Record {
+    let r = left_by(no_array(), array::format(images, 3, bytes.len() as u64, 1));
+    array::write(r, images, b, bytes);
+    r
+}
+
+fn show_one_byte(r: Record, images: &[u8]) {
+    let mut scratch = [7u8; 1];
+    show_in(&mut scratch, r, images, 0, b"blocks of 1 byte");
+    show_in(
+        &mut scratch,
+        without(r, 2),
+        images,
+        0,
+        b"blocks of 1 byte, disk 2 out",
+    );
+    show_in(
+        &mut scratch,
+        r,
+        images,
+        2,
+        b"blocks of 1 byte, past the end",
+    );
+}
+
+fn show_five_bytes(r: Record, images: &[u8]) {
+    let mut scratch = [7u8; 5];
+    show_in(&mut scratch, r, images, 1, b"blocks of 5 bytes");
+    show_in(
+        &mut scratch,
+        without(r, 1),
+        images,
+        1,
+        b"blocks of 5 bytes, disk 1 out",
+    );
+    show_in(
+        &mut scratch,
+        without(without(r, 0), 1),
+        images,
+        1,
+        b"blocks of 5 bytes, two disks out",
+    );
+}
+
+fn show_other_lengths() {
+    let mut small = [0u8; 3];
+    let one = one_stripe(&mut small, 0, &[200]);
+    show_one_byte(one, &small);
+    let mut odd = [0u8; 15];
+    let five = one_stripe(&mut odd, 1, &[1, 2, 3, 4, 5]);
+    show_five_bytes(five, &odd);
+}
+
 // 3 disks are the first 180 bytes.
 fn show_cases(images: &mut [u8])
     requires { ⌜ Counts 180 (now images) ⌝ }
@@ -186,4 +240,5 @@ fn images_buffer() -> [u8; 300]
 fn main() {
     let mut images = images_buffer();
     show_cases(&mut images);
+    show_other_lengths();
 }

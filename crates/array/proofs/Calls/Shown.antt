@@ -3,18 +3,17 @@ use Prim.Native.Nat.{ℕ, zero, suc, _+_, _≤_}
 use mathlib.Core.Path.{_≡_, refl, sym, _∙_, subst}
 use mathlib.Core.Bool.{Bool, true, false, cond}
 use mathlib.Core.Logic.{_≢_}
-use mathlib.Core.List.{List, []}
+use mathlib.Core.List.{List}
 use native.Mathlib.Omega.{arith}
 use lib.ListN.{length}
 use Rattle.layout.specs.Layout.{capacity}
-use Rattle.blocks.specs.Block.{blockAt}
 use Rattle.blocks.specs.Stripe.{offset}
 use Rattle.state.specs.declared.Record.{Record}
 use Rattle.state.specs.Good.{geometry}
 use Rattle.array.specs.declared.Choice.{Choice}
-use Rattle.array.specs.declared.Choice.the-variants.{Refused, Part, Scratch}
-use Rattle.array.specs.Answers.{choiceOf}
-use Rattle.array.specs.Call.{view, Event, on, fed, Answer, bytes, number, shown}
+use Rattle.array.specs.declared.Choice.the-variants.{Refused}
+use Rattle.array.specs.Answers.{choiceOf, choiceAnswer, ends}
+use Rattle.array.specs.Call.{view, Event, on, fed, Answer, bytes, number}
 use Rattle.array.specs.Health.{absent}
 use Rattle.array.specs.Table.{refusal}
 use Rattle.array.specs.Effect.{placeOf, View, part, scratch, viewOf, scratchLeft, viewed, effect, called}
@@ -25,12 +24,6 @@ pub choice-refused : (k : ℕ) (v : View) → k ≢ 0 → Refused k ≡ choiceOf
 choice-refused zero v nz = absurd (nz refl)
 choice-refused (suc k) v nz = refl
 
--- the bytes shown and the number beside them: of a part that lies inside the images, or of the scratch as it is left
-abbrev pub Shows : Record → List ℕ → Choice → Answer → List ℕ → Type 0
-Shows r img (Refused k) a left = ([] ≡ shown a) × (k ≡ number a)
-Shows r img Scratch a left = (left ≡ shown a) × (0 ≡ number a)
-Shows r img (Part at) a left = (at + r .block ≤ length img) × (blockAt img at (r .block) ≡ shown a) × (0 ≡ number a)
-
 module _ (r : Record) (img room : List ℕ) (b : ℕ) where
   abbrev e : Event
   e = on (view b) img room
@@ -38,19 +31,24 @@ module _ (r : Record) (img room : List ℕ) (b : ℕ) where
   abbrev start : ℕ
   start = offset (r .block) (r .stripes) (placeOf r b .stripe) (placeOf r b .disk)
 
+  -- the answer of a choice is the call's, and a part lies inside the images
+  abbrev Shows : Choice → Answer → List ℕ → Type 0
+  Shows x a left = (ends x (r .block) ≤ length img) × (choiceAnswer x (r .block) img left ≡ a)
+
   let-through : (c : Bool) (left : List ℕ) → start + r .block ≤ length img
-      → let v = cond c scratch (part start (r .block)) in Shows r img (choiceOf 0 v) (bytes (viewed v img left)) left
-  let-through true left l = (refl, refl)
-  let-through false left l = (l, refl, refl)
+      → let v = cond c scratch (part start (r .block)) in Shows (choiceOf 0 v) (bytes (viewed v img left)) left
+  let-through true left l = (omega arith, refl)
+  let-through false left l = (l, refl)
 
   by-number : (k : ℕ) → refusal r (capacity (geometry r)) (fed e) ≡ k
-      → Shows r img (choiceOf (number (called e r .answer)) (viewOf r b)) (called e r .answer) (called e r .room)
+      → Shows (choiceOf (number (called e r .answer)) (viewOf r b)) (called e r .answer) (called e r .room)
   unfolding effect viewOf
   by-number zero z =
       let x : Reached r (length img) b (length room) (placeOf r b) = reached r (length img) b (length room) (sym (as-view r (length img) b (length room)) ∙ z) (geometry r) refl (placeOf r b) refl in
       let l : start + length room ≤ length img = inside x refl in
       rw (called-done e r z) (let-through (absent (r .health) (placeOf r b .stripe) (placeOf r b .disk)) (scratchLeft r img b room) (rw (x .whole) at l))
-  by-number (suc k) z = rw (called-refused e r (suc k) z (omega arith)) (refl, refl)
+  by-number (suc k) z = rw (called-refused e r (suc k) z (omega arith)) (omega arith, refl)
 
-  pub shows : (x : Choice) → x ≡ choiceOf (number (called e r .answer)) (viewOf r b) → Shows r img x (called e r .answer) (called e r .room)
-  shows x q = subst (λ (y : Choice). Shows r img y (called e r .answer) (called e r .room)) (sym q) (by-number (refusal r (capacity (geometry r)) (fed e)) refl)
+  pub shows : (x : Choice) → x ≡ choiceOf (number (called e r .answer)) (viewOf r b)
+      → (ends x (r .block) ≤ length img) × (choiceAnswer x (r .block) img (called e r .room) ≡ called e r .answer)
+  shows x q = subst (λ (y : Choice). Shows y (called e r .answer) (called e r .room)) (sym q) (by-number (refusal r (capacity (geometry r)) (fed e)) refl)
