@@ -17,6 +17,23 @@ pub struct Record {
     pub moves: u64,
 }
 
+/// The array of document 01's bench, with blocks of 4 bytes.
+pub const BENCH: Record = Record {
+    n: 3,
+    m: 0,
+    health: Health::Whole,
+    block_len: 4,
+    stripes: 15,
+    moves: 0,
+};
+
+/// With 2 disks more, and 5 of the 18 moves made.
+pub const GROWING: Record = Record {
+    m: 2,
+    moves: 5,
+    ..BENCH
+};
+
 impl Record {
     /// What format leaves.
     pub fn new(n: u64, block_len: u64, stripes: u64) -> Record {

@@ -5,22 +5,8 @@ use yuzkamide_tests::layout::Layout;
 use yuzkamide_tests::memory::{Guarded, Memory, Side};
 use yuzkamide_tests::pbm::{Answer, Bytes, Call, Loan};
 use yuzkamide_tests::random::Random;
-use yuzkamide_tests::record::{good, Health, Record};
+use yuzkamide_tests::record::{good, Health, Record, BENCH, GROWING};
 use yuzkamide_tests::table::{refusal, Lent};
-
-const HOME: Record = Record {
-    n: 3,
-    m: 0,
-    health: Health::Whole,
-    block_len: 4,
-    stripes: 15,
-    moves: 0,
-};
-const GROWING: Record = Record {
-    m: 2,
-    moves: 5,
-    ..HOME
-};
 
 /// Good records of all kinds, none larger than 40 KB.
 fn records() -> Vec<Record> {
@@ -34,7 +20,7 @@ fn records() -> Vec<Record> {
         block_len: 2,
         stripes: 512,
         moves: 2049,
-        ..HOME
+        ..BENCH
     };
     let out = |record: Record, disk| Record {
         health: Health::Out(disk),
@@ -45,15 +31,15 @@ fn records() -> Vec<Record> {
         ..record
     };
     vec![
-        HOME,
+        BENCH,
         GROWING,
         grown,
         large,
-        out(HOME, 2),
+        out(BENCH, 2),
         out(GROWING, 4),
         out(grown, 0),
         out(large, 31),
-        lost(HOME),
+        lost(BENCH),
         lost(GROWING),
     ]
 }
@@ -196,7 +182,7 @@ fn good_records_with_one_bit_off() {
 #[test]
 fn every_value_of_every_byte_of_a_record() {
     let mut desk = Desk::new();
-    for record in [HOME, GROWING] {
+    for record in [BENCH, GROWING] {
         for at in 0..16 {
             for value in 0..=255 {
                 for call in [Call::Read { block: 4 }, Call::Out { disk: 1 }, Call::Status] {
@@ -377,7 +363,7 @@ fn products_beyond_32_bits() {
         n: 4,
         block_len: 4096,
         stripes: 1_048_576,
-        ..HOME
+        ..BENCH
     };
     assert_eq!(record.images_len(), 1 << 34);
     for call in calls(&record) {

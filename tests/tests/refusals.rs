@@ -5,7 +5,7 @@ use std::collections::HashSet;
 use yuzkamide_tests::memory::Side;
 use yuzkamide_tests::pbm::{Answer, Bytes, Call, Loan, NAMES};
 use yuzkamide_tests::random::Random;
-use yuzkamide_tests::record::{good, Health, Record};
+use yuzkamide_tests::record::{good, Health, Record, BENCH, GROWING};
 use yuzkamide_tests::table::{holds, rows, Lent};
 
 /// One call and what it is lent.
@@ -18,20 +18,6 @@ struct Case {
     images_len: u64,
     block_len: u64,
 }
-
-const WHOLE: Record = Record {
-    n: 3,
-    m: 0,
-    health: Health::Whole,
-    block_len: 4,
-    stripes: 15,
-    moves: 0,
-};
-const GROWING: Record = Record {
-    m: 2,
-    moves: 5,
-    ..WHOLE
-};
 
 /// A call of this name that is accepted: n = 3, m = 2, T = 15, B = 4.
 fn accepted(name: &str) -> Case {
@@ -53,12 +39,12 @@ fn accepted(name: &str) -> Case {
                 block_len: 4,
                 stripes: 15,
             },
-            WHOLE,
+            BENCH,
             180,
         ),
         "read" => case(Call::Read { block: 4 }, GROWING, 300),
         "write" => case(Call::Write { block: 4 }, GROWING, 300),
-        "grow" => case(Call::Grow { m: 2 }, WHOLE, 300),
+        "grow" => case(Call::Grow { m: 2 }, BENCH, 300),
         "advance" => case(Call::Advance { k: 3 }, GROWING, 300),
         "out" => case(Call::Out { disk: 1 }, GROWING, 0),
         "rebuild" => case(Call::Rebuild { disk: 1 }, degraded, 300),

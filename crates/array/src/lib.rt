@@ -25,6 +25,7 @@ use layout::Place;
 use layout::Role;
 pub use reading::read;
 pub use rebuilding::rebuild;
+pub use refusal::RECORD;
 use state::Health;
 use state::Record;
 pub use viewing::view;

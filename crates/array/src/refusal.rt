@@ -20,7 +20,8 @@ use state::new_is_good;
 use state::old_is_good;
 use state::stripes_are_good;
 
-const RECORD: u8 = 1;
+// The refusal words, by document 01's numbers. (The first one is given for the record's bytes too.)
+pub const RECORD: u8 = 1;
 
 const LOST: u8 = 2;
 
@@ -47,7 +48,7 @@ pub fn disks_of(r: Record) -> u64
     r.old as u64 + r.new as u64
 }
 
-// The length of images with this many disks.
+// The length of the images of its old disks and m new ones.
 fn size_with(r: Record, m: u64) -> u64
     requires { ⌜ Limits r × (m ≤ 16) ⌝ }
     ensures { λ x. ⌜ x ≡ sizeWith r m ⌝ }

@@ -5,9 +5,9 @@ ghost use Rattle.array.specs.Call.{format, grow, advance, out, rebuild, on, num
 ghost use Rattle.array.specs.Effect.{calledBytes};
 use crate::closing::close;
 use crate::closing::close_advance;
-use crate::opening::RECORD;
 use crate::opening::RECORD_LENGTH;
 use crate::opening::is_readable;
+use array::RECORD;
 use state::decode;
 
 #[no_mangle]

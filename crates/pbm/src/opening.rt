@@ -3,9 +3,6 @@ ghost use mathlib.Core.Path.{_≡_};
 ghost use Rattle.pbm.specs.Opening.{readable};
 use state::is_plain;
 
-// Refusal 1, "record".
-pub const RECORD: u8 = 1;
-
 pub const RECORD_LENGTH: usize = 16;
 
 // Can a record be decoded from these bytes? If it is good is another matter.

@@ -3,8 +3,8 @@ ghost use mathlib.Core.Path.{_≡_};
 ghost use mathlib.Core.List.{[]};
 ghost use Rattle.array.specs.Call.{read, write, on, number};
 ghost use Rattle.array.specs.Effect.{calledBytes};
-use crate::opening::RECORD;
 use crate::opening::is_readable;
+use array::RECORD;
 use state::decode;
 
 #[no_mangle]
