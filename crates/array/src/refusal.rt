@@ -1,12 +1,14 @@
 // The table of refusals, call by call: the first number whose condition holds, or 0. Nothing is looked at but the record, the numbers
 // given and the lengths lent.
 ghost use mathlib.Core.Path.{_≡_};
+ghost use mathlib.Core.Bool.{not};
+ghost use mathlib.Core.List.{[], _∷_};
 ghost use Prim.Native.Nat.{_≤_};
 ghost use Rattle.layout.specs.Layout.{capacity};
-ghost use Rattle.state.specs.Good.{geometry, Limits};
+ghost use Rattle.state.specs.Good.{geometry, good, Limits};
 ghost use Rattle.array.specs.Call.{format, read, grow, advance, out, rebuild, status, locate, owner, feed};
 ghost use Rattle.array.specs.Images.{disksOf, sizeWith};
-ghost use Rattle.array.specs.Table.{idle, formable, refusal};
+ghost use Rattle.array.specs.Table.{badRecord, lost, idle, formable, word, refusal};
 use crate::health::is_degraded;
 use crate::health::is_lost;
 use crate::health::is_out;
@@ -99,9 +101,9 @@ pub fn of_format(images: usize, n: u64, block: u64, stripes: u64) -> u8
     0
 }
 
-// Of read, view and write: room is the length of the block that is lent.
-pub fn of_reach(r: Record, images: usize, b: u64, room: usize) -> u8
-    ensures { λ k. ⌜ k ≡ refusal r (capacity (geometry r)) (feed (read b) images room) ⌝ }
+// The rows of the record, with which the calls that reach its array begin.
+fn of_record(r: Record) -> u8
+    ensures { λ k. ⌜ k ≡ word (badRecord (not (good r)) ∷ lost r ∷ []) ⌝ }
 {
     if !is_good(r) {
         return RECORD;
@@ -109,6 +111,17 @@ pub fn of_reach(r: Record, images: usize, b: u64, room: usize) -> u8
     let health = r.health;
     if is_lost(health) {
         return LOST;
+    }
+    0
+}
+
+// Of read, view and write: room is the length of the block that is lent.
+pub fn of_reach(r: Record, images: usize, b: u64, room: usize) -> u8
+    ensures { λ k. ⌜ k ≡ refusal r (capacity (geometry r)) (feed (read b) images room) ⌝ }
+{
+    let k = of_record(r);
+    if k != 0 {
+        return k;
     }
     if images as u64 != size_with(r, r.new as u64) {
         return IMAGES;
@@ -125,13 +138,11 @@ pub fn of_reach(r: Record, images: usize, b: u64, room: usize) -> u8
 pub fn of_grow(r: Record, images: usize, m: u64) -> u8
     ensures { λ k. ⌜ k ≡ refusal r (capacity (geometry r)) (feed (grow m) images 0) ⌝ }
 {
-    if !is_good(r) {
-        return RECORD;
+    let k = of_record(r);
+    if k != 0 {
+        return k;
     }
     let health = r.health;
-    if is_lost(health) {
-        return LOST;
-    }
     if is_degraded(health) {
         return DEGRADED;
     }
@@ -150,13 +161,11 @@ pub fn of_grow(r: Record, images: usize, m: u64) -> u8
 pub fn of_advance(r: Record, images: usize, k: u64) -> u8
     ensures { λ x. ⌜ x ≡ refusal r (capacity (geometry r)) (feed (advance k) images 0) ⌝ }
 {
-    if !is_good(r) {
-        return RECORD;
+    let w = of_record(r);
+    if w != 0 {
+        return w;
     }
     let health = r.health;
-    if is_lost(health) {
-        return LOST;
-    }
     if is_degraded(health) {
         return DEGRADED;
     }
@@ -172,16 +181,14 @@ pub fn of_advance(r: Record, images: usize, k: u64) -> u8
 pub fn of_out(r: Record, d: u64) -> u8
     ensures { λ k. ⌜ k ≡ refusal r (capacity (geometry r)) (feed (out d) 0 0) ⌝ }
 {
-    if !is_good(r) {
-        return RECORD;
-    }
-    let health = r.health;
-    if is_lost(health) {
-        return LOST;
+    let k = of_record(r);
+    if k != 0 {
+        return k;
     }
     if disks_of(r) <= d {
         return DISK;
     }
+    let health = r.health;
     if is_out(health, d) {
         return DISK;
     }
@@ -191,16 +198,14 @@ pub fn of_out(r: Record, d: u64) -> u8
 pub fn of_rebuild(r: Record, images: usize, d: u64) -> u8
     ensures { λ k. ⌜ k ≡ refusal r (capacity (geometry r)) (feed (rebuild d) images 0) ⌝ }
 {
-    if !is_good(r) {
-        return RECORD;
-    }
-    let health = r.health;
-    if is_lost(health) {
-        return LOST;
+    let k = of_record(r);
+    if k != 0 {
+        return k;
     }
     if images as u64 != size_with(r, r.new as u64) {
         return IMAGES;
     }
+    let health = r.health;
     if !is_out(health, d) {
         return DISK;
     }

@@ -1,6 +1,6 @@
 -- What a call that may change the record leaves, from its answer on the record. Assumes nothing.
 use Prim.Native.Nat.{ℕ}
-use mathlib.Core.Path.{_≡_, refl, sym, ap, _∙_}
+use mathlib.Core.Path.{_≡_, sym, ap, _∙_}
 use mathlib.Core.List.{List, [], _∷_}
 use Rattle.state.specs.declared.Record.{Record}
 use Rattle.state.specs.Bytes.{encode}

@@ -1,7 +1,6 @@
 -- `is_idle` meets its contract. Assumes nothing.
-use mathlib.Core.Path.{refl, ap, _∙_}
+use mathlib.Core.Path.{refl}
 use borrow.Author.Needs.{needs}
-use Rattle.layout.specs.Layout.{totalOf}
 use Rattle.array.specs.Table.{idle}
 use Rattle.array.proofs.Calls.Asked.{same, other}
 use Rattle.array.proofs.refusal.is_idle.Statement.{statement}

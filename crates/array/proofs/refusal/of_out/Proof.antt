@@ -1,73 +1,55 @@
 -- `of_out` meets its contract. Assumes nothing.
-use mathlib.Core.Path.{_≡_, refl, _∙_}
-use mathlib.Core.Bool.{true, false}
+use mathlib.Core.Path.{refl}
 use borrow.Author.Needs.{needs}
-use Rattle.state.specs.Good.{good}
-use Rattle.state.proofs.Laws.Good.{limits}
-use Rattle.state.proofs.Laws.Tests.{went-on, returned}
-use Rattle.array.specs.Health.{isLost, isDegraded}
 use Rattle.array.specs.Table.{table, refusal}
-use Rattle.array.proofs.Calls.Asked.{same, other, under, over, told}
+use Rattle.array.proofs.Calls.Asked.{under, over, told}
+use Rattle.array.proofs.Calls.Ready.{Ready, ready, unready}
 use Rattle.array.proofs.refusal.of_out.Statement.{statement}
 use Rattle.array.proofs.refusal.of_out.Tie as tie
 
-is-good-requires : tie.Need-is-good-requires
-is-good-requires c κs = search needs
+of-record-requires : tie.Need-of-record-requires
+of-record-requires c κs = search needs
 
--- what the tests have shown, one behind the other
-good-1 : (c : tie.Else1) → good (c .before .before .args .r) ≡ true
-good-1 c = went-on (c .before .is-good .ensures) (c .if1 .left)
-
-here-2 : (c : tie.Else2) → isLost (c .before .before .before .before .args .r .health) ≡ false
-here-2 c = told (c .before .is-lost .ensures) (c .if2 .left)
+-- what the first test has shown
+is-ready : (c : tie.Else1) → Ready (c .before .before .args .r)
+is-ready c = ready _ (c .before .of-record .ensures) (c .if1 .left)
 
 returns : tie.Need-returns
 unfolding refusal table
-returns c = rw (returned (c .before .is-good .ensures) (c .if1 .taken)) refl
-
-is-lost-requires : tie.Need-is-lost-requires
-is-lost-requires c κs = search needs
-
-returns-2 : tie.Need-returns-2
-unfolding refusal table
-returns-2 c = rw (good-1 (c .before .before), told (c .before .is-lost .ensures) (c .if2 .taken)) refl
+returns c = unready _ (c .before .of-record .ensures) (c .if1 .taken) _
 
 disks-of-requires : tie.Need-disks-of-requires
 disks-of-requires c κs = search needs
 
-returns-3 : tie.Need-returns-3
+returns-2 : tie.Need-returns-2
 unfolding refusal table
-returns-3 c =
-    let c2 = c .before .before in
-    rw (good-1 (c2 .before .before), here-2 c2, over (c .before .disks-of .ensures) (c .if3 .taken)) refl
+returns-2 c =
+    let i = is-ready (c .before .before) in
+    rw (i .good, i .here, over (c .before .disks-of .ensures) (c .if2 .taken)) refl
 
 is-out-requires : tie.Need-is-out-requires
 is-out-requires c κs = search needs
 
+returns-3 : tie.Need-returns-3
+unfolding refusal table
+returns-3 c =
+    let i = is-ready (c .before .before .before .before) in
+    rw (i .good, i .here, under (c .before .before .before .disks-of .ensures) (c .before .before .if2 .left), told (c .before .is-out .ensures) (c .if3 .taken)) refl
+
 returns-4 : tie.Need-returns-4
 unfolding refusal table
 returns-4 c =
-    let c3 = c .before .before in
-    let c2 = c3 .before .before in
-    rw (good-1 (c2 .before .before), here-2 c2, under (c3 .before .disks-of .ensures) (c3 .if3 .left), told (c .before .is-out .ensures) (c .if4 .taken)) refl
-
-returns-5 : tie.Need-returns-5
-unfolding refusal table
-returns-5 c =
-    let c3 = c .before .before in
-    let c2 = c3 .before .before in
-    rw (good-1 (c2 .before .before), here-2 c2, under (c3 .before .disks-of .ensures) (c3 .if3 .left), told (c .before .is-out .ensures) (c .if4 .left)) refl
+    let i = is-ready (c .before .before .before .before) in
+    rw (i .good, i .here, under (c .before .before .before .disks-of .ensures) (c .before .before .if2 .left), told (c .before .is-out .ensures) (c .if3 .left)) refl
 
 pub of-out-spec : {M : Type 1} → statement M
 of-out-spec =
     tie.close
     (tie.spec
-    is-good-requires
+    of-record-requires
     returns
-    is-lost-requires
-    returns-2
     disks-of-requires
-    returns-3
+    returns-2
     is-out-requires
-    returns-4
-    returns-5)
+    returns-3
+    returns-4)

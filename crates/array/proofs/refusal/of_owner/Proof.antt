@@ -1,13 +1,11 @@
 -- `of_owner` meets its contract. Assumes nothing.
-use mathlib.Core.Path.{_≡_, refl, _∙_}
-use mathlib.Core.Bool.{true, false}
+use mathlib.Core.Path.{_≡_, refl}
+use mathlib.Core.Bool.{true}
 use borrow.Author.Needs.{needs}
 use Rattle.state.specs.Good.{good}
-use Rattle.state.proofs.Laws.Good.{limits}
 use Rattle.state.proofs.Laws.Tests.{went-on, returned}
-use Rattle.array.specs.Health.{isLost, isDegraded}
 use Rattle.array.specs.Table.{table, refusal}
-use Rattle.array.proofs.Calls.Asked.{same, other, under, over, told}
+use Rattle.array.proofs.Calls.Asked.{under, over}
 use Rattle.array.proofs.refusal.of_owner.Statement.{statement}
 use Rattle.array.proofs.refusal.of_owner.Tie as tie
 

@@ -1,91 +1,70 @@
 -- `of_reach` meets its contract. Assumes nothing.
-use mathlib.Core.Path.{_≡_, refl, _∙_}
-use mathlib.Core.Bool.{true, false}
+use mathlib.Core.Path.{refl}
 use borrow.Author.Needs.{needs}
-use Rattle.state.specs.Good.{good}
-use Rattle.state.proofs.Laws.Good.{limits}
-use Rattle.state.proofs.Laws.Tests.{went-on, returned}
-use Rattle.array.specs.Health.{isLost, isDegraded}
 use Rattle.array.specs.Table.{table, refusal}
-use Rattle.array.proofs.Calls.Asked.{same, other, under, over, told}
+use Rattle.array.proofs.Calls.Asked.{same, other, under, over}
+use Rattle.array.proofs.Calls.Ready.{Ready, ready, unready}
 use Rattle.array.proofs.refusal.of_reach.Statement.{statement}
 use Rattle.array.proofs.refusal.of_reach.Tie as tie
 
-is-good-requires : tie.Need-is-good-requires
-is-good-requires c κs = search needs
+of-record-requires : tie.Need-of-record-requires
+of-record-requires c κs = search needs
 
--- what the tests have shown, one behind the other
-good-1 : (c : tie.Else1) → good (c .before .before .args .r) ≡ true
-good-1 c = went-on (c .before .is-good .ensures) (c .if1 .left)
-
-here-2 : (c : tie.Else2) → isLost (c .before .before .before .before .args .r .health) ≡ false
-here-2 c = told (c .before .is-lost .ensures) (c .if2 .left)
+-- what the first test has shown
+is-ready : (c : tie.Else1) → Ready (c .before .before .args .r)
+is-ready c = ready _ (c .before .of-record .ensures) (c .if1 .left)
 
 returns : tie.Need-returns
 unfolding refusal table
-returns c = rw (returned (c .before .is-good .ensures) (c .if1 .taken)) refl
-
-is-lost-requires : tie.Need-is-lost-requires
-is-lost-requires c κs = search needs
-
-returns-2 : tie.Need-returns-2
-unfolding refusal table
-returns-2 c = rw (good-1 (c .before .before), told (c .before .is-lost .ensures) (c .if2 .taken)) refl
+returns c = unready _ (c .before .of-record .ensures) (c .if1 .taken) _
 
 cast-size-with : tie.Need-cast-size-with
 cast-size-with c = search needs
 
 size-with-requires : tie.Need-size-with-requires
-size-with-requires c κs = let l = limits _ (good-1 (c .before .before .before)) in (l, l .array .disks .m-high)
+size-with-requires c κs = let l = is-ready (c .before) .limits in (l, l .array .disks .m-high)
+
+returns-2 : tie.Need-returns-2
+unfolding refusal table
+returns-2 c =
+    let i = is-ready (c .before .before .before) in
+    rw (i .good, i .here, other (c .before .size-with .ensures) (c .if2 .taken)) refl
+
+blocks-of-requires : tie.Need-blocks-of-requires
+blocks-of-requires c κs = is-ready (c .before .before .before) .limits
 
 returns-3 : tie.Need-returns-3
 unfolding refusal table
 returns-3 c =
-    let c2 = c .before .before .before in
-    rw (good-1 (c2 .before .before), here-2 c2, other (c .before .size-with .ensures) (c .if3 .taken)) refl
+    let i = is-ready (c .before .before .before .before .before) in
+    rw (i .good, i .here, same (c .before .before .before .size-with .ensures) (c .before .before .if2 .left), over (c .before .blocks-of .ensures) (c .if3 .taken)) refl
 
-blocks-of-requires : tie.Need-blocks-of-requires
-blocks-of-requires c κs = limits _ (good-1 (c .before .before .before .before .before))
+cast-if4 : tie.Need-cast-if4
+cast-if4 c = search needs
 
 returns-4 : tie.Need-returns-4
 unfolding refusal table
 returns-4 c =
-    let c3 = c .before .before in
-    let c2 = c3 .before .before .before in
-    rw (good-1 (c2 .before .before), here-2 c2, same (c3 .before .size-with .ensures) (c3 .if3 .left), over (c .before .blocks-of .ensures) (c .if4 .taken)) refl
-
-cast-if5 : tie.Need-cast-if5
-cast-if5 c = search needs
+    let i = is-ready (c .before .before .before .before .before .before .before) in
+    rw (i .good, i .here, same (c .before .before .before .before .before .size-with .ensures) (c .before .before .before .before .if2 .left), under (c .before .before .before .blocks-of .ensures) (c .before .before .if3 .left), other refl (c .if4 .taken)) refl
 
 returns-5 : tie.Need-returns-5
 unfolding refusal table
 returns-5 c =
-    let c4 = c .before .before in
-    let c3 = c4 .before .before in
-    let c2 = c3 .before .before .before in
-    rw (good-1 (c2 .before .before), here-2 c2, same (c3 .before .size-with .ensures) (c3 .if3 .left), under (c4 .before .blocks-of .ensures) (c4 .if4 .left), other refl (c .if5 .taken)) refl
-
-returns-6 : tie.Need-returns-6
-unfolding refusal table
-returns-6 c =
-    let c4 = c .before .before in
-    let c3 = c4 .before .before in
-    let c2 = c3 .before .before .before in
-    rw (good-1 (c2 .before .before), here-2 c2, same (c3 .before .size-with .ensures) (c3 .if3 .left), under (c4 .before .blocks-of .ensures) (c4 .if4 .left), same refl (c .if5 .left)) refl
+    let i = is-ready (c .before .before .before .before .before .before .before) in
+    rw (i .good, i .here, same (c .before .before .before .before .before .size-with .ensures) (c .before .before .before .before .if2 .left), under (c .before .before .before .blocks-of .ensures) (c .before .before .if3 .left), same refl (c .if4 .left)) refl
 
 pub of-reach-spec : {M : Type 1} → statement M
 of-reach-spec =
     tie.close
     (tie.spec
-    is-good-requires
+    of-record-requires
     returns
-    is-lost-requires
-    returns-2
     cast-size-with
     size-with-requires
-    returns-3
+    returns-2
     blocks-of-requires
+    returns-3
+    cast-if4
     returns-4
-    cast-if5
-    returns-5
-    returns-6)
+    returns-5)
