@@ -8,10 +8,9 @@ ghost use Rattle.array.specs.Table.{refusal};
 ghost use Rattle.array.specs.Effect.{blockOf, called};
 use crate::health::is_absent;
 use crate::places::place_at;
-use crate::refusal::disks_of;
+use crate::places::sum_others;
 use crate::refusal::of_reach;
 use blocks::copy_out;
-use blocks::xor_others;
 use layout::place_of;
 use state::Record;
 use state::geometry_of;
@@ -24,14 +23,7 @@ fn fill(r: Record, images: &[u8], b: u64, block: &mut [u8])
     let q = place_of(geometry_of(r), b);
     let health = r.health;
     if is_absent(health, q.stripe, q.disk) {
-        xor_others(
-            images,
-            disks_of(r) as usize,
-            r.stripes as usize,
-            q.stripe as usize,
-            q.disk as usize,
-            block,
-        );
+        sum_others(r, images, q.stripe, q.disk, block);
     } else {
         copy_out(images, place_at(r, q.stripe, q.disk), block);
     }

@@ -12,9 +12,8 @@ ghost use Rattle.array.specs.Effect.{viewOf, scratchLeft, called};
 use crate::Choice;
 use crate::health::is_absent;
 use crate::places::place_at;
-use crate::refusal::disks_of;
+use crate::places::sum_others;
 use crate::refusal::of_reach;
-use blocks::xor_others;
 use layout::place_of;
 use state::Record;
 use state::geometry_of;
@@ -28,14 +27,7 @@ fn choose(r: Record, images: &[u8], b: u64, scratch: &mut [u8]) -> Choice
     let q = place_of(geometry_of(r), b);
     let health = r.health;
     if is_absent(health, q.stripe, q.disk) {
-        xor_others(
-            images,
-            disks_of(r) as usize,
-            r.stripes as usize,
-            q.stripe as usize,
-            q.disk as usize,
-            scratch,
-        );
+        sum_others(r, images, q.stripe, q.disk, scratch);
         return Choice::Scratch;
     }
     Choice::Part(place_at(r, q.stripe, q.disk))

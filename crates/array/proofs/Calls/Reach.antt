@@ -12,7 +12,7 @@ use Rattle.layout.specs.declared.Place.{Place}
 use Rattle.layout.specs.Layout.{capacity, layout}
 use Rattle.layout.specs.Limits.{Good}
 use Rattle.blocks.specs.Block.{blockAt}
-use Rattle.blocks.specs.Stripe.{offset, others}
+use Rattle.blocks.specs.Stripe.{offset}
 use Rattle.blocks.proofs.Laws.Stripe.{place-in}
 use Rattle.state.specs.declared.Record.{Record}
 use Rattle.state.specs.Good.{geometry, good, Limits}
@@ -21,7 +21,7 @@ use Rattle.array.specs.declared.Choice.the-variants.{Part, Scratch}
 use Rattle.array.specs.Answers.{choiceOf}
 use Rattle.array.specs.Call.{read, view, write, feed}
 use Rattle.array.specs.Health.{isLost, absent}
-use Rattle.array.specs.Images.{disksOf, size, seen}
+use Rattle.array.specs.Images.{disksOf, size, othersIn, seen}
 use Rattle.array.specs.Table.{table, refusal}
 use Rattle.array.specs.Effect.{placeOf, blockOf, viewOf, scratchLeft}
 use Rattle.array.proofs.Laws.Passed.{Reaches, reads}
@@ -96,10 +96,9 @@ module _ {r : Record} {len b room : ℕ} {q : Place} (x : Reached r len b room q
   parity-asked e = subst (λ (y : Geometry). Good y × (q .stripe < y .stripes)) (sym e) (x .limits .array, x .stripe-lt)
 
   -- what is seen there, by whether its disk is absent
-  pub block-out : (img : List ℕ) {N : ℕ} → N ≡ disksOf r → absent (r .health) (q .stripe) (q .disk) ≡ true
-      → others room (r .stripes) img (q .stripe) N (q .disk) ≡ blockOf r img b
+  pub block-out : (img : List ℕ) → absent (r .health) (q .stripe) (q .disk) ≡ true → othersIn r img (q .stripe) (q .disk) ≡ blockOf r img b
   unfolding seen
-  block-out img e u = rw (e, x .whole, x .is, rw (x .is) at u) refl
+  block-out img u = rw (x .is, rw (x .is) at u) refl
 
   pub block-in : (img : List ℕ) {at : ℕ} → at ≡ offset (r .block) (r .stripes) (q .stripe) (q .disk) → absent (r .health) (q .stripe) (q .disk) ≡ false
       → blockAt img at room ≡ blockOf r img b
@@ -107,10 +106,10 @@ module _ {r : Record} {len b room : ℕ} {q : Place} (x : Reached r len b room q
   block-in img e u = rw (e, x .whole, x .is, rw (x .is) at u) refl
 
   -- .. and which view it is
-  pub choice-out : (img scratch : List ℕ) {N : ℕ} → N ≡ disksOf r → absent (r .health) (q .stripe) (q .disk) ≡ true
-      → (Scratch ≡ choiceOf 0 (viewOf r b)) × (others room (r .stripes) img (q .stripe) N (q .disk) ≡ scratchLeft r img b scratch)
+  pub choice-out : (img scratch : List ℕ) → absent (r .health) (q .stripe) (q .disk) ≡ true
+      → (Scratch ≡ choiceOf 0 (viewOf r b)) × (othersIn r img (q .stripe) (q .disk) ≡ scratchLeft r img b scratch)
   unfolding viewOf scratchLeft
-  choice-out img scratch e u = rw (e, x .whole, x .is, rw (x .is) at u) (refl, refl)
+  choice-out img scratch u = rw (x .is, rw (x .is) at u) (refl, refl)
 
   pub choice-in : (img scratch : List ℕ) {at : ℕ} → at ≡ offset (r .block) (r .stripes) (q .stripe) (q .disk) → absent (r .health) (q .stripe) (q .disk) ≡ false
       → (Part at ≡ choiceOf 0 (viewOf r b)) × (scratch ≡ scratchLeft r img b scratch)

@@ -3,7 +3,7 @@ use mathlib.Core.Path.{_∙_}
 use lib.ListN.{length}
 use borrow.Author.Needs.{needs}
 use Rattle.array.proofs.Calls.Asked.{told}
-use Rattle.array.proofs.Calls.Reach.{Reached, asked, reached, inside, summed, block-out, block-in}
+use Rattle.array.proofs.Calls.Reach.{Reached, asked, reached, inside, block-out, block-in}
 use Rattle.array.proofs.reading.fill.Statement.{statement}
 use Rattle.array.proofs.reading.fill.Tie as tie
 
@@ -20,14 +20,8 @@ stands c = reached _ _ _ _ (c .before .before .before .before .pre) _ (c .before
 is-absent-requires : tie.Need-is-absent-requires
 is-absent-requires c κs = search needs
 
-disks-of-requires : tie.Need-disks-of-requires
-disks-of-requires c κs = search needs
-
-cast-xor-others : tie.Need-cast-xor-others
-cast-xor-others c = search needs
-
-xor-others-requires : tie.Need-xor-others-requires
-xor-others-requires c κs = let c2 = c .before .before in summed (stands (c2 .before .before .before)) (c2 .disks-of .ensures)
+sum-others-requires : tie.Need-sum-others-requires
+sum-others-requires c κs = let x = stands (c .before .before .before) in (x .limits, x .stripe-lt, x .long, x .whole)
 
 place-at-requires : tie.Need-place-at-requires
 place-at-requires c κs = let x = stands (c .before .before) in (x .limits, x .stripe-lt, x .disk-lt)
@@ -41,9 +35,9 @@ same-length c = search needs
 returns : tie.Need-returns
 returns c =
     let c1 = c .before .before in
-    let c2 = c1 .before .before .before in
-    let c3 = c2 .before .before in
-    c1 .xor-others .ensures ∙ block-out (stands (c3 .before)) _ (c2 .disks-of .ensures) (told (c3 .is-absent .ensures) (c2 .before .if1 .taken))
+    let c2 = c1 .before .before in
+    let c3 = c2 .before in
+    c1 .sum-others .ensures ∙ block-out (stands (c3 .before)) _ (told (c3 .is-absent .ensures) (c2 .if1 .taken))
 
 same-length-2 : tie.Need-same-length-2
 same-length-2 c = search needs
@@ -62,9 +56,7 @@ fill-spec =
     geometry-of-requires
     place-of-requires
     is-absent-requires
-    disks-of-requires
-    cast-xor-others
-    xor-others-requires
+    sum-others-requires
     place-at-requires
     copy-out-requires
     same-length

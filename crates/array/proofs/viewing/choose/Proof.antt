@@ -3,7 +3,7 @@ use mathlib.Core.Path.{sym, _∙_}
 use lib.ListN.{length}
 use borrow.Author.Needs.{needs}
 use Rattle.array.proofs.Calls.Asked.{told}
-use Rattle.array.proofs.Calls.Reach.{as-view, Reached, asked, reached, summed, choice-out, choice-in}
+use Rattle.array.proofs.Calls.Reach.{as-view, Reached, asked, reached, choice-out, choice-in}
 use Rattle.array.proofs.viewing.choose.Statement.{statement}
 use Rattle.array.proofs.viewing.choose.Tie as tie
 
@@ -20,14 +20,8 @@ stands c = reached _ _ _ _ (sym (as-view _ _ _ _) ∙ c .before .before .before 
 is-absent-requires : tie.Need-is-absent-requires
 is-absent-requires c κs = search needs
 
-disks-of-requires : tie.Need-disks-of-requires
-disks-of-requires c κs = search needs
-
-cast-xor-others : tie.Need-cast-xor-others
-cast-xor-others c = search needs
-
-xor-others-requires : tie.Need-xor-others-requires
-xor-others-requires c κs = let c2 = c .before .before in summed (stands (c2 .before .before .before)) (c2 .disks-of .ensures)
+sum-others-requires : tie.Need-sum-others-requires
+sum-others-requires c κs = let x = stands (c .before .before .before) in (x .limits, x .stripe-lt, x .long, x .whole)
 
 same-length : tie.Need-same-length
 same-length c = search needs
@@ -35,10 +29,10 @@ same-length c = search needs
 returns : tie.Need-returns
 returns c =
     let c1 = c .before .before in
-    let c2 = c1 .before .before .before in
-    let c3 = c2 .before .before in
-    let (x, s) = choice-out (stands (c3 .before)) _ _ (c2 .disks-of .ensures) (told (c3 .is-absent .ensures) (c2 .before .if1 .taken)) in
-    (x, c1 .xor-others .ensures ∙ s)
+    let c2 = c1 .before .before in
+    let c3 = c2 .before in
+    let (x, s) = choice-out (stands (c3 .before)) _ _ (told (c3 .is-absent .ensures) (c2 .if1 .taken)) in
+    (x, c1 .sum-others .ensures ∙ s)
 
 place-at-requires : tie.Need-place-at-requires
 place-at-requires c κs = let x = stands (c .before .before) in (x .limits, x .stripe-lt, x .disk-lt)
@@ -55,9 +49,7 @@ choose-spec =
     geometry-of-requires
     place-of-requires
     is-absent-requires
-    disks-of-requires
-    cast-xor-others
-    xor-others-requires
+    sum-others-requires
     same-length
     returns
     place-at-requires
