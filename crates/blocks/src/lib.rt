@@ -5,7 +5,6 @@ mod xor;
 
 pub use copy::copy_in;
 pub use copy::copy_out;
-pub use copy::copy_within;
 pub use copy::move_block;
 pub use copy::zero_block;
 pub use stripe::fold_others;
@@ -13,4 +12,3 @@ pub use stripe::offset_of;
 pub use stripe::rebuild_place;
 pub use stripe::xor_others;
 pub use xor::fold_parity;
-pub use xor::xor_out;

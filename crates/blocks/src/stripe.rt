@@ -2,12 +2,21 @@
 ghost use mathlib.Core.Path.{_≡_};
 ghost use Prim.Native.Nat.{_+_, _*_, _≤_, _<_};
 ghost use lib.ListN.{length, getD};
-ghost use Rattle.blocks.specs.Block.{store};
+ghost use Rattle.blocks.specs.Block.{blockAt, store};
 ghost use Rattle.blocks.specs.Xor.{xorB};
 ghost use Rattle.blocks.specs.Stripe.{offset, place, others};
 use crate::copy::copy_in;
+use crate::copy::load_bytes;
+use crate::copy::store_bytes;
 use crate::copy::zero_block;
+use crate::xor::fold_block;
 use crate::xor::xor_out;
+
+// The bytes of a block that are summed at once: they stay in registers from disk to disk.
+const PIECE: usize = 128;
+
+// The disks that are read side by side: more streams than these are slower.
+const GROUP: usize = 16;
 
 // Where the place of stripe s on disk d begins.
 pub fn offset_of(stripes: usize, len: usize, s: usize, d: usize) -> usize
@@ -15,6 +24,102 @@ pub fn offset_of(stripes: usize, len: usize, s: usize, d: usize) -> usize
     ensures { λ r. ⌜ r ≡ offset len stripes s d ⌝ }
 {
     (d * stripes + s) * len
+}
+
+// Part holds the bytes from at on of the xor of the first `first` disks' places; it is taken on to the first `last`. Disk `out` is left out.
+fn add_disks(
+    images: &[u8],
+    stripes: usize,
+    len: usize,
+    s: usize,
+    out: usize,
+    first: usize,
+    last: usize,
+    at: usize,
+    part: &mut [u8],
+)
+    requires { ⌜ (1 ≤ len) × (s < stripes) × (first ≤ last) × (last * (stripes * len) ≤ length (now images)) × (at + length (now part) ≤ len) × (now part ≡ blockAt (others len stripes (now images) s first out) at (length (now part))) ⌝ }
+    ensures { λ _. ⌜ now (part .exit) ≡ blockAt (others len stripes (now (images .entry)) s last out) at (length (now (part .entry))) ⌝ }
+{
+    let mut d = first;
+    while d < last {
+        if d != out {
+            let from = offset_of(stripes, len, s, d) + at;
+            xor_out(images, from, part);
+        }
+        d += 1;
+    }
+}
+
+// The same for the piece of block from at on.
+fn add_piece(
+    images: &[u8],
+    stripes: usize,
+    s: usize,
+    out: usize,
+    first: usize,
+    last: usize,
+    at: usize,
+    block: &mut [u8],
+)
+    requires { ⌜ (s < stripes) × (first ≤ last) × (last * (stripes * length (now block)) ≤ length (now images)) × (at + 128 ≤ length (now block)) × (blockAt (now block) at 128 ≡ blockAt (others (length (now block)) stripes (now images) s first out) at 128) ⌝ }
+    ensures { λ _. ⌜ now (block .exit) ≡ store (now (block .entry)) at (blockAt (others (length (now (block .entry))) stripes (now (images .entry)) s last out) at 128) ⌝ }
+{
+    let len = block.len();
+    let mut piece = [0u8; 128];
+    load_bytes(block, at, &mut piece[..PIECE]);
+    add_disks(
+        images,
+        stripes,
+        len,
+        s,
+        out,
+        first,
+        last,
+        at,
+        &mut piece[..PIECE],
+    );
+    store_bytes(block, at, &piece[..PIECE]);
+}
+
+// The same for all of block, piece by piece.
+fn add_group(
+    images: &[u8],
+    stripes: usize,
+    s: usize,
+    out: usize,
+    first: usize,
+    last: usize,
+    block: &mut [u8],
+)
+    requires { ⌜ (1 ≤ length (now block)) × (s < stripes) × (first ≤ last) × (last * (stripes * length (now block)) ≤ length (now images)) × (now block ≡ others (length (now block)) stripes (now images) s first out) ⌝ }
+    ensures { λ _. ⌜ now (block .exit) ≡ others (length (now (block .entry))) stripes (now (images .entry)) s last out ⌝ }
+{
+    let len = block.len();
+    let mut at = 0;
+    while PIECE <= len - at {
+        add_piece(images, stripes, s, out, first, last, at, block);
+        at += PIECE;
+    }
+    add_disks(
+        images,
+        stripes,
+        len,
+        s,
+        out,
+        first,
+        last,
+        at,
+        &mut block[at..],
+    );
+}
+
+// The disk behind the group that begins with disk d.
+fn group_end(d: usize, disks: usize) -> usize
+    requires { ⌜ d < disks ⌝ }
+    ensures { λ e. ⌜ (d < e) × (e ≤ disks) ⌝ }
+{
+    if disks - d < GROUP { disks } else { d + GROUP }
 }
 
 // Sets block to the xor of the places of stripe s on all disks but `out`.
@@ -33,11 +138,9 @@ pub fn xor_others(
     zero_block(block, 0, len);
     let mut d = 0;
     while d < disks {
-        if d != out {
-            let at = offset_of(stripes, len, s, d);
-            xor_out(images, at, block);
-        }
-        d += 1;
+        let e = group_end(d, disks);
+        add_group(images, stripes, s, out, d, e, block);
+        d = e;
     }
 }
 
@@ -50,7 +153,7 @@ pub fn rebuild_place(
     out: usize,
     block: &mut [u8],
 )
-    requires { ⌜ (1 ≤ length (now block)) × (s < stripes) × (out < disks) × (disks * (stripes * length (now block)) ≤ length (now images)) ⌝ }
+    requires { ⌜ (1 ≤ length (now block)) × (length (now block) ≤ 4096) × (s < stripes) × (out < disks) × (disks * (stripes * length (now block)) ≤ length (now images)) ⌝ }
     ensures { λ _. ⌜ (now (images .exit) ≡ store (now (images .entry)) (offset (length (now (block .entry))) stripes s out) (others (length (now (block .entry))) stripes (now (images .entry)) s disks out)) × (now (block .exit) ≡ others (length (now (block .entry))) stripes (now (images .entry)) s disks out) ⌝ }
 {
     let len = block.len();
@@ -59,32 +162,27 @@ pub fn rebuild_place(
     copy_in(images, at, block);
 }
 
-// Byte j of the xor of the places of stripe s on all disks but `out`.
-fn others_byte(
-    images: &[u8],
+// Folds a write of bytes to the place of stripe s on disk `out` into the parity, the stripe's place on disk `parity`: the xor of the other disks, summed in own, stands for the old
+// block. The bytes themselves are not stored.
+fn fold_others_through(
+    images: &mut [u8],
     disks: usize,
     stripes: usize,
-    len: usize,
     s: usize,
     out: usize,
-    j: usize,
-) -> u8
-    requires { ⌜ (s < stripes) × (j < len) × (disks * (stripes * len) ≤ length (now images)) ⌝ }
-    ensures { λ r. ⌜ r ≡ getD (others len stripes (now (images .entry)) s disks out) j 0 ⌝ }
+    parity: usize,
+    bytes: &[u8],
+    own: &mut [u8],
+)
+    requires { ⌜ (1 ≤ length (now bytes)) × (length (now own) ≡ length (now bytes)) × (s < stripes) × (parity < disks) × (disks * (stripes * length (now bytes)) ≤ length (now images)) ⌝ }
+    ensures { λ _. ⌜ now (images .exit) ≡ store (now (images .entry)) (offset (length (now (bytes .entry))) stripes s parity) (xorB (xorB (place (length (now (bytes .entry))) stripes (now (images .entry)) s parity) (others (length (now (bytes .entry))) stripes (now (images .entry)) s disks out)) (now (bytes .entry))) ⌝ }
 {
-    let mut x = 0;
-    let mut d = 0;
-    while d < disks {
-        if d != out {
-            let at = offset_of(stripes, len, s, d);
-            x = x ^ images[at + j];
-        }
-        d += 1;
-    }
-    x
+    let at = offset_of(stripes, bytes.len(), s, parity);
+    xor_others(images, disks, stripes, s, out, own);
+    fold_block(images, at, own, bytes);
 }
 
-// Folds a write of bytes to the place of stripe s on disk `out` into the parity, the stripe's place on disk `parity`: the xor of the other disks stands for the old block. The bytes themselves are not stored.
+// The same with a block of its own.
 pub fn fold_others(
     images: &mut [u8],
     disks: usize,
@@ -94,15 +192,19 @@ pub fn fold_others(
     parity: usize,
     bytes: &[u8],
 )
-    requires { ⌜ (1 ≤ length (now bytes)) × (s < stripes) × (parity < disks) × (disks * (stripes * length (now bytes)) ≤ length (now images)) ⌝ }
+    requires { ⌜ (1 ≤ length (now bytes)) × (length (now bytes) ≤ 4096) × (s < stripes) × (parity < disks) × (disks * (stripes * length (now bytes)) ≤ length (now images)) ⌝ }
     ensures { λ _. ⌜ now (images .exit) ≡ store (now (images .entry)) (offset (length (now (bytes .entry))) stripes s parity) (xorB (xorB (place (length (now (bytes .entry))) stripes (now (images .entry)) s parity) (others (length (now (bytes .entry))) stripes (now (images .entry)) s disks out)) (now (bytes .entry))) ⌝ }
 {
+    let mut own = [0u8; 4096];
     let len = bytes.len();
-    let at = offset_of(stripes, len, s, parity);
-    let mut j = 0;
-    while j < len {
-        let x = others_byte(images, disks, stripes, len, s, out, j);
-        images[at + j] = images[at + j] ^ x ^ bytes[j];
-        j += 1;
-    }
+    fold_others_through(
+        images,
+        disks,
+        stripes,
+        s,
+        out,
+        parity,
+        bytes,
+        &mut own[..len],
+    );
 }

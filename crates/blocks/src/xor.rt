@@ -6,7 +6,7 @@ ghost use Rattle.blocks.specs.Block.{blockAt, store, Apart};
 ghost use Rattle.blocks.specs.Xor.{xorB, folded};
 
 // Xors the images' bytes from at on into block.
-pub fn xor_out(images: &[u8], at: usize, block: &mut [u8])
+pub(crate) fn xor_out(images: &[u8], at: usize, block: &mut [u8])
     requires { ⌜ at + length (now block) ≤ length (now images) ⌝ }
     ensures { λ _. ⌜ now (block .exit) ≡ xorB (now (block .entry)) (blockAt (now (images .entry)) at (length (now (block .entry)))) ⌝ }
 {
@@ -25,6 +25,18 @@ pub fn fold_parity(images: &mut [u8], parity: usize, at: usize, bytes: &[u8])
     let mut i = 0;
     while i < bytes.len() {
         images[parity + i] = images[parity + i] ^ images[at + i] ^ bytes[i];
+        i += 1;
+    }
+}
+
+// The same where the old block does not stand in the images.
+pub(crate) fn fold_block(images: &mut [u8], parity: usize, old: &[u8], bytes: &[u8])
+    requires { ⌜ (parity + length (now bytes) ≤ length (now images)) × (length (now old) ≡ length (now bytes)) ⌝ }
+    ensures { λ _. ⌜ now (images .exit) ≡ store (now (images .entry)) parity (xorB (xorB (blockAt (now (images .entry)) parity (length (now (bytes .entry)))) (now (old .entry))) (now (bytes .entry))) ⌝ }
+{
+    let mut i = 0;
+    while i < bytes.len() {
+        images[parity + i] = images[parity + i] ^ old[i] ^ bytes[i];
         i += 1;
     }
 }

@@ -8,10 +8,9 @@ use native.Mathlib.Nat.{le-antisymm}
 use native.Mathlib.Numerals.{add-one}
 use native.Mathlib.Omega.{arith}
 use borrow.Author.Tests.{not-false}
-use lib.ListN.{length, take, length-replicate}
-use lib.Seq.{length-take-le}
+use lib.ListN.{length}
 use Rattle.layout.specs.Layout.{capacity}
-use Rattle.blocks.specs.Block.{store, zeros}
+use Rattle.blocks.specs.Block.{store}
 use Rattle.blocks.specs.Stripe.{offset, others}
 use Rattle.blocks.proofs.Laws.Stripe.{length-others, others-store}
 use Rattle.state.specs.declared.Health.the-variants.{Whole}
@@ -27,10 +26,6 @@ use Rattle.array.specs.Effect.{effect, called}
 use Rattle.array.proofs.Laws.Stores.{length-stored, stored-append, stored-last, recorded-last}
 use Rattle.array.proofs.Laws.Passed.{Rebuilds, rebuilds}
 use Rattle.array.proofs.Calls.Called.{called-done}
-
--- the first n of k zeroes
-pub prefix : (n k : ℕ) → n ≤ k → length (take n (zeros k)) ≡ n
-prefix n k h = length-take-le n (zeros k) (rw (length-replicate {A = ℕ} k 0) h)
 
 module _ (B T N d : ℕ) (img : List ℕ) where
   abbrev sums : ℕ → List ℕ

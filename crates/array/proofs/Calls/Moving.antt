@@ -2,7 +2,7 @@
 use Prim.Native.Nat.{ℕ, _+_, _-_, _*_, _≤_, _<_, min}
 use mathlib.Core.Path.{_≡_, refl, sym, ap, ap₂, _∙_, subst}
 use mathlib.Core.Bool.{Bool, true, false, not}
-use mathlib.Core.Logic.{_≢_, inr}
+use mathlib.Core.Logic.{_≢_}
 use mathlib.Core.List.{List, [], _++_, append-nil}
 use native.Mathlib.Decide.{decLt}
 use native.Mathlib.Nat.{div-le-self}
@@ -16,9 +16,9 @@ use Rattle.layout.specs.Layout.{totalOf, capacity, nextStripe, nextFrom, nextTo
 use Rattle.layout.specs.Limits.{Good}
 use Rattle.layout.proofs.Laws.Bounds.{products}
 use Rattle.layout.proofs.Laws.Standing.{standing, Carries, carries}
-use Rattle.blocks.specs.Block.{Apart, blockAt, store, zeros}
+use Rattle.blocks.specs.Block.{blockAt, store, zeros}
 use Rattle.blocks.specs.Stripe.{offset}
-use Rattle.blocks.proofs.Laws.Stripe.{place-in, places-apart}
+use Rattle.blocks.proofs.Laws.Stripe.{place-in}
 use Rattle.state.specs.declared.Record.{Record}
 use Rattle.state.specs.Good.{geometry, good, Limits}
 use Rattle.state.proofs.Laws.Good.{limits}
@@ -40,14 +40,13 @@ total-high g good = omega (arith, div-le-self (g .stripes * g .old * g .new) (g 
 
 -- ---- one move
 
--- its places lie in the images, and apart
+-- its places lie in the images
 pub record Step (r : Record) (x : Move) : Type 0 where
   pub stripe-lt : x .stripe < r .stripes
   pub from-lt : x .from < disksOf r
   pub to-lt : x .to < disksOf r
   pub from-in : offset (r .block) (r .stripes) (x .stripe) (x .from) + r .block ≤ size r
   pub to-in : offset (r .block) (r .stripes) (x .stripe) (x .to) + r .block ≤ size r
-  pub apart : Apart (offset (r .block) (r .stripes) (x .stripe) (x .to)) (r .block) (offset (r .block) (r .stripes) (x .stripe) (x .from)) (r .block)
 
 module _ (r : Record) where
   abbrev next : Move
@@ -63,7 +62,6 @@ module _ (r : Record) where
         to-lt = c .to-lt;
         from-in = place-in (r .block) (r .stripes) (nextStripe g) (nextFrom g) (disksOf r) (c .stripe-lt) (c .from-lt);
         to-in = place-in (r .block) (r .stripes) (nextStripe g) (nextTo g) (disksOf r) (c .stripe-lt) (c .to-lt);
-        apart = places-apart (r .block) (r .stripes) (nextStripe g) (nextTo g) (nextStripe g) (nextFrom g) (c .stripe-lt) (c .stripe-lt) (inr (c .apart));
       }
 
   -- what its two stores leave

@@ -20,7 +20,7 @@ use Rattle.array.specs.Images.{disksOf, seen, stored}
 use Rattle.array.specs.Effect.{writeStores}
 use Rattle.array.proofs.Laws.Column.{Single}
 use Rattle.array.proofs.Laws.Holding.{single}
-use Rattle.array.proofs.Calls.Reach.{Reached, inside, summed}
+use Rattle.array.proofs.Calls.Reach.{Reached, inside, short, summed}
 
 -- a write of v to the block at q, with the parity on disk p
 pub record Aimed (r : Record) (len b : ℕ) (v : List ℕ) (q : Place) (p : ℕ) : Type 0 where
@@ -52,8 +52,8 @@ module _ {r : Record} {len b : ℕ} {v : List ℕ} {q : Place} {p : ℕ} (a : Ai
 
   -- ---- what the folds ask for
 
-  pub sums : {N : ℕ} → N ≡ disksOf r → (1 ≤ length v) × (q .stripe < r .stripes) × (p < N) × (N * (r .stripes * length v) ≤ len)
-  sums e = let (i, s, l) = summed x e in (i, s, rw e parity-lt, l)
+  pub sums : {N : ℕ} → N ≡ disksOf r → (1 ≤ length v) × (length v ≤ 4096) × (q .stripe < r .stripes) × (p < N) × (N * (r .stripes * length v) ≤ len)
+  sums e = let (i, s, l) = summed x e in (i, short x, s, rw e parity-lt, l)
 
   pub folds : {at to : ℕ} → at ≡ offset (r .block) (r .stripes) (q .stripe) (q .disk) → to ≡ offset (r .block) (r .stripes) (q .stripe) p
       → (to + length v ≤ len) × (at + length v ≤ len) × Apart to (length v) at (length v)

@@ -89,6 +89,10 @@ module _ {r : Record} {len b room : ℕ} {q : Place} (x : Reached r len b room q
   pub inside : {at : ℕ} → at ≡ offset (r .block) (r .stripes) (q .stripe) (q .disk) → at + room ≤ len
   inside e = rw (e, x .whole, x .long) (place-in (r .block) (r .stripes) (q .stripe) (q .disk) (disksOf r) (x .stripe-lt) (x .disk-lt))
 
+  -- no block is longer than what a copy goes through
+  pub short : room ≤ 4096
+  short = rw (x .whole) (x .limits .block-high)
+
   pub summed : {N : ℕ} → N ≡ disksOf r → (1 ≤ room) × (q .stripe < r .stripes) × (N * (r .stripes * room) ≤ len)
   summed e = rw (e, x .whole, x .long) (x .limits .block-low, x .stripe-lt, omega arith)
 

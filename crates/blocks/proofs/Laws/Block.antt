@@ -5,8 +5,8 @@ use mathlib.Core.Logic.{_⊎_, inl, inr}
 use mathlib.Core.List.{List, [], _∷_, _++_}
 use native.Mathlib.Nat.{zero-add, suc-add}
 use native.Mathlib.Omega.{arith}
-use lib.ListN.{length, getD, set, take, drop, length-drop, replicate-append-replicate}
-use lib.Seq.{length-take-le, getD-take, getD-drop}
+use lib.ListN.{length, getD, set, take, drop, length-drop, length-replicate, replicate-append-replicate}
+use lib.Seq.{length-take-le, getD-take, getD-drop, take-take, drop-drop}
 use Rattle.blocks.specs.Block.{blockAt, store, zeros, Apart}
 
 pub length-store : (l : List ℕ) (at : ℕ) (b : List ℕ) → length (store l at b) ≡ length l
@@ -90,6 +90,17 @@ length-blockAt l at n h = length-take-le n (drop at l) (simp length-drop (omega 
 pub getD-blockAt : (l : List ℕ) (at n i : ℕ) → i < n → getD (blockAt l at n) i 0 ≡ getD l (at + i) 0
 getD-blockAt l at n i h = rw (getD-take, getD-drop)
 
+-- a part of a block is a part of the list
+drop-take : (l : List ℕ) (B at n : ℕ) → at + n ≤ B → take n (drop at (take B l)) ≡ take n (drop at l)
+drop-take l zero at zero h = refl
+drop-take l zero at (suc n) h = absurd (omega arith)
+drop-take [] (suc B) at n h = refl
+drop-take (x ∷ l) (suc B) zero n h = take-take n (suc B) (x ∷ l) (omega arith)
+drop-take (x ∷ l) (suc B) (suc at) n h = drop-take l B at n (omega arith)
+
+pub blockAt-within : (l : List ℕ) (from B at n : ℕ) → at + n ≤ B → blockAt (blockAt l from B) at n ≡ blockAt l (from + at) n
+blockAt-within l from B at n h = drop-take (drop from l) B at n h ∙ ap (take n) (drop-drop at from l)
+
 take-short : (n : ℕ) (l : List ℕ) → length (take n l) ≤ n
 take-short zero l = omega arith
 take-short (suc n) [] = omega arith
@@ -98,6 +109,10 @@ take-short (suc n) (x ∷ l) = omega (arith, take-short n l)
 -- shorter only where the list ends
 pub blockAt-short : (l : List ℕ) (at n : ℕ) → length (blockAt l at n) ≤ n
 blockAt-short l at n = take-short n (drop at l)
+
+-- the first n of k zeroes are n
+pub length-prefix : (n k : ℕ) → n ≤ k → length (take n (zeros k)) ≡ n
+length-prefix n k h = length-take-le n (zeros k) (rw (length-replicate {A = ℕ} k 0) h)
 
 -- a block of zeroes is two, one behind the other
 pub zeros-append : (a b : ℕ) → zeros (a + b) ≡ zeros a ++ zeros b

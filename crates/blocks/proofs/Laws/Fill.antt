@@ -1,22 +1,19 @@
 -- A loop that writes a block upwards, one byte a turn: before it, a turn, after it, and what is read outside of what was written. Assumes nothing.
-use Prim.Native.Nat.{ℕ, _+_, _≤_, _<_, zero-le}
+use Prim.Native.Nat.{ℕ, _+_, _-_, _≤_, _<_, zero-le}
 use mathlib.Core.Path.{_≡_, refl, sym, ap, ap₂, _∙_, subst}
 use mathlib.Core.Logic.{_⊎_, inl, inr}
-use mathlib.Core.List.{List}
+use mathlib.Core.List.{List, [], _++_, append-nil}
 use native.Mathlib.Decide.{ℕ-discrete}
 use native.Mathlib.Nat.{zero-add}
 use native.Mathlib.Numerals.{add-one}
 use native.Mathlib.Omega.{arith}
 use lib.Bits.{bitXor}
-use lib.ListN.{length, getD, set, take, length-set}
-use lib.Seq.{take-suc, take-all, length-take-le}
+use lib.ListN.{length, getD, set, take, drop, length-set, length-drop, take-append-drop, drop-of-length-le}
+use lib.Seq.{take-suc, take-add, take-all, length-take-le}
 use Rattle.blocks.specs.Block.{Apart, store, blockAt}
 use Rattle.blocks.specs.Xor.{xorB}
-use Rattle.blocks.specs.Stripe.{offset, others}
-use Rattle.blocks.proofs.Laws.Block.{store-nil, store-snoc, getD-store-other, store-whole, getD-blockAt, length-blockAt}
+use Rattle.blocks.proofs.Laws.Block.{length-store, store-nil, store-append, store-snoc, getD-store-other, blockAt-store, blockAt-other, store-whole, getD-blockAt, length-blockAt}
 use Rattle.blocks.proofs.Laws.Xor.{getD-xorB, length-xorB}
-use Rattle.blocks.proofs.Laws.Rows.{rest-ext}
-use Rattle.blocks.proofs.Laws.Stripe.{cell, byte-apart, getD-others}
 
 -- after i turns l is l₀ with the first i bytes of b, which has n, stored from `at` on
 pub record Filled (l₀ : List ℕ) (at : ℕ) (b : List ℕ) (n : ℕ) (l : List ℕ) (i : ℕ) : Type 0 where
@@ -62,11 +59,6 @@ filled-apart {l₀} {at} {from} {b} {n} {l} {i} apart lt f = filled-other f (fro
 
 -- ---- a turn of each loop: the byte that it stores is the block's
 
--- a copy within the list
-pub copied-more : {l₀ : List ℕ} {to from n : ℕ} {l : List ℕ} {i : ℕ} → Apart to n from n → i < n → Filled l₀ to (blockAt l₀ from n) n l i
-    → Filled l₀ to (blockAt l₀ from n) n (set l (to + i) (getD l (from + i) 0)) (i + 1)
-copied-more apart lt f = filled-more f lt (filled-apart apart lt f)
-
 -- a copy out of l into a whole slice
 pub copied-out-more : (l : List ℕ) (at : ℕ) {b₀ b : List ℕ} {i : ℕ} → i < length b₀ → Filled b₀ 0 (blockAt l at (length b₀)) (length b₀) b i
     → Filled b₀ 0 (blockAt l at (length b₀)) (length b₀) (set b i (getD l (at + i) 0)) (i + 1)
@@ -91,17 +83,39 @@ folded-more {l₀} {p} a d {n} {l} {i} {x} lt f e =
     ∙ ap (λ (y : ℕ). bitXor y (getD d i 0)) (sym (getD-xorB (blockAt l₀ p n) a i))
     ∙ sym (getD-xorB (xorB (blockAt l₀ p n) a) d i))
 
--- where the block is a place of stripe S, the turn of byte j finds that byte of all the stripe's places as it was
-pub others-kept : {l₀ b l : List ℕ} {at j : ℕ} (B T S N out p : ℕ) → S < T → j < B → at ≡ offset B T S p → Filled l₀ at b B l j
-    → getD (others B T l S N out) j 0 ≡ getD (others B T l₀ S N out) j 0
-others-kept {l₀} {b} {l} {at} {j} B T S N out p hs hj q f =
-    getD-others B T l S N out j hj ∙ rest-ext N out (cell B T l j S) (cell B T l₀ j S) (λ d hd ne. filled-other f (offset B T S d + j) (clear d (ℕ-discrete d p)))
-    ∙ sym (getD-others B T l₀ S N out j hj)
-  where
-    beside : (d : ℕ) → (offset B T S d + j < offset B T S p) ⊎ (offset B T S p + B ≤ offset B T S d + j) → (offset B T S d + j < at) ⊎ (at + j ≤ offset B T S d + j)
-    beside d (inl h) = inl (omega arith)
-    beside d (inr h) = inr (omega arith)
+-- ---- a turn that stores a run of n bytes
 
-    clear : (d : ℕ) → Dec (d ≡ p) → (offset B T S d + j < at) ⊎ (at + j ≤ offset B T S d + j)
-    clear d (yes e) = inr (rw (e, q) (omega arith))
-    clear d (no ne) = beside d (byte-apart B T S p S d j hs hs hj (inr ne))
+-- what it finds there is as it was
+pub run-kept : {l₀ b : List ℕ} {k : ℕ} {l : List ℕ} {i : ℕ} → Filled l₀ 0 b k l i → (n : ℕ) → blockAt l i n ≡ blockAt l₀ i n
+run-kept {l₀} {b} {k} {l} {i} f n =
+    let m : length (take i b) ≡ i = length-take-le i b (omega arith) in
+    ap (λ (r : List ℕ). blockAt r i n) (f .is) ∙ blockAt-other l₀ 0 (take i b) i n (inl (omega arith))
+
+pub run-more : {l₀ b : List ℕ} {k : ℕ} {l l′ : List ℕ} {i : ℕ} → Filled l₀ 0 b k l i → (n : ℕ) → i + n ≤ k → l′ ≡ store l i (blockAt b i n) → Filled l₀ 0 b k l′ (i + n)
+run-more {l₀} {b} {k} {l} {l′} {i} f n h e =
+    let m : 0 + length (take i b) ≡ i = rw (zero-add (length (take i b))) (length-take-le i b (omega arith)) in
+    record {
+      is =
+          e ∙ ap₂ (λ (r : List ℕ) (j : ℕ). store r j (blockAt b i n)) (f .is) (sym m)
+          ∙ sym (store-append l₀ 0 (take i b) (blockAt b i n))
+          ∙ ap (store l₀ 0) (sym (take-add i n b));
+      size = ap length e ∙ length-store l i (blockAt b i n) ∙ f .size;
+      long = f .long;
+      within = h;
+    }
+
+-- the rest behind the last run: what it is, and the whole with all of it in its place
+pub rest-kept : {l₀ b : List ℕ} {k : ℕ} {l : List ℕ} {i : ℕ} → Filled l₀ 0 b k l i → i ≤ length l → blockAt l i (length l - i) ≡ blockAt l₀ i (length (blockAt l i (length l - i)))
+rest-kept {l₀} {b} {k} {l} {i} f h = run-kept f (length l - i) ∙ ap (blockAt l₀ i) (sym (length-blockAt l i (length l - i) (omega arith)))
+
+pub rest-all : {l₀ b : List ℕ} {k : ℕ} {l : List ℕ} {i : ℕ} {r : List ℕ} → Filled l₀ 0 b k l i → length l₀ ≡ k → r ≡ blockAt b i (length (blockAt l i (length l - i)))
+    → take i l ++ (r ++ drop (length l - i) (drop i l)) ≡ b
+rest-all {l₀} {b} {k} {l} {i} {r} f e q =
+    let size : length l ≡ k = f .size ∙ e in
+    let h : i ≤ k = f .within in
+    let m : length (take i b) ≡ i = length-take-le i b (omega arith) in
+    let first : take i l ≡ take i b = ap (take i) (f .is) ∙ blockAt-store l₀ 0 (take i b) i m (omega arith) in
+    let n : length (blockAt l i (length l - i)) ≡ length l - i = length-blockAt l i (length l - i) (omega arith) in
+    let behind : drop (length l - i) (drop i l) ≡ [] = drop-of-length-le (drop i l) {i = length l - i} (rw (length-drop i l) (omega arith)) in
+    let rest : r ≡ drop i b = q ∙ take-all (length (blockAt l i (length l - i))) (drop i b) (rw (length-drop i b) (omega arith)) in
+    ap₂ (λ (x y : List ℕ). x ++ y) first (ap₂ (λ (x y : List ℕ). x ++ y) rest behind ∙ append-nil (drop i b)) ∙ take-append-drop i b

@@ -6,8 +6,8 @@ use native.Mathlib.Nat.{mod-lt, zero-lt-suc}
 use native.Mathlib.Omega.{arith}
 use lib.Arith.{bin-ind}
 use lib.Bits.{bitXor, differ, xor-step, xor-shr, xor-mod, xor-comm, xor-zero-r}
-use lib.ListN.{length, getD}
-use Rattle.blocks.specs.Block.{zeros}
+use lib.ListN.{length, getD, take, drop}
+use Rattle.blocks.specs.Block.{blockAt, zeros}
 use Rattle.blocks.specs.Xor.{xorB, xorAll, without}
 
 digit-assoc : (x y z : ℕ) → x < 2 → y < 2 → z < 2 → differ (bitXor x y) z ≡ differ x (bitXor y z)
@@ -73,6 +73,22 @@ pub getD-zeros : (n j : ℕ) → getD (zeros n) j 0 ≡ 0
 getD-zeros zero j = refl
 getD-zeros (suc n) zero = refl
 getD-zeros (suc n) (suc j) = getD-zeros n j
+
+take-xorB : (n : ℕ) (a b : List ℕ) → take n (xorB a b) ≡ xorB (take n a) (take n b)
+take-xorB zero a b = refl
+take-xorB (suc n) [] b = refl
+take-xorB (suc n) (x ∷ a) [] = refl
+take-xorB (suc n) (x ∷ a) (y ∷ b) = ap (λ (r : List ℕ). bitXor x y ∷ r) (take-xorB n a b)
+
+drop-xorB : (n : ℕ) (a b : List ℕ) → drop n (xorB a b) ≡ xorB (drop n a) (drop n b)
+drop-xorB zero a b = refl
+drop-xorB (suc n) [] b = refl
+drop-xorB (suc n) (x ∷ a) [] = sym (xorB-nil (drop n a))
+drop-xorB (suc n) (x ∷ a) (y ∷ b) = drop-xorB n a b
+
+-- a part of the xor is the xor of the parts
+pub blockAt-xorB : (a b : List ℕ) (at n : ℕ) → blockAt (xorB a b) at n ≡ xorB (blockAt a at n) (blockAt b at n)
+blockAt-xorB a b at n = ap (take n) (drop-xorB at a b) ∙ take-xorB n (drop at a) (drop at b)
 
 -- ---- lists of blocks
 

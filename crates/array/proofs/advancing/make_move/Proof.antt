@@ -43,7 +43,7 @@ move-block-requires c κs =
     let p = c .before .before in
     let k = p .before .before in
     let s = k .before .before .before .before .before in
-    rw (p .before .place-at .ensures, p .place-at2 .ensures, s .pre .2) (told k .from-in, told k .to-in, told k .apart)
+    rw (p .before .place-at .ensures, p .place-at2 .ensures, s .pre .2) (s .pre .0 .block-high, told k .from-in, told k .to-in)
 
 same-length : tie.Need-same-length
 same-length c = search needs

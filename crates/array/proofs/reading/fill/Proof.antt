@@ -3,7 +3,7 @@ use mathlib.Core.Path.{_∙_}
 use lib.ListN.{length}
 use borrow.Author.Needs.{needs}
 use Rattle.array.proofs.Calls.Asked.{told}
-use Rattle.array.proofs.Calls.Reach.{Reached, asked, reached, inside, block-out, block-in}
+use Rattle.array.proofs.Calls.Reach.{Reached, asked, reached, inside, short, block-out, block-in}
 use Rattle.array.proofs.reading.fill.Statement.{statement}
 use Rattle.array.proofs.reading.fill.Tie as tie
 
@@ -27,7 +27,7 @@ place-at-requires : tie.Need-place-at-requires
 place-at-requires c κs = let x = stands (c .before .before) in (x .limits, x .stripe-lt, x .disk-lt)
 
 copy-out-requires : tie.Need-copy-out-requires
-copy-out-requires c κs = inside (stands (c .before .before .before .before)) (c .before .place-at .ensures)
+copy-out-requires c κs = let x = stands (c .before .before .before .before) in (short x, inside x (c .before .place-at .ensures))
 
 same-length : tie.Need-same-length
 same-length c = search needs

@@ -30,7 +30,7 @@ rebuild-place-requires c κs =
     let f = c .before .before .before .loop .inv in
     let k = c .before .before .before .before .before in
     let p = k .before .before .before .pre in
-    (rw (f .whole, p .3) (p .0 .block-low), c .before .before .loop-test .taken, rw (k .disks-of .ensures) (p .1), rw (f .whole, f .long, k .disks-of .ensures, p .2, p .3) (omega arith))
+    (rw (f .whole, p .3) (p .0 .block-low), rw (f .whole, p .3) (p .0 .block-high), c .before .before .loop-test .taken, rw (k .disks-of .ensures) (p .1), rw (f .whole, f .long, k .disks-of .ensures, p .2, p .3) (omega arith))
 
 add-s : tie.Need-add-s Inv-loop μ-loop
 add-s c = omega arith

@@ -1,7 +1,7 @@
 -- `fill_disk_alone` meets its contract: any block of B bytes will do. Assumes nothing.
 use mathlib.Core.Path.{sym}
 use borrow.Author.Needs.{needs}
-use Rattle.array.proofs.Calls.Filled.{prefix}
+use Rattle.blocks.proofs.Laws.Block.{length-prefix}
 use Rattle.array.proofs.rebuilding.fill_disk_alone.Statement.{statement}
 use Rattle.array.proofs.rebuilding.fill_disk_alone.Tie as tie
 
@@ -12,12 +12,12 @@ array-borrow-prefix-block : tie.Need-array-borrow-prefix-block
 array-borrow-prefix-block c = search needs
 
 slice-aggregate-fill-disk : tie.Need-slice-aggregate-fill-disk
-slice-aggregate-fill-disk c = sym (prefix _ 4096 (c .before .before .before .before .pre .0 .block-high))
+slice-aggregate-fill-disk c = sym (length-prefix _ 4096 (c .before .before .before .before .pre .0 .block-high))
 
 fill-disk-requires : tie.Need-fill-disk-requires
 fill-disk-requires c κs =
     let p = c .before .before .before .before .pre in
-    (p .0, p .1, p .2, prefix _ 4096 (p .0 .block-high))
+    (p .0, p .1, p .2, length-prefix _ 4096 (p .0 .block-high))
 
 same-length : tie.Need-same-length
 same-length c = search needs

@@ -9,7 +9,7 @@ use Rattle.state.proofs.Laws.Tests.{went-on, returned}
 use Rattle.array.specs.Images.{stored}
 use Rattle.array.specs.Effect.{writeStores}
 use Rattle.array.proofs.Calls.Asked.{told}
-use Rattle.array.proofs.Calls.Reach.{as-write, Reached, asked, reached, inside, parity-asked}
+use Rattle.array.proofs.Calls.Reach.{as-write, Reached, asked, reached, inside, short, parity-asked}
 use Rattle.array.proofs.Calls.Put.{Aimed, aimed, parity-lt, sums, folds, data-out, both-in, parity-out}
 use Rattle.array.proofs.writing.put.Statement.{statement}
 use Rattle.array.proofs.writing.put.Tie as tie
@@ -89,8 +89,9 @@ copy-in-requires : tie.Need-copy-in-requires
 copy-in-requires c κs =
     let c1 = c .before .before .before in
     let l = lays (c .before) .0 in
-    let i = inside (aims (c1 .before .before .before) .reach) (c1 .place-at .ensures) in
-    omega arith
+    let x = aims (c1 .before .before .before) .reach in
+    let i = inside x (c1 .place-at .ensures) in
+    (short x, omega arith)
 
 same-length-2 : tie.Need-same-length-2
 same-length-2 c = let l = lays (c .before .before .before .before) .0 in search needs

@@ -1,57 +1,46 @@
--- `copy_in` meets its contract. The loop writes `bytes`. Assumes nothing.
+-- `copy_in` meets its contract: as many bytes of its own as are lent. Assumes nothing.
+use Prim.Native.Nat.{ℕ, _+_, _≤_}
+use mathlib.Core.Path.{sym, ap, _∙_, subst}
 use native.Mathlib.Omega.{arith}
-use Prim.Native.Nat.{_-_}
-use mathlib.Core.Path.{refl}
+use borrow.Author.Needs.{needs}
 use lib.ListN.{length}
-use Rattle.blocks.proofs.Laws.Fill.{Filled, filled-none, filled-more, filled-all}
+use lib.Seq.{take-length}
+use Rattle.blocks.specs.Block.{blockAt, store}
+use Rattle.blocks.proofs.Laws.Block.{length-prefix}
 use Rattle.blocks.proofs.copy.copy_in.Statement.{statement}
 use Rattle.blocks.proofs.copy.copy_in.Tie as tie
 
-abbrev Inv-loop : tie.InvT-loop
-Inv-loop images₀ at bytes i₀ images i = Filled images₀ at bytes (length bytes) images i
+array-borrow-prefix-own : tie.Need-array-borrow-prefix-own
+array-borrow-prefix-own c = search needs
 
-abbrev μ-loop : tie.MeasureT-loop
-μ-loop images₀ at bytes i₀ images i = length bytes - i
+slice-aggregate-copy-through : tie.Need-slice-aggregate-copy-through
+slice-aggregate-copy-through c = sym (length-prefix _ 4096 (c .before .before .before .before .pre .0))
 
-loop-holds : tie.Need-loop-holds Inv-loop μ-loop
-loop-holds c = filled-none refl
+copy-through-requires : tie.Need-copy-through-requires
+copy-through-requires c κs =
+    let st = c .before .before .before .before in
+    let bytes = st .args .bytes .now in
+    let images = st .args .images .now in
+    let whole = sym (length-prefix (length bytes) 4096 (st .pre .0)) in
+    (subst (λ (n : ℕ). 0 + n ≤ length bytes) whole (omega arith), subst (λ (n : ℕ). st .args .at + n ≤ length images) whole (st .pre .1))
 
-shared-slice-read-images : tie.Need-shared-slice-read-images Inv-loop μ-loop
-shared-slice-read-images c = omega arith
+same-length : tie.Need-same-length
+same-length c = search needs
 
-add-images : tie.Need-add-images Inv-loop μ-loop
-add-images c = omega arith
-
-slice-write-images : tie.Need-slice-write-images Inv-loop μ-loop
-slice-write-images c = omega arith
-
-add-i : tie.Need-add-i Inv-loop μ-loop
-add-i c = omega arith
-
-loop-less : tie.Need-loop-less Inv-loop μ-loop
-loop-less c = omega arith
-
-loop-again : tie.Need-loop-again Inv-loop μ-loop
-loop-again c = filled-more (c .before .before .loop .inv) (c .before .loop-test .taken) refl
-
-same-length : tie.Need-same-length Inv-loop μ-loop
-same-length c = c .before .loop .inv .size
-
-returns : tie.Need-returns Inv-loop μ-loop
-returns c = filled-all (c .before .loop .inv) (c .loop-test .left)
+returns : tie.Need-returns
+returns c =
+    let st = c .before .before .before .before .before .before .before .before in
+    let bytes = st .args .bytes .now in
+    c .before .before .before .copy-through .ensures
+    ∙ ap (λ (n : ℕ). store (st .args .images .now) (st .args .at) (blockAt bytes 0 n)) (length-prefix (length bytes) 4096 (st .pre .0))
+    ∙ ap (store (st .args .images .now) (st .args .at)) (take-length bytes)
 
 pub copy-in-spec : {M : Type 1} → statement M
 copy-in-spec =
     tie.close
     (tie.spec
-    Inv-loop
-    μ-loop
-    loop-holds
-    shared-slice-read-images
-    add-images
-    slice-write-images
-    add-i
-    loop-less
-    loop-again
+    array-borrow-prefix-own
+    slice-aggregate-copy-through
+    copy-through-requires
     same-length
     returns)

@@ -1,59 +1,46 @@
--- `copy_out` meets its contract. The loop writes the whole of `block`. Assumes nothing.
+-- `copy_out` meets its contract: as many bytes of its own as are lent. Assumes nothing.
+use Prim.Native.Nat.{ℕ, _+_, _≤_}
+use mathlib.Core.Path.{sym, ap, _∙_, subst}
 use native.Mathlib.Omega.{arith}
-use Prim.Native.Nat.{_-_}
-use mathlib.Core.Path.{refl}
+use borrow.Author.Needs.{needs}
 use lib.ListN.{length}
-use Rattle.blocks.specs.Block.{blockAt}
-use Rattle.blocks.proofs.Laws.Block.{length-blockAt}
-use Rattle.blocks.proofs.Laws.Fill.{Filled, filled-none, copied-out-more, filled-all₀}
+use Rattle.blocks.specs.Block.{blockAt, store}
+use Rattle.blocks.proofs.Laws.Block.{length-prefix, length-blockAt, store-whole}
 use Rattle.blocks.proofs.copy.copy_out.Statement.{statement}
 use Rattle.blocks.proofs.copy.copy_out.Tie as tie
 
-abbrev Inv-loop : tie.InvT-loop
-Inv-loop images at block₀ i₀ block i = Filled block₀ 0 (blockAt images at (length block₀)) (length block₀) block i
+array-borrow-prefix-own : tie.Need-array-borrow-prefix-own
+array-borrow-prefix-own c = search needs
 
-abbrev μ-loop : tie.MeasureT-loop
-μ-loop images at block₀ i₀ block i = length block₀ - i
+slice-aggregate-copy-through : tie.Need-slice-aggregate-copy-through
+slice-aggregate-copy-through c = sym (length-prefix _ 4096 (c .before .before .before .before .pre .0))
 
-loop-holds : tie.Need-loop-holds Inv-loop μ-loop
-loop-holds c = filled-none (length-blockAt (c .args .images .now) (c .args .at) _ (c .pre))
+copy-through-requires : tie.Need-copy-through-requires
+copy-through-requires c κs =
+    let st = c .before .before .before .before in
+    let block = st .args .block .now in
+    let images = st .args .images .now in
+    let whole = sym (length-prefix (length block) 4096 (st .pre .0)) in
+    (subst (λ (n : ℕ). st .args .at + n ≤ length images) whole (st .pre .1), subst (λ (n : ℕ). 0 + n ≤ length block) whole (omega arith))
 
-add-block : tie.Need-add-block Inv-loop μ-loop
-add-block c = omega arith
+same-length : tie.Need-same-length
+same-length c = search needs
 
-shared-slice-read-block : tie.Need-shared-slice-read-block Inv-loop μ-loop
-shared-slice-read-block c = omega arith
-
-slice-write-block : tie.Need-slice-write-block Inv-loop μ-loop
-slice-write-block c = omega arith
-
-add-i : tie.Need-add-i Inv-loop μ-loop
-add-i c = omega arith
-
-loop-less : tie.Need-loop-less Inv-loop μ-loop
-loop-less c = omega arith
-
-loop-again : tie.Need-loop-again Inv-loop μ-loop
-loop-again c = copied-out-more (c .before .before .before .args .images .now) (c .before .before .before .args .at) (omega arith) (c .before .before .loop .inv)
-
-same-length : tie.Need-same-length Inv-loop μ-loop
-same-length c = c .before .loop .inv .size
-
-returns : tie.Need-returns Inv-loop μ-loop
-returns c = filled-all₀ (c .before .loop .inv) (omega arith) refl
+returns : tie.Need-returns
+returns c =
+    let st = c .before .before .before .before .before .before .before .before in
+    let block = st .args .block .now in
+    let images = st .args .images .now in
+    c .before .before .before .copy-through .ensures
+    ∙ ap (λ (n : ℕ). store block 0 (blockAt images (st .args .at) n)) (length-prefix (length block) 4096 (st .pre .0))
+    ∙ store-whole block (blockAt images (st .args .at) (length block)) (length-blockAt images (st .args .at) (length block) (st .pre .1))
 
 pub copy-out-spec : {M : Type 1} → statement M
 copy-out-spec =
     tie.close
     (tie.spec
-    Inv-loop
-    μ-loop
-    loop-holds
-    add-block
-    shared-slice-read-block
-    slice-write-block
-    add-i
-    loop-less
-    loop-again
+    array-borrow-prefix-own
+    slice-aggregate-copy-through
+    copy-through-requires
     same-length
     returns)

@@ -1,61 +1,42 @@
--- `copy_within` meets its contract. The loop writes the block that was at `from`. Assumes nothing.
-use native.Mathlib.Omega.{arith}
-use Prim.Native.Nat.{_-_}
-use Rattle.blocks.specs.Block.{blockAt}
-use Rattle.blocks.proofs.Laws.Block.{length-blockAt}
-use Rattle.blocks.proofs.Laws.Fill.{Filled, filled-none, copied-more, filled-all}
+-- `copy_within` meets its contract: as many bytes of its own as are copied. Assumes nothing.
+use Prim.Native.Nat.{ℕ, _+_, _≤_}
+use mathlib.Core.Path.{sym, ap, _∙_, subst}
+use borrow.Author.Needs.{needs}
+use lib.ListN.{length}
+use Rattle.blocks.specs.Block.{blockAt, store}
+use Rattle.blocks.proofs.Laws.Block.{length-prefix}
 use Rattle.blocks.proofs.copy.copy_within.Statement.{statement}
 use Rattle.blocks.proofs.copy.copy_within.Tie as tie
 
-abbrev Inv-loop : tie.InvT-loop
-Inv-loop images₀ from to len i₀ images i = Filled images₀ to (blockAt images₀ from len) len images i
+array-borrow-prefix-own : tie.Need-array-borrow-prefix-own
+array-borrow-prefix-own c = search needs
 
-abbrev μ-loop : tie.MeasureT-loop
-μ-loop images₀ from to len i₀ images i = len - i
+slice-aggregate-copy-within-through : tie.Need-slice-aggregate-copy-within-through
+slice-aggregate-copy-within-through c = sym (length-prefix _ 4096 (c .before .before .before .pre .0))
 
-loop-holds : tie.Need-loop-holds Inv-loop μ-loop
-loop-holds c = filled-none (length-blockAt (c .args .images .now) (c .args .from) (c .args .len) (c .pre .0))
+copy-within-through-requires : tie.Need-copy-within-through-requires
+copy-within-through-requires c κs =
+    let st = c .before .before .before in
+    let images = st .args .images .now in
+    let whole = sym (length-prefix (st .args .len) 4096 (st .pre .0)) in
+    (subst (λ (n : ℕ). st .args .from + n ≤ length images) whole (st .pre .1), subst (λ (n : ℕ). st .args .to + n ≤ length images) whole (st .pre .2))
 
-add-images : tie.Need-add-images Inv-loop μ-loop
-add-images c = omega arith
+same-length : tie.Need-same-length
+same-length c = search needs
 
-slice-read-images : tie.Need-slice-read-images Inv-loop μ-loop
-slice-read-images c = omega arith
-
-add-images-2 : tie.Need-add-images-2 Inv-loop μ-loop
-add-images-2 c = omega arith
-
-slice-write-images : tie.Need-slice-write-images Inv-loop μ-loop
-slice-write-images c = omega arith
-
-add-i : tie.Need-add-i Inv-loop μ-loop
-add-i c = omega arith
-
-loop-less : tie.Need-loop-less Inv-loop μ-loop
-loop-less c = omega arith
-
-loop-again : tie.Need-loop-again Inv-loop μ-loop
-loop-again c = copied-more (c .before .before .before .pre .2) (c .before .loop-test .taken) (c .before .before .loop .inv)
-
-same-length : tie.Need-same-length Inv-loop μ-loop
-same-length c = c .before .loop .inv .size
-
-returns : tie.Need-returns Inv-loop μ-loop
-returns c = filled-all (c .before .loop .inv) (c .loop-test .left)
+returns : tie.Need-returns
+returns c =
+    let st = c .before .before .before .before .before .before .before in
+    let images = st .args .images .now in
+    c .before .before .before .copy-within-through .ensures
+    ∙ ap (λ (n : ℕ). store images (st .args .to) (blockAt images (st .args .from) n)) (length-prefix (st .args .len) 4096 (st .pre .0))
 
 pub copy-within-spec : {M : Type 1} → statement M
 copy-within-spec =
     tie.close
     (tie.spec
-    Inv-loop
-    μ-loop
-    loop-holds
-    add-images
-    slice-read-images
-    add-images-2
-    slice-write-images
-    add-i
-    loop-less
-    loop-again
+    array-borrow-prefix-own
+    slice-aggregate-copy-within-through
+    copy-within-through-requires
     same-length
     returns)

@@ -10,7 +10,7 @@ use Rattle.blocks.proofs.stripe.rebuild_place.Tie as tie
 
 -- where the place of disk `out` ends
 ends : (c : tie.Start) → offset (length (c .args .block .now)) (c .args .stripes) (c .args .s) (c .args .out) + length (c .args .block .now) ≤ c .args .disks * (c .args .stripes * length (c .args .block .now))
-ends c = place-in _ _ _ _ (c .args .disks) (c .pre .1) (c .pre .2)
+ends c = place-in _ _ _ _ (c .args .disks) (c .pre .2) (c .pre .3)
 
 offset-of-requires : tie.Need-offset-of-requires
 offset-of-requires c κs = omega (arith, ends (c .before .before))

@@ -1,12 +1,11 @@
 -- `xor_others` meets its contract. The loop has xored in the places of the first d disks but `out`. Assumes nothing.
+use native.Mathlib.Nat.{mul-le-mul-right}
 use native.Mathlib.Omega.{arith}
-use Prim.Native.Nat.{_-_, _+_, _*_, _≤_}
-use mathlib.Core.Path.{ap, _∙_}
-use mathlib.Core.Logic.{⊎-elim}
+use Prim.Native.Nat.{ℕ, _-_, _*_}
+use mathlib.Core.Path.{_≡_, sym, ap, _∙_}
 use lib.ListN.{length}
-use Rattle.blocks.specs.Stripe.{offset}
-use Rattle.blocks.proofs.Laws.Stripe.{place-in}
-use Rattle.blocks.proofs.Laws.Summed.{Summed, summed-none, summed-in, summed-out, summed-all}
+use Rattle.blocks.specs.Stripe.{others}
+use Rattle.blocks.proofs.Laws.Summed.{Summed, summed-none, summed-more, summed-all}
 use Rattle.blocks.proofs.stripe.xor_others.Statement.{statement}
 use Rattle.blocks.proofs.stripe.xor_others.Tie as tie
 
@@ -16,40 +15,34 @@ Inv-loop images disks stripes s out block₀ len d₀ block d = Summed images di
 abbrev μ-loop : tie.MeasureT-loop
 μ-loop images disks stripes s out block₀ len d₀ block d = disks - d
 
-abbrev start : tie.After-zero-block-arg Inv-loop μ-loop → tie.Start Inv-loop μ-loop
-start c = c .before .before .before
-
--- where the place of disk d ends
-ends : (c : tie.In-loop Inv-loop μ-loop) →
-    let a = start (c .before .before .before .before .before) .args in
-    offset (length (a .block .now)) (a .stripes) (a .s) (c .before .loop .d) + length (a .block .now) ≤ a .disks * (a .stripes * length (a .block .now))
-ends c =
-    let st = start (c .before .before .before .before .before) in
-    place-in _ _ _ _ (st .args .disks) (st .pre .1) (c .loop-test .taken)
-
 zero-block-requires : tie.Need-zero-block-requires Inv-loop μ-loop
 zero-block-requires c κs = omega arith
 
 loop-holds : tie.Need-loop-holds Inv-loop μ-loop
-loop-holds c = summed-none (start (c .before .before .before) .args .block .now) (c .before .before .zero-block .ensures)
+loop-holds c = summed-none (c .before .before .before .before .before .before .args .block .now) (c .before .before .zero-block .ensures)
 
-offset-of-requires : tie.Need-offset-of-requires Inv-loop μ-loop
-offset-of-requires c κs = omega (arith, ends (c .before))
+group-end-requires : tie.Need-group-end-requires Inv-loop μ-loop
+group-end-requires c κs = c .loop-test .taken
 
-xor-out-requires : tie.Need-xor-out-requires Inv-loop μ-loop
-xor-out-requires c κs = omega (arith, ends (c .before .before .before))
-
-add-d : tie.Need-add-d Inv-loop μ-loop
-add-d c = omega arith
+add-group-requires : tie.Need-add-group-requires Inv-loop μ-loop
+add-group-requires c κs =
+    let st = c .before .before .before .before .before .before .before .before .before .before in
+    let a = st .args in
+    let l = c .before .before .before .loop in
+    let e = c .before .group-end in
+    let size : length (l .block) ≡ length (a .block .now) = l .inv .size in (
+      omega arith,
+      st .pre .1,
+      omega arith,
+      rw size (omega (arith, mul-le-mul-right (a .stripes * length (a .block .now)) (e .ensures .1))),
+      l .inv .is ∙ ap (λ (n : ℕ). others n (a .stripes) (a .images .now) (a .s) (l .d) (a .out)) (sym size),
+    )
 
 loop-less : tie.Need-loop-less Inv-loop μ-loop
 loop-less c = omega arith
 
 loop-again : tie.Need-loop-again Inv-loop μ-loop
-loop-again c =
-    let lt = c .before .loop-test .taken in
-    let inv = c .before .before .loop .inv in
-    ⊎-elim (λ w. summed-in lt (w .0 .taken) (w .1 .ensures) inv (w .6 ∙ w .3 .ensures) (ap length (w .6) ∙ w .3 .kept .1 .1 .0)) (λ w. summed-out lt (w .0 .left) inv (w .1)) (c .if1 .came)
+loop-again c = summed-more (c .before .before .before .before .before .before .loop .inv) (c .before .before .before .before .group-end .ensures .1) (c .before .before .add-group .ensures)
 
 same-length : tie.Need-same-length Inv-loop μ-loop
 same-length c = c .before .loop .inv .size
@@ -65,9 +58,8 @@ xor-others-spec =
     μ-loop
     zero-block-requires
     loop-holds
-    offset-of-requires
-    xor-out-requires
-    add-d
+    group-end-requires
+    add-group-requires
     loop-less
     loop-again
     same-length
