@@ -94,6 +94,25 @@ enum {
     PBM_DISK = 10
 };
 
+/* The word of a number that a call returned, for messages: "done", or the word under REFUSALS. */
+static inline const char *pbm_word(uint8_t number)
+{
+    switch (number) {
+    case PBM_DONE: return "done";
+    case PBM_RECORD: return "record";
+    case PBM_LOST: return "lost";
+    case PBM_DEGRADED: return "degraded";
+    case PBM_GROWN: return "grown";
+    case PBM_NOTHING_TO_MOVE: return "nothing to move";
+    case PBM_GEOMETRY: return "geometry";
+    case PBM_IMAGES: return "images";
+    case PBM_PAST_THE_END: return "past the end";
+    case PBM_BLOCK_LENGTH: return "block length";
+    case PBM_DISK: return "disk";
+    default: return "no such number";
+    }
+}
+
 /* Health, as pbm_status tells it. */
 enum { PBM_HEALTH_WHOLE = 0, PBM_HEALTH_OUT = 1, PBM_HEALTH_LOST = 2 };
 

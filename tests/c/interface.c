@@ -1,4 +1,4 @@
-/* Every call of pbm.h from C: n = 3, m = 2, T = 15, B = 4. Prints what each returns and leaves; tests/c_interface.rs has the values. */
+/* Every call and every word of pbm.h from C: n = 3, m = 2, T = 15, B = 4. Prints what each returns and leaves; tests/c_interface.rs has the values. */
 #include "pbm.h"
 
 #include <stdio.h>
@@ -110,11 +110,19 @@ static void grow(void)
     show_status();
 }
 
+static void show_words(void)
+{
+    int number;
+    for (number = PBM_DONE; number <= PBM_DISK + 1; number++) printf("word %d: %s\n", number, pbm_word((uint8_t)number));
+    printf("word 255: %s\n", pbm_word(255));
+}
+
 int main(void)
 {
     record = take(PBM_RECORD_LEN);
     block = take(BLOCK);
 
+    show_words();
     format();
     show_place(5);
     show_write(4, "four");

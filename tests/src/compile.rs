@@ -1,12 +1,12 @@
-//! Compiles C test programs with the library, and runs tools over what was built.
+//! Compiles C programs with the library, and runs tools over what was built.
 
 use crate::program::target;
 use std::fs;
-use std::path::{Path, PathBuf};
+use std::path::PathBuf;
 use std::process::{Command, Output};
 
-fn tests() -> &'static Path {
-    Path::new(env!("CARGO_MANIFEST_DIR"))
+fn root() -> PathBuf {
+    target().join("..")
 }
 
 /// The archive that `rt staticlib pbm` writes.
@@ -14,8 +14,8 @@ pub fn archive() -> PathBuf {
     target().join("staticlib/libpbm.a")
 }
 
-/// Compiles tests/c/interface.c by this command to target/c/`name`, without a warning, and links the library.
-pub fn interface(name: &str, compiler: &[&str]) -> PathBuf {
+/// Compiles these sources by this command to target/c/`name`, without a warning, and links the library.
+pub fn program(name: &str, compiler: &[&str], sources: &[&str]) -> PathBuf {
     let folder = target().join("c");
     fs::create_dir_all(&folder).unwrap();
     let program = folder.join(name);
@@ -23,8 +23,8 @@ pub fn interface(name: &str, compiler: &[&str]) -> PathBuf {
     command
         .args(&compiler[1..])
         .args(["-Wall", "-Wextra", "-Wpedantic", "-Werror", "-g", "-I"])
-        .arg(tests().join("../include"))
-        .arg(tests().join("c/interface.c"))
+        .arg(root().join("include"))
+        .args(sources.iter().map(|source| root().join(source)))
         // the archive is no source, whatever language the compiler was told
         .args(["-x", "none"])
         .arg(archive())
@@ -33,6 +33,11 @@ pub fn interface(name: &str, compiler: &[&str]) -> PathBuf {
     let output = run(&mut command);
     assert!(output.stderr.is_empty(), "{}", text(&output.stderr));
     program
+}
+
+/// tests/c/interface.c, compiled by this command.
+pub fn interface(name: &str, compiler: &[&str]) -> PathBuf {
+    program(name, compiler, &["tests/c/interface.c"])
 }
 
 /// Runs a command that must succeed.

@@ -1,11 +1,26 @@
 //! The header and the archive as a C and a C++ program meet them.
 
+use std::fs;
 use std::process::Command;
 use yuzkamide_tests::compile::{archive, interface, run, text};
 use yuzkamide_tests::pbm::NAMES;
+use yuzkamide_tests::program::target;
 
 /// What tests/c/interface.c prints.
 const PRINTED: &str = "\
+word 0: done
+word 1: record
+word 2: lost
+word 3: degraded
+word 4: grown
+word 5: nothing to move
+word 6: geometry
+word 7: images
+word 8: past the end
+word 9: block length
+word 10: disk
+word 11: no such number
+word 255: no such number
 format n = 2: 6
 format: 0
 record 3 0 0 0 4 0 0 0 15 0 0 0 0 0 0 0
@@ -69,6 +84,23 @@ fn from_c() {
 #[test]
 fn from_c_plus_plus() {
     prints("interface-c++", &["g++", "-std=c++11", "-x", "c++"]);
+}
+
+/// The words of `pbm_word`, as printed, are those of the table in the header's comment.
+#[test]
+fn the_words_are_those_of_the_headers_table() {
+    let header = fs::read_to_string(target().join("../include/pbm.h")).unwrap();
+    let (_, table) = header.split_once(" * REFUSALS\n").unwrap();
+    let (table, _) = table.split_once(" */\n").unwrap();
+    // a row is its number, its word and its conditions, each two spaces or more from the next
+    let rows: Vec<String> = table
+        .lines()
+        .filter_map(|line| line.strip_prefix(" *   ")?.trim_start().split_once("  "))
+        .filter_map(|(number, rest)| Some((number.parse::<u8>().ok()?, rest)))
+        .map(|(number, rest)| format!("word {number}: {}\n", rest.split("  ").next().unwrap()))
+        .collect();
+    assert_eq!(rows.len(), 10);
+    assert!(PRINTED.contains(&rows.concat()), "{rows:?}");
 }
 
 #[test]

@@ -1,5 +1,5 @@
-//! docs/READING.md names only what is there: every path, crate and must-fail edit, and every definition, theorem, field and
-//! function that it sets in backquotes.
+//! docs/READING.md and docs/TRUST.md name only what is there: every path, crate and must-fail edit, and every definition, theorem,
+//! field and function that they set in backquotes.
 
 use std::collections::HashSet;
 use std::fs;
@@ -10,15 +10,18 @@ fn root() -> PathBuf {
     target().join("..")
 }
 
-/// Every word of the sources below a folder: what stands between blanks, brackets, commas, semicolons, colons and dots.
+/// Every word of the sources below a folder: what stands between blanks, brackets, commas, semicolons, colons, dots and stars.
 fn words(folder: &Path, found: &mut HashSet<String>) {
     for entry in fs::read_dir(folder).unwrap() {
         let path = entry.unwrap().path();
         if path.is_dir() {
             words(&path, found);
-        } else if path.extension().is_some_and(|e| e == "rt" || e == "antt") {
+        } else if path
+            .extension()
+            .is_some_and(|e| e == "rt" || e == "antt" || e == "h")
+        {
             let text = fs::read_to_string(&path).unwrap();
-            let breaks = |c: char| c.is_whitespace() || "(){}[];,.:⌜⌝".contains(c);
+            let breaks = |c: char| c.is_whitespace() || "(){}[];,.:*⌜⌝".contains(c);
             found.extend(text.split(breaks).map(str::to_string));
         }
     }
@@ -56,10 +59,15 @@ fn exists(name: &str, words: &HashSet<String>) -> bool {
 fn names_only_what_is_there() {
     let mut sources = HashSet::new();
     words(&root().join("crates"), &mut sources);
-    let text = fs::read_to_string(root().join("docs/READING.md")).unwrap();
-    let names = quoted(&text);
-    assert!(names.len() > 200, "the search finds the names");
+    words(&root().join("include"), &mut sources);
     assert!(!exists("noSuchDefinition", &sources));
-    let missing: Vec<_> = names.iter().filter(|n| !exists(n, &sources)).collect();
-    assert!(missing.is_empty(), "not in the sources: {missing:?}");
+    for (document, least) in [("docs/READING.md", 200), ("docs/TRUST.md", 30)] {
+        let names = quoted(&fs::read_to_string(root().join(document)).unwrap());
+        assert!(names.len() > least, "the search finds the names");
+        let missing: Vec<_> = names.iter().filter(|n| !exists(n, &sources)).collect();
+        assert!(
+            missing.is_empty(),
+            "{document}: not in the sources: {missing:?}"
+        );
+    }
 }

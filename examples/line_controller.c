@@ -1,0 +1,248 @@
+/*
+ * line_controller.c - a sawmill line on an array that grows while the line runs.
+ *
+ * The scanner writes each log's cutting solution to a numbered block, the saw reads it. Meanwhile three disks are added
+ * to five; in the middle of that growth a disk is lost, and rebuilt later. Each block that the saw reads is compared
+ * with what the scanner last wrote to it, which this program keeps in a plain array of its own.
+ *
+ *     line_controller [seed]
+ *
+ * Ends with status 0; with 1 at the first block that differs, and at the first call that is not answered as it must be.
+ */
+#include "pbm.h"
+
+#include <inttypes.h>
+#include <stdio.h>
+#include <stdlib.h>
+#include <string.h>
+
+enum {
+    OLD = 5, NEW = 3, /* disks */
+    BLOCK = 4096,
+    STRIPES = 400, /* a multiple of OLD * (OLD + NEW), else the array could not grow by NEW disks */
+    DISK = STRIPES * BLOCK,
+    BLOCKS_BEFORE = STRIPES * (OLD - 1),
+    BLOCKS_AFTER = STRIPES * (OLD + NEW - 1),
+    MOVES = STRIPES * OLD * NEW / (OLD + NEW)
+};
+
+/* What the library is lent: the record, and the images of all disks one behind the other. */
+static uint8_t record[PBM_RECORD_LEN];
+static uint8_t *images;
+static size_t images_len;
+
+/* What each block was last given: zeroes at first. */
+static uint8_t given[BLOCKS_AFTER][BLOCK];
+
+static struct { uint64_t writes, degraded_writes, reads, degraded_reads, moves, refusals; } count;
+
+/* ---- random numbers: the same seed gives the same run */
+
+static uint64_t state;
+static uint64_t below(uint64_t limit)
+{
+    state = state * 6364136223846793005u + 1442695040888963407u;
+    return (state >> 33) % limit;
+}
+
+/* ---- what every call is held to */
+
+/* A call that the line counts on. */
+static void must(const char *call, uint8_t number)
+{
+    if (number == PBM_DONE) return;
+    fprintf(stderr, "line_controller: %s is refused: %u %s\n", call, number, pbm_word(number));
+    exit(1);
+}
+
+/* A call that has to be refused, with this number. */
+static void must_refuse(const char *call, uint8_t number, uint8_t wanted)
+{
+    if (number != wanted) {
+        fprintf(stderr, "line_controller: %s gives: %u %s; it must give: %u %s\n", call, number, pbm_word(number),
+                wanted, pbm_word(wanted));
+        exit(1);
+    }
+    printf("    %s is refused: %u %s\n", call, number, pbm_word(number));
+    count.refusals++;
+}
+
+static void must_be(const char *what, uint64_t is, uint64_t wanted)
+{
+    if (is == wanted) return;
+    fprintf(stderr, "line_controller: %s: %" PRIu64 "; it must be %" PRIu64 "\n", what, is, wanted);
+    exit(1);
+}
+
+/* ---- the array */
+
+struct status { uint64_t capacity, moves, total, health, out_disk; };
+
+static struct status status(void)
+{
+    struct status s;
+    must("status", pbm_status(record, sizeof record, &s.capacity, &s.moves, &s.total, &s.health, &s.out_disk));
+    return s;
+}
+
+static int is_on_lost_disk(uint64_t block)
+{
+    struct status now = status();
+    uint64_t stripe, disk;
+    must("locate", pbm_locate(record, sizeof record, block, &stripe, &disk));
+    return now.health == PBM_HEALTH_OUT && now.out_disk == disk;
+}
+
+/* Makes room for so many disks. What the new ones hold is of no matter: here, 0x5A in every byte. */
+static void mount(size_t disks)
+{
+    size_t len = disks * DISK;
+    images = realloc(images, len);
+    if (images == NULL) {
+        fprintf(stderr, "line_controller: no memory for %zu disks\n", disks);
+        exit(1);
+    }
+    memset(images + images_len, 0x5A, len - images_len);
+    images_len = len;
+}
+
+/* ---- the line: scanner and saw take turns */
+
+static void scanner_writes(uint64_t block)
+{
+    uint8_t *solution = given[block];
+    for (size_t i = 0; i < BLOCK; i++) solution[i] = (uint8_t)below(256);
+    must("write", pbm_write(record, sizeof record, images, images_len, block, solution, BLOCK));
+    count.writes++;
+    if (is_on_lost_disk(block)) count.degraded_writes++;
+}
+
+static void saw_reads(uint64_t block)
+{
+    uint8_t solution[BLOCK];
+    must("read", pbm_read(record, sizeof record, images, images_len, block, solution, BLOCK));
+    if (memcmp(solution, given[block], BLOCK) != 0) {
+        fprintf(stderr, "line_controller: block %" PRIu64 " is not what was last written, after %" PRIu64 " moves\n",
+                block, count.moves);
+        exit(1);
+    }
+    count.reads++;
+    if (is_on_lost_disk(block)) count.degraded_reads++;
+}
+
+static void saw_reads_all(void)
+{
+    uint64_t capacity = status().capacity;
+    for (uint64_t block = 0; block < capacity; block++) saw_reads(block);
+    printf("    all %" PRIu64 " blocks are as last written\n", capacity);
+}
+
+/* So many logs: each one's solution goes to some block; the saw reads that block, and some other. */
+static void logs_pass(int logs)
+{
+    uint64_t capacity = status().capacity;
+    for (; logs > 0; logs--) {
+        uint64_t block = below(capacity);
+        scanner_writes(block);
+        saw_reads(block);
+        saw_reads(below(capacity));
+    }
+}
+
+/* ---- what happens to the array meanwhile */
+
+static void grow(void)
+{
+    uint8_t block[BLOCK];
+    mount(OLD + NEW);
+    must("grow", pbm_grow(record, sizeof record, images, images_len, NEW));
+    must_be("moves to make", status().total, MOVES);
+    printf("%d disks are added: %d moves to make\n", NEW, MOVES);
+    /* by a controller that has started anew, and takes the array for the old one, or the growth for done */
+    must_refuse("a read with the old disks alone",
+                pbm_read(record, sizeof record, images, OLD * DISK, 0, block, BLOCK), PBM_IMAGES);
+    must_refuse("a read of the first new block",
+                pbm_read(record, sizeof record, images, images_len, BLOCKS_BEFORE, block, BLOCK), PBM_PAST_THE_END);
+}
+
+/* One to three moves, a log, and so on, until so many moves are made. */
+static void move_until(uint64_t moves)
+{
+    while (count.moves < moves) {
+        uint64_t left = moves - count.moves, k = 1 + below(3), made;
+        must("advance", pbm_advance(record, sizeof record, images, images_len, k < left ? k : left, &made));
+        count.moves += made;
+        must_be("moves done", status().moves, count.moves);
+        logs_pass(1);
+    }
+    printf("    %" PRIu64 " of %d moves, %" PRIu64 " logs so far\n", count.moves, MOVES, count.writes);
+}
+
+static void advance_is_refused(uint8_t wanted)
+{
+    uint64_t made;
+    must_refuse("advance", pbm_advance(record, sizeof record, images, images_len, 1, &made), wanted);
+    must_be("moves of a refused advance", made, 0);
+}
+
+/* What a lost disk holds is of no matter: here, 0xEE in every byte. */
+static void lose(uint64_t disk)
+{
+    must("out", pbm_out(record, sizeof record, disk));
+    memset(images + disk * DISK, 0xEE, DISK);
+    printf("disk %" PRIu64 " is lost\n", disk);
+}
+
+static void rebuild(uint64_t disk)
+{
+    must("rebuild", pbm_rebuild(record, sizeof record, images, images_len, disk));
+    must_be("health", status().health, PBM_HEALTH_WHOLE);
+    printf("disk %" PRIu64 " is rebuilt\n", disk);
+}
+
+int main(int argc, char **argv)
+{
+    char *end = "";
+    state = argc == 2 ? strtoull(argv[1], &end, 10) : 1;
+    if (argc > 2 || *end != '\0') {
+        fprintf(stderr, "usage: line_controller [seed]\n");
+        return 1;
+    }
+    printf("seed %" PRIu64 "\n", state);
+
+    mount(OLD);
+    must("format", pbm_format(record, sizeof record, images, images_len, OLD, BLOCK, STRIPES));
+    printf("%d disks are formatted: %d blocks of %d bytes\n", OLD, BLOCKS_BEFORE, BLOCK);
+    logs_pass(2000);
+    saw_reads_all();
+
+    grow();
+    move_until(200);
+    move_until(400);
+
+    lose(2);
+    advance_is_refused(PBM_DEGRADED);
+    logs_pass(1000);
+    saw_reads_all();
+    rebuild(2);
+
+    move_until(600);
+    move_until(MOVES);
+    advance_is_refused(PBM_NOTHING_TO_MOVE);
+    must_be("capacity", status().capacity, BLOCKS_AFTER);
+    printf("the growth is over: %d blocks\n", BLOCKS_AFTER);
+    saw_reads_all();
+    logs_pass(2000);
+
+    lose(OLD); /* a new disk this time */
+    saw_reads_all();
+    rebuild(OLD);
+    saw_reads_all();
+
+    printf("writes %" PRIu64 ", of these %" PRIu64 " to a lost disk\n", count.writes, count.degraded_writes);
+    printf("reads %" PRIu64 ", of these %" PRIu64 " from a lost disk\n", count.reads, count.degraded_reads);
+    printf("moves %" PRIu64 ", refusals met %" PRIu64 "\n", count.moves, count.refusals);
+    printf("every read gave what was last written\n");
+    free(images);
+    return 0;
+}

@@ -1,0 +1,95 @@
+/*
+ * A library with one fault: it stands between a program and libpbm.a (the linker's --wrap) and hands every call on, but for
+ * what FAULT says. tests/tests/examples.rs links examples/line_controller.c with it, which must notice.
+ */
+#include "pbm.h"
+
+#include <stdlib.h>
+#include <string.h>
+
+enum {
+    NONE,
+    LOST_WRITE,   /* a write to a block that was moved is dropped: the next read gives the preceding log's solution */
+    OLD_RECORD,   /* reads go by the record of one move earlier */
+    OLD_PARITY,   /* a write leaves the parity as it was, which shows only when a disk is lost */
+    PLACE_LEFT,   /* some moves leave the old bytes in the place left */
+    MADE_UP,      /* advance reports one move more than it made */
+    NO_REBUILD,   /* rebuild writes the record only */
+    READ_REFUSED, /* reads are refused that should not be */
+    NOT_REFUSED   /* an advance is not refused that should be */
+};
+
+uint8_t __real_pbm_read(const uint8_t *, size_t, const uint8_t *, size_t, uint64_t, uint8_t *, size_t);
+uint8_t __real_pbm_write(const uint8_t *, size_t, uint8_t *, size_t, uint64_t, const uint8_t *, size_t);
+uint8_t __real_pbm_advance(uint8_t *, size_t, uint8_t *, size_t, uint64_t, uint64_t *);
+uint8_t __real_pbm_rebuild(uint8_t *, size_t, uint8_t *, size_t, uint64_t);
+
+/* A number of the record, least byte first. */
+static uint64_t number(const uint8_t *record, int at, int bytes)
+{
+    uint64_t value = 0;
+    while (bytes-- > 0) value = value << 8 | record[at + bytes];
+    return value;
+}
+
+static uint64_t moves(const uint8_t *record) { return number(record, 12, 4); }
+static size_t block_len(const uint8_t *record) { return number(record, 4, 2); }
+static size_t disk_len(const uint8_t *record) { return number(record, 8, 4) * block_len(record); }
+
+static uint8_t *copy_of(const uint8_t *bytes, size_t len)
+{
+    uint8_t *copy = malloc(len);
+    if (copy == NULL) abort();
+    memcpy(copy, bytes, len);
+    return copy;
+}
+
+uint8_t __wrap_pbm_read(const uint8_t *record, size_t record_len, const uint8_t *images, size_t images_len, uint64_t block,
+                        uint8_t *into, size_t into_len)
+{
+    uint8_t old[PBM_RECORD_LEN];
+    memcpy(old, record, sizeof old);
+    if (FAULT == READ_REFUSED && moves(record) >= 300) return PBM_PAST_THE_END;
+    if (FAULT == OLD_RECORD && moves(record) > 0) {
+        int i = 12;
+        while (old[i]-- == 0) i++;
+    }
+    return __real_pbm_read(old, record_len, images, images_len, block, into, into_len);
+}
+
+uint8_t __wrap_pbm_write(const uint8_t *record, size_t record_len, uint8_t *images, size_t images_len, uint64_t block,
+                         const uint8_t *data, size_t data_len)
+{
+    uint64_t stripe, disk, role = PBM_BLANK, none;
+    uint8_t answer, *parity, *copy;
+    pbm_locate(record, record_len, block, &stripe, &disk);
+    if (FAULT == LOST_WRITE && disk >= record[0]) return PBM_DONE;
+    for (disk = 0; role != PBM_PARITY; disk++) pbm_owner(record, record_len, stripe, disk, &role, &none);
+    parity = images + (disk - 1) * disk_len(record) + stripe * block_len(record);
+    copy = copy_of(parity, block_len(record));
+    answer = __real_pbm_write(record, record_len, images, images_len, block, data, data_len);
+    if (FAULT == OLD_PARITY) memcpy(parity, copy, block_len(record));
+    free(copy);
+    return answer;
+}
+
+uint8_t __wrap_pbm_advance(uint8_t *record, size_t record_len, uint8_t *images, size_t images_len, uint64_t k, uint64_t *made)
+{
+    size_t old_len = record[0] * disk_len(record);
+    int leaves = FAULT == PLACE_LEFT && moves(record) >= 500 && moves(record) < 520;
+    uint8_t answer, *copy = leaves ? copy_of(images, old_len) : NULL;
+    answer = __real_pbm_advance(record, record_len, images, images_len, k, made);
+    if (leaves) memcpy(images, copy, old_len);
+    free(copy);
+    if (FAULT == MADE_UP && answer == PBM_DONE) ++*made;
+    return FAULT == NOT_REFUSED && answer == PBM_DEGRADED ? PBM_DONE : answer;
+}
+
+uint8_t __wrap_pbm_rebuild(uint8_t *record, size_t record_len, uint8_t *images, size_t images_len, uint64_t disk)
+{
+    uint8_t answer, *copy = copy_of(images, images_len);
+    answer = __real_pbm_rebuild(record, record_len, images, images_len, disk);
+    if (FAULT == NO_REBUILD) memcpy(images, copy, images_len);
+    free(copy);
+    return answer;
+}
