@@ -1,8 +1,11 @@
 // The places of a stripe: where each lies, the xor of all but one disk's, and a write and a rebuild by it. The images have `disks` disks of `stripes` blocks of len bytes.
 ghost use mathlib.Core.Path.{_≡_};
+ghost use mathlib.Core.Bool.{cond};
+ghost use mathlib.Core.Logic.{_⊎_};
 ghost use Prim.Native.Nat.{_+_, _*_, _≤_, _<_};
-ghost use lib.ListN.{length, getD};
-ghost use Rattle.blocks.specs.Block.{blockAt, store};
+ghost use lib.Dec.{eqb};
+ghost use lib.ListN.{length, take};
+ghost use Rattle.blocks.specs.Block.{blockAt, store, zeros};
 ghost use Rattle.blocks.specs.Xor.{xorB};
 ghost use Rattle.blocks.specs.Stripe.{offset, place, others};
 use crate::copy::copy_in;
@@ -12,8 +15,10 @@ use crate::copy::zero_block;
 use crate::xor::fold_block;
 use crate::xor::xor_out;
 
-// The bytes of a block that are summed at once: they stay in registers from disk to disk.
+// The bytes of a block that are summed at once: as many as stay in registers from disk to disk.
 const PIECE: usize = 128;
+
+const HALF: usize = 64;
 
 // The disks that are read side by side: more streams than these are slower.
 const GROUP: usize = 16;
@@ -51,7 +56,41 @@ fn add_disks(
     }
 }
 
-// The same for the piece of block from at on.
+// What a group begins with: zeroes if its first disk is the array's, else what the groups before it have left in block.
+fn begin(block: &[u8], at: usize, first: usize, part: &mut [u8])
+    requires { ⌜ at + length (now part) ≤ length (now block) ⌝ }
+    ensures { λ _. ⌜ now (part .exit) ≡ cond (eqb first 0) (zeros (length (now (part .entry)))) (blockAt (now (block .entry)) at (length (now (part .entry)))) ⌝ }
+{
+    if first == 0 {
+        let len = part.len();
+        zero_block(part, 0, len);
+        return;
+    }
+    load_bytes(block, at, part);
+}
+
+// Takes the bytes of block from at on, as many as piece has, from the first `first` disks to the first `last`, through piece.
+fn add_through(
+    images: &[u8],
+    stripes: usize,
+    s: usize,
+    out: usize,
+    first: usize,
+    last: usize,
+    at: usize,
+    block: &mut [u8],
+    piece: &mut [u8],
+)
+    requires { ⌜ (1 ≤ length (now block)) × (s < stripes) × (first ≤ last) × (last * (stripes * length (now block)) ≤ length (now images)) × (at + length (now piece) ≤ length (now block)) × ((first ≡ 0) ⊎ (blockAt (now block) at (length (now piece)) ≡ blockAt (others (length (now block)) stripes (now images) s first out) at (length (now piece)))) ⌝ }
+    ensures { λ _. ⌜ now (block .exit) ≡ store (now (block .entry)) at (blockAt (others (length (now (block .entry))) stripes (now (images .entry)) s last out) at (length (now (piece .entry)))) ⌝ }
+{
+    let len = block.len();
+    begin(block, at, first, piece);
+    add_disks(images, stripes, len, s, out, first, last, at, piece);
+    store_bytes(block, at, piece);
+}
+
+// The same for one whole piece.
 fn add_piece(
     images: &[u8],
     stripes: usize,
@@ -62,27 +101,75 @@ fn add_piece(
     at: usize,
     block: &mut [u8],
 )
-    requires { ⌜ (s < stripes) × (first ≤ last) × (last * (stripes * length (now block)) ≤ length (now images)) × (at + 128 ≤ length (now block)) × (blockAt (now block) at 128 ≡ blockAt (others (length (now block)) stripes (now images) s first out) at 128) ⌝ }
+    requires { ⌜ (s < stripes) × (first ≤ last) × (last * (stripes * length (now block)) ≤ length (now images)) × (at + 128 ≤ length (now block)) × ((first ≡ 0) ⊎ (blockAt (now block) at 128 ≡ blockAt (others (length (now block)) stripes (now images) s first out) at 128)) ⌝ }
     ensures { λ _. ⌜ now (block .exit) ≡ store (now (block .entry)) at (blockAt (others (length (now (block .entry))) stripes (now (images .entry)) s last out) at 128) ⌝ }
 {
-    let len = block.len();
     let mut piece = [0u8; 128];
-    load_bytes(block, at, &mut piece[..PIECE]);
-    add_disks(
+    add_through(
         images,
         stripes,
-        len,
         s,
         out,
         first,
         last,
         at,
+        block,
         &mut piece[..PIECE],
     );
-    store_bytes(block, at, &piece[..PIECE]);
 }
 
-// The same for all of block, piece by piece.
+// The same for half a piece at most.
+fn add_less(
+    images: &[u8],
+    stripes: usize,
+    s: usize,
+    out: usize,
+    first: usize,
+    last: usize,
+    at: usize,
+    count: usize,
+    block: &mut [u8],
+)
+    requires { ⌜ (1 ≤ length (now block)) × (s < stripes) × (first ≤ last) × (last * (stripes * length (now block)) ≤ length (now images)) × (count ≤ 64) × (at + count ≤ length (now block)) × ((first ≡ 0) ⊎ (blockAt (now block) at count ≡ blockAt (others (length (now block)) stripes (now images) s first out) at count)) ⌝ }
+    ensures { λ _. ⌜ now (block .exit) ≡ store (now (block .entry)) at (blockAt (others (length (now (block .entry))) stripes (now (images .entry)) s last out) at count) ⌝ }
+{
+    let mut piece = [0u8; 64];
+    add_through(
+        images,
+        stripes,
+        s,
+        out,
+        first,
+        last,
+        at,
+        block,
+        &mut piece[..count],
+    );
+}
+
+// The whole pieces of block, and where they end.
+fn add_pieces(
+    images: &[u8],
+    stripes: usize,
+    s: usize,
+    out: usize,
+    first: usize,
+    last: usize,
+    block: &mut [u8],
+) -> usize
+    requires { ⌜ (1 ≤ length (now block)) × (s < stripes) × (first ≤ last) × (last * (stripes * length (now block)) ≤ length (now images)) × ((first ≡ 0) ⊎ (now block ≡ others (length (now block)) stripes (now images) s first out)) ⌝ }
+    ensures { λ at. ⌜ (at ≤ length (now (block .entry))) × (length (now (block .entry)) < at + 128) × (now (block .exit) ≡ store (now (block .entry)) 0 (take at (others (length (now (block .entry))) stripes (now (images .entry)) s last out))) ⌝ }
+{
+    let len = block.len();
+    let mut at = 0;
+    while PIECE <= len - at {
+        add_piece(images, stripes, s, out, first, last, at, block);
+        at += PIECE;
+    }
+    at
+}
+
+// All of block.
 fn add_group(
     images: &[u8],
     stripes: usize,
@@ -92,26 +179,28 @@ fn add_group(
     last: usize,
     block: &mut [u8],
 )
-    requires { ⌜ (1 ≤ length (now block)) × (s < stripes) × (first ≤ last) × (last * (stripes * length (now block)) ≤ length (now images)) × (now block ≡ others (length (now block)) stripes (now images) s first out) ⌝ }
+    requires { ⌜ (1 ≤ length (now block)) × (s < stripes) × (first ≤ last) × (last * (stripes * length (now block)) ≤ length (now images)) × ((first ≡ 0) ⊎ (now block ≡ others (length (now block)) stripes (now images) s first out)) ⌝ }
     ensures { λ _. ⌜ now (block .exit) ≡ others (length (now (block .entry))) stripes (now (images .entry)) s last out ⌝ }
 {
     let len = block.len();
-    let mut at = 0;
-    while PIECE <= len - at {
-        add_piece(images, stripes, s, out, first, last, at, block);
-        at += PIECE;
+    let at = add_pieces(images, stripes, s, out, first, last, block);
+    if HALF <= len - at {
+        add_less(images, stripes, s, out, first, last, at, HALF, block);
+        let rest = at + HALF;
+        add_less(
+            images,
+            stripes,
+            s,
+            out,
+            first,
+            last,
+            rest,
+            len - rest,
+            block,
+        );
+        return;
     }
-    add_disks(
-        images,
-        stripes,
-        len,
-        s,
-        out,
-        first,
-        last,
-        at,
-        &mut block[at..],
-    );
+    add_less(images, stripes, s, out, first, last, at, len - at, block);
 }
 
 // The disk behind the group that begins with disk d.
@@ -131,11 +220,9 @@ pub fn xor_others(
     out: usize,
     block: &mut [u8],
 )
-    requires { ⌜ (1 ≤ length (now block)) × (s < stripes) × (disks * (stripes * length (now block)) ≤ length (now images)) ⌝ }
+    requires { ⌜ (1 ≤ length (now block)) × (1 ≤ disks) × (s < stripes) × (disks * (stripes * length (now block)) ≤ length (now images)) ⌝ }
     ensures { λ _. ⌜ now (block .exit) ≡ others (length (now (block .entry))) stripes (now (images .entry)) s disks out ⌝ }
 {
-    let len = block.len();
-    zero_block(block, 0, len);
     let mut d = 0;
     while d < disks {
         let e = group_end(d, disks);

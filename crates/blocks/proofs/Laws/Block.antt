@@ -114,6 +114,14 @@ blockAt-short l at n = take-short n (drop at l)
 pub length-prefix : (n k : ℕ) → n ≤ k → length (take n (zeros k)) ≡ n
 length-prefix n k h = length-take-le n (zeros k) (rw (length-replicate {A = ℕ} k 0) h)
 
+-- a part of zeroes
+pub blockAt-zeros : (k at n : ℕ) → at + n ≤ k → blockAt (zeros k) at n ≡ zeros n
+blockAt-zeros zero at zero h = refl
+blockAt-zeros zero at (suc n) h = absurd (omega arith)
+blockAt-zeros (suc k) zero zero h = refl
+blockAt-zeros (suc k) zero (suc n) h = ap (λ (r : List ℕ). 0 ∷ r) (blockAt-zeros k zero n (omega arith))
+blockAt-zeros (suc k) (suc at) n h = blockAt-zeros k at n (omega arith)
+
 -- a block of zeroes is two, one behind the other
 pub zeros-append : (a b : ℕ) → zeros (a + b) ≡ zeros a ++ zeros b
 zeros-append a b = sym (replicate-append-replicate a b 0)

@@ -1,18 +1,18 @@
 -- A loop that writes a block upwards, one byte a turn: before it, a turn, after it, and what is read outside of what was written. Assumes nothing.
-use Prim.Native.Nat.{ℕ, _+_, _-_, _≤_, _<_, zero-le}
+use Prim.Native.Nat.{ℕ, _+_, _≤_, _<_, zero-le}
 use mathlib.Core.Path.{_≡_, refl, sym, ap, ap₂, _∙_, subst}
 use mathlib.Core.Logic.{_⊎_, inl, inr}
-use mathlib.Core.List.{List, [], _++_, append-nil}
+use mathlib.Core.List.{List}
 use native.Mathlib.Decide.{ℕ-discrete}
 use native.Mathlib.Nat.{zero-add}
 use native.Mathlib.Numerals.{add-one}
 use native.Mathlib.Omega.{arith}
 use lib.Bits.{bitXor}
-use lib.ListN.{length, getD, set, take, drop, length-set, length-drop, take-append-drop, drop-of-length-le}
+use lib.ListN.{length, getD, set, take, length-set}
 use lib.Seq.{take-suc, take-add, take-all, length-take-le}
 use Rattle.blocks.specs.Block.{Apart, store, blockAt}
 use Rattle.blocks.specs.Xor.{xorB}
-use Rattle.blocks.proofs.Laws.Block.{length-store, store-nil, store-append, store-snoc, getD-store-other, blockAt-store, blockAt-other, store-whole, getD-blockAt, length-blockAt}
+use Rattle.blocks.proofs.Laws.Block.{length-store, store-nil, store-append, store-snoc, getD-store-other, blockAt-other, store-whole, getD-blockAt, length-blockAt}
 use Rattle.blocks.proofs.Laws.Xor.{getD-xorB, length-xorB}
 
 -- after i turns l is l₀ with the first i bytes of b, which has n, stored from `at` on
@@ -104,18 +104,7 @@ run-more {l₀} {b} {k} {l} {l′} {i} f n h e =
       within = h;
     }
 
--- the rest behind the last run: what it is, and the whole with all of it in its place
-pub rest-kept : {l₀ b : List ℕ} {k : ℕ} {l : List ℕ} {i : ℕ} → Filled l₀ 0 b k l i → i ≤ length l → blockAt l i (length l - i) ≡ blockAt l₀ i (length (blockAt l i (length l - i)))
-rest-kept {l₀} {b} {k} {l} {i} f h = run-kept f (length l - i) ∙ ap (blockAt l₀ i) (sym (length-blockAt l i (length l - i) (omega arith)))
-
-pub rest-all : {l₀ b : List ℕ} {k : ℕ} {l : List ℕ} {i : ℕ} {r : List ℕ} → Filled l₀ 0 b k l i → length l₀ ≡ k → r ≡ blockAt b i (length (blockAt l i (length l - i)))
-    → take i l ++ (r ++ drop (length l - i) (drop i l)) ≡ b
-rest-all {l₀} {b} {k} {l} {i} {r} f e q =
-    let size : length l ≡ k = f .size ∙ e in
-    let h : i ≤ k = f .within in
-    let m : length (take i b) ≡ i = length-take-le i b (omega arith) in
-    let first : take i l ≡ take i b = ap (take i) (f .is) ∙ blockAt-store l₀ 0 (take i b) i m (omega arith) in
-    let n : length (blockAt l i (length l - i)) ≡ length l - i = length-blockAt l i (length l - i) (omega arith) in
-    let behind : drop (length l - i) (drop i l) ≡ [] = drop-of-length-le (drop i l) {i = length l - i} (rw (length-drop i l) (omega arith)) in
-    let rest : r ≡ drop i b = q ∙ take-all (length (blockAt l i (length l - i))) (drop i b) (rw (length-drop i b) (omega arith)) in
-    ap₂ (λ (x y : List ℕ). x ++ y) first (ap₂ (λ (x y : List ℕ). x ++ y) rest behind ∙ append-nil (drop i b)) ∙ take-append-drop i b
+-- and, where l₀ may be anything before disk 0, what a group begins with
+pub begun-kept : {l₀ b : List ℕ} {k : ℕ} {l : List ℕ} {i first : ℕ} {o : List ℕ} → (first ≡ 0) ⊎ (l₀ ≡ o) → Filled l₀ 0 b k l i → (n : ℕ) → (first ≡ 0) ⊎ (blockAt l i n ≡ blockAt o i n)
+begun-kept (inl e) f n = inl e
+begun-kept {i = i} (inr q) f n = inr (run-kept f n ∙ ap (λ (x : List ℕ). blockAt x i n) q)

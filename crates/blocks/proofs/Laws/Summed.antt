@@ -1,37 +1,47 @@
 -- Loops over the disks of a stripe that xor their places, all but one disk's: into a block, group by group of disks, and into a part of it, disk by disk. Assumes nothing.
-use Prim.Native.Nat.{ℕ, _+_, _≤_, _<_, zero-le}
+use Prim.Native.Nat.{ℕ, zero, suc, _+_, _≤_, _<_}
 use mathlib.Core.Path.{_≡_, sym, ap, ap₂, _∙_}
-use mathlib.Core.Logic.{_≢_}
+use mathlib.Core.Bool.{cond}
+use mathlib.Core.Logic.{_≢_, _⊎_, inl, inr}
 use mathlib.Core.List.{List}
 use native.Mathlib.Nat.{le-antisymm}
 use native.Mathlib.Numerals.{add-one}
 use native.Mathlib.Omega.{arith}
-use lib.ListN.{length, length-replicate}
-use Rattle.blocks.specs.Block.{blockAt, store, zeros}
+use borrow.Author.Tests.{eq-eqb, ne-eqb}
+use lib.Dec.{eqb}
+use lib.ListN.{length}
+use Rattle.blocks.specs.Block.{blockAt, zeros}
 use Rattle.blocks.specs.Xor.{xorB}
 use Rattle.blocks.specs.Stripe.{offset, place, others}
-use Rattle.blocks.proofs.Laws.Block.{store-whole, length-store, blockAt-within}
+use Rattle.blocks.proofs.Laws.Block.{blockAt-within, blockAt-zeros}
 use Rattle.blocks.proofs.Laws.Xor.{blockAt-xorB}
 use Rattle.blocks.proofs.Laws.Stripe.{others-in, others-out, length-others}
 
--- after d of N turns b is the xor of the places of the first d disks but `out`
+-- what a group of disks begins with: zeroes before disk 0, else what was left in b
+pub begun : (l : List ℕ) (T S out B first : ℕ) (b : List ℕ) (at n : ℕ) → at + n ≤ B → (first ≡ 0) ⊎ (blockAt b at n ≡ blockAt (others B T l S first out) at n)
+    → cond (eqb first 0) (zeros n) (blockAt b at n) ≡ blockAt (others B T l S first out) at n
+begun l T S out B zero b at n h o = sym (blockAt-zeros B at n h)
+begun l T S out B (suc first) b at n h (inl e) = absurd (omega arith)
+begun l T S out B (suc first) b at n h (inr q) = rw (ne-eqb (suc first) 0 (λ (e : suc first ≡ 0). absurd (omega arith))) q
+
+-- after the turns up to disk d b is the xor of the places of the first d disks but `out`; before the first it is anything
 pub record Summed (l : List ℕ) (N T S out B : ℕ) (b : List ℕ) (d : ℕ) : Type 0 where
-  pub is : b ≡ others B T l S d out
+  pub is : (d ≡ 0) ⊎ (b ≡ others B T l S d out)
   pub size : length b ≡ B
   pub within : d ≤ N
-
-pub summed-none : {l : List ℕ} {N T S out : ℕ} (b₀ : List ℕ) {b : List ℕ} → b ≡ store b₀ 0 (zeros (length b₀)) → Summed l N T S out (length b₀) b 0
-summed-none b₀ {b} e =
-    record { is = e ∙ store-whole b₀ (zeros (length b₀)) (length-replicate (length b₀) 0); size = ap length e ∙ length-store b₀ 0 (zeros (length b₀)); within = zero-le }
 
 -- a turn takes it on to the first e
 pub summed-more : {l : List ℕ} {N T S out B : ℕ} {b b′ : List ℕ} {d e : ℕ} → Summed l N T S out B b d → e ≤ N → b′ ≡ others (length b) T l S e out → Summed l N T S out B b′ e
 summed-more {l} {N} {T} {S} {out} {B} {b} {b′} {d} {e} f h q =
     let r : b′ ≡ others B T l S e out = q ∙ ap (λ (n : ℕ). others n T l S e out) (f .size) in
-    record { is = r; size = ap length r ∙ length-others B T l S e out; within = h }
+    record { is = inr r; size = ap length r ∙ length-others B T l S e out; within = h }
 
-pub summed-all : {l : List ℕ} {N T S out B : ℕ} {b : List ℕ} {d : ℕ} → Summed l N T S out B b d → N ≤ d → b ≡ others B T l S N out
-summed-all {l} {N} {T} {S} {out} {B} {b} {d} f h = f .is ∙ ap (λ (k : ℕ). others B T l S k out) (le-antisymm (f .within) h)
+pub summed-all : {l : List ℕ} {N T S out B : ℕ} {b : List ℕ} {d : ℕ} → Summed l N T S out B b d → 1 ≤ N → N ≤ d → b ≡ others B T l S N out
+summed-all {l} {N} {T} {S} {out} {B} {b} {d} f p h = go (f .is)
+  where
+    go : (d ≡ 0) ⊎ (b ≡ others B T l S d out) → b ≡ others B T l S N out
+    go (inl e) = absurd (omega arith)
+    go (inr q) = q ∙ ap (λ (k : ℕ). others B T l S k out) (le-antisymm (f .within) h)
 
 -- ---- a part of the block: the n bytes from `at` on
 

@@ -1,9 +1,10 @@
 -- `sum_others` meets its contract. Assumes nothing.
-use Prim.Native.Nat.{ℕ}
+use Prim.Native.Nat.{ℕ, _≤_}
 use mathlib.Core.Path.{ap₂, _∙_}
 use native.Mathlib.Omega.{arith}
 use borrow.Author.Needs.{needs}
 use Rattle.blocks.specs.Stripe.{others}
+use Rattle.array.specs.Images.{disksOf}
 use Rattle.array.proofs.places.sum_others.Statement.{statement}
 use Rattle.array.proofs.places.sum_others.Tie as tie
 
@@ -17,7 +18,8 @@ xor-others-requires : tie.Need-xor-others-requires
 xor-others-requires c κs =
     let s = c .before .before .before .before .before in
     let (l, ls, li, lb) = s .pre in
-    rw (lb, li, c .before .before .disks-of .ensures) (l .block-low, ls, omega arith)
+    let some : 1 ≤ disksOf (s .args .r) = omega (arith, l .array .disks) in
+    rw (lb, li, c .before .before .disks-of .ensures) (l .block-low, some, ls, omega arith)
 
 same-length : tie.Need-same-length
 same-length c = search needs

@@ -1,105 +1,96 @@
--- `add_group` meets its contract. The loop has taken on the bytes before `at`; those behind the last whole piece are taken on at once. Assumes nothing.
-use Prim.Native.Nat.{ℕ, _-_, _≤_}
-use mathlib.Core.Path.{_≡_, sym, ap, _∙_, refl}
+-- `add_group` meets its contract: what the whole pieces leave is taken on in one or two parts. Assumes nothing.
+use Prim.Native.Nat.{ℕ, _+_, _-_, _*_, _≤_, _<_}
+use mathlib.Core.Path.{_≡_, refl, ap, _∙_}
 use mathlib.Core.List.{List}
+use mathlib.Core.Logic.{_⊎_}
 use native.Mathlib.Omega.{arith}
-use borrow.Rule.Slice.PartMut.{same-len-mid}
-use lib.ListN.{length}
+use borrow.Author.Needs.{needs}
+use lib.ListN.{length, take}
 use Rattle.blocks.specs.Block.{blockAt, store}
 use Rattle.blocks.specs.Stripe.{others}
-use Rattle.blocks.proofs.Laws.Block.{length-blockAt}
+use Rattle.blocks.proofs.Laws.Block.{length-store}
 use Rattle.blocks.proofs.Laws.Stripe.{length-others}
-use Rattle.blocks.proofs.Laws.Fill.{Filled, filled-none, run-kept, run-more, rest-kept, rest-all}
+use Rattle.blocks.proofs.Laws.Fill.{Filled, filled-all₀, run-more, begun-kept}
 use Rattle.blocks.proofs.stripe.add_group.Statement.{statement}
 use Rattle.blocks.proofs.stripe.add_group.Tie as tie
 
-abbrev Inv-loop : tie.InvT-loop
-Inv-loop images stripes s out first last block₀ len at₀ block at = Filled block₀ 0 (others len stripes images s last out) len block at
+-- the xor of the first k disks
+abbrev sum : tie.Start → ℕ → ℕ → List ℕ
+sum c n k = others n (c .args .stripes) (c .args .images .now) (c .args .s) k (c .args .out)
 
-abbrev μ-loop : tie.MeasureT-loop
-μ-loop images stripes s out first last block₀ len at₀ block at = len - at
+-- the bytes before `at` are taken on
+abbrev Done : (c : tie.Start) → List ℕ → ℕ → Type 0
+Done c b at = Filled (c .args .block .now) 0 (sum c (length (c .args .block .now)) (c .args .last)) (length (c .args .block .now)) b at
 
-loop-holds : tie.Need-loop-holds Inv-loop μ-loop
-loop-holds c = filled-none (length-others (length (c .before .before .args .block .now)) (c .before .before .args .stripes) (c .before .before .args .images .now) (c .before .before .args .s) (c .before .before .args .last) (c .before .before .args .out))
+pieces : (c : tie.After-add-pieces) → Done (c .before .before .before .before) (c .add-pieces .last .1 .1 .1 .1 .1 .1 .0) (c .add-pieces .result)
+pieces c =
+    let a = c .before .before .before .before .args in
+    let e = c .add-pieces .ensures in
+    let o = sum (c .before .before .before .before) (length (a .block .now)) (a .last) in
+    record { is = e .2; size = ap length (e .2) ∙ length-store (a .block .now) 0 (take (c .add-pieces .result) o); long = length-others (length (a .block .now)) (a .stripes) (a .images .now) (a .s) (a .last) (a .out); within = e .0 }
 
-sub-loop : tie.Need-sub-loop Inv-loop μ-loop
-sub-loop c = omega arith
+-- what a part asks, and what it gives
+module _ (c : tie.Start) {b : List ℕ} {at : ℕ} (f : Done c b at) (n : ℕ) (h : at + n ≤ length (c .args .block .now)) where
+  asked : n ≤ 64
+      → (1 ≤ length b) × (c .args .s < c .args .stripes) × (c .args .first ≤ c .args .last) × (c .args .last * (c .args .stripes * length b) ≤ length (c .args .images .now)) × (n ≤ 64) × (at + n ≤ length b) × ((c .args .first ≡ 0) ⊎ (blockAt b at n ≡ blockAt (sum c (length b) (c .args .first)) at n))
+  asked k = rw (f .size) (c .pre .0, c .pre .1, c .pre .2, c .pre .3, k, h, begun-kept (c .pre .4) f n)
 
-add-piece-requires : tie.Need-add-piece-requires Inv-loop μ-loop
-add-piece-requires c κs =
-    let st = c .before .before .before .before .before in
-    let a = st .args in
-    let l = c .before .before .loop in
-    let size : length (l .block) ≡ length (a .block .now) = l .inv .size in (
-      st .pre .1,
-      st .pre .2,
-      rw size (st .pre .3),
-      omega arith,
-      run-kept (l .inv) 128 ∙ ap (λ (b : List ℕ). blockAt b (l .at) 128) (st .pre .4 ∙ ap (λ (n : ℕ). others n (a .stripes) (a .images .now) (a .s) (a .first) (a .out)) (sym size)),
-    )
+  given : {b′ : List ℕ} → b′ ≡ store b at (blockAt (sum c (length b) (c .args .last)) at n) → Done c b′ (at + n)
+  given e = run-more f n h (e ∙ ap (λ (m : ℕ). store b at (blockAt (sum c m (c .args .last)) at n)) (f .size))
 
-add-at : tie.Need-add-at Inv-loop μ-loop
-add-at c = omega arith
+-- behind half a piece more
+half : (c : tie.After-add-less) → Done (c .before .before .before .before .before .before .before .before .before) (c .add-less .last .1 .1 .1 .1 .1 .1 .1 .1 .0) (c .before .before .before .before .before .add-pieces .result + 64)
+half c = given (c .before .before .before .before .before .before .before .before .before) (pieces (c .before .before .before .before .before)) 64 (omega arith) (c .add-less .ensures)
 
-loop-less : tie.Need-loop-less Inv-loop μ-loop
-loop-less c = omega arith
+add-pieces-requires : tie.Need-add-pieces-requires
+add-pieces-requires c κs = search needs
 
-loop-again : tie.Need-loop-again Inv-loop μ-loop
-loop-again c =
-    let a = c .before .before .before .before .before .before .before .before .args in
-    let l = c .before .before .before .before .before .loop in
-    run-more (l .inv) 128 (omega arith)
-    (c .before .before .add-piece .ensures
-    ∙ ap (λ (n : ℕ). store (l .block) (l .at) (blockAt (others n (a .stripes) (a .images .now) (a .s) (a .last) (a .out)) (l .at) 128)) (l .inv .size))
+sub-if1 : tie.Need-sub-if1
+sub-if1 c = search needs
 
-sub-add-disks : tie.Need-sub-add-disks Inv-loop μ-loop
-sub-add-disks c = omega arith
+add-less-requires : tie.Need-add-less-requires
+add-less-requires c κs = asked (c .before .before .before .before .before .before .before .before) (pieces (c .before .before .before .before)) 64 (omega arith) (omega arith)
 
-part-add-disks-start : tie.Need-part-add-disks-start Inv-loop μ-loop
-part-add-disks-start c = omega arith
+add-rest : tie.Need-add-rest
+add-rest c = search needs
 
-part-add-disks-end : tie.Need-part-add-disks-end Inv-loop μ-loop
-part-add-disks-end c = omega arith
+sub-add-less : tie.Need-sub-add-less
+sub-add-less c = search needs
 
-add-disks-requires : tie.Need-add-disks-requires Inv-loop μ-loop
-add-disks-requires c κs =
-    let st = c .before .before .before .before .before in
-    let l = c .before .before .loop in
-    let size : length (l .block) ≡ length (st .args .block .now) = l .inv .size in
-    let n : length (blockAt (l .block) (l .at) (length (l .block) - l .at)) ≡ length (l .block) - l .at = length-blockAt (l .block) (l .at) (length (l .block) - l .at) (omega arith) in (
-      st .pre .0,
-      st .pre .1,
-      st .pre .2,
-      st .pre .3,
-      omega arith,
-      rest-kept (l .inv) (omega arith) ∙ ap (λ (b : List ℕ). blockAt b (l .at) (length (blockAt (l .block) (l .at) (length (l .block) - l .at)))) (st .pre .4),
-    )
+add-less-requires-2 : tie.Need-add-less-requires-2
+add-less-requires-2 c κs = asked (c .before .before .before .before .before .before .before .before .before .before .before .before) (half (c .before .before .before)) _ (omega arith) (omega arith)
 
-same-length : tie.Need-same-length Inv-loop μ-loop
-same-length c =
-    let l = c .before .before .before .before .before .loop in
-    same-len-mid (l .at) (length (l .block) - l .at) (l .block) (c .before .before .add-disks .last .1 .1 .1 .1 .1 .1 .1 .1 .0) (c .before .before .add-disks .kept .1 .1 .1 .1 .1 .1 .1 .1 .0) ∙ l .inv .size
+same-length : tie.Need-same-length
+same-length c = search needs
 
-returns : tie.Need-returns Inv-loop μ-loop
-returns c =
-    let l = c .before .before .before .before .before .loop in
-    rest-all (l .inv) refl (c .before .before .add-disks .ensures)
+returns : tie.Need-returns
+returns c = filled-all₀ (given (c .before .before .before .before .before .before .before .before .before .before .before .before .before .before .before) (half (c .before .before .before .before .before .before)) (length (c .before .before .before .before .before .before .before .before .before .before .before .before .before .before .before .args .block .now) - (c .before .before .before .before .before .before .before .before .before .before .before .add-pieces .result + 64)) (omega arith) (c .before .before .add-less2 .ensures)) (omega arith) refl
+
+sub-add-less-2 : tie.Need-sub-add-less-2
+sub-add-less-2 c = search needs
+
+add-less-requires-3 : tie.Need-add-less-requires-3
+add-less-requires-3 c κs = asked (c .before .before .before .before .before .before .before .before) (pieces (c .before .before .before .before)) _ (omega arith) (omega arith)
+
+same-length-2 : tie.Need-same-length-2
+same-length-2 c = search needs
+
+returns-2 : tie.Need-returns-2
+returns-2 c = filled-all₀ (given (c .before .before .before .before .before .before .before .before .before .before .before) (pieces (c .before .before .before .before .before .before .before)) (length (c .before .before .before .before .before .before .before .before .before .before .before .args .block .now) - c .before .before .before .before .before .before .before .add-pieces .result) (omega arith) (c .before .before .add-less3 .ensures)) (omega arith) refl
 
 pub add-group-spec : {M : Type 1} → statement M
 add-group-spec =
     tie.close
     (tie.spec
-    Inv-loop
-    μ-loop
-    loop-holds
-    sub-loop
-    add-piece-requires
-    add-at
-    loop-less
-    loop-again
-    sub-add-disks
-    part-add-disks-start
-    part-add-disks-end
-    add-disks-requires
+    add-pieces-requires
+    sub-if1
+    add-less-requires
+    add-rest
+    sub-add-less
+    add-less-requires-2
     same-length
-    returns)
+    returns
+    sub-add-less-2
+    add-less-requires-3
+    same-length-2
+    returns-2)

@@ -23,7 +23,7 @@ xor-others-requires : tie.Need-xor-others-requires
 xor-others-requires c κs =
     let st = c .before .before .before .before .before .before in
     let size : length (st .args .own .now) ≡ length (st .args .bytes .now) = st .pre .1 in
-    (omega arith, st .pre .2, rw size (st .pre .4))
+    (omega arith, omega arith, st .pre .2, rw size (st .pre .4))
 
 fold-block-requires : tie.Need-fold-block-requires
 fold-block-requires c κs =

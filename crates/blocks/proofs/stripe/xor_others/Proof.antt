@@ -2,40 +2,38 @@
 use native.Mathlib.Nat.{mul-le-mul-right}
 use native.Mathlib.Omega.{arith}
 use Prim.Native.Nat.{ℕ, _-_, _*_}
-use mathlib.Core.Path.{_≡_, sym, ap, _∙_}
+use mathlib.Core.Path.{_≡_, refl, sym, subst}
+use mathlib.Core.Logic.{_⊎_, inl}
 use lib.ListN.{length}
 use Rattle.blocks.specs.Stripe.{others}
-use Rattle.blocks.proofs.Laws.Summed.{Summed, summed-none, summed-more, summed-all}
+use Rattle.blocks.proofs.Laws.Summed.{Summed, summed-more, summed-all}
 use Rattle.blocks.proofs.stripe.xor_others.Statement.{statement}
 use Rattle.blocks.proofs.stripe.xor_others.Tie as tie
 
 abbrev Inv-loop : tie.InvT-loop
-Inv-loop images disks stripes s out block₀ len d₀ block d = Summed images disks stripes s out len block d
+Inv-loop images disks stripes s out block₀ d₀ block d = Summed images disks stripes s out (length block₀) block d
 
 abbrev μ-loop : tie.MeasureT-loop
-μ-loop images disks stripes s out block₀ len d₀ block d = disks - d
-
-zero-block-requires : tie.Need-zero-block-requires Inv-loop μ-loop
-zero-block-requires c κs = omega arith
+μ-loop images disks stripes s out block₀ d₀ block d = disks - d
 
 loop-holds : tie.Need-loop-holds Inv-loop μ-loop
-loop-holds c = summed-none (c .before .before .before .before .before .before .args .block .now) (c .before .before .zero-block .ensures)
+loop-holds c = record { is = inl refl; size = refl; within = omega arith }
 
 group-end-requires : tie.Need-group-end-requires Inv-loop μ-loop
 group-end-requires c κs = c .loop-test .taken
 
 add-group-requires : tie.Need-add-group-requires Inv-loop μ-loop
 add-group-requires c κs =
-    let st = c .before .before .before .before .before .before .before .before .before .before in
+    let st = c .before .before .before .before .before .before in
     let a = st .args in
     let l = c .before .before .before .loop in
     let e = c .before .group-end in
     let size : length (l .block) ≡ length (a .block .now) = l .inv .size in (
       omega arith,
-      st .pre .1,
+      st .pre .2,
       omega arith,
       rw size (omega (arith, mul-le-mul-right (a .stripes * length (a .block .now)) (e .ensures .1))),
-      l .inv .is ∙ ap (λ (n : ℕ). others n (a .stripes) (a .images .now) (a .s) (l .d) (a .out)) (sym size),
+      subst (λ (n : ℕ). (l .d ≡ 0) ⊎ (l .block ≡ others n (a .stripes) (a .images .now) (a .s) (l .d) (a .out))) (sym size) (l .inv .is),
     )
 
 loop-less : tie.Need-loop-less Inv-loop μ-loop
@@ -48,7 +46,7 @@ same-length : tie.Need-same-length Inv-loop μ-loop
 same-length c = c .before .loop .inv .size
 
 returns : tie.Need-returns Inv-loop μ-loop
-returns c = summed-all (c .before .loop .inv) (c .loop-test .left)
+returns c = summed-all (c .before .loop .inv) (c .before .before .before .before .pre .1) (c .loop-test .left)
 
 pub xor-others-spec : {M : Type 1} → statement M
 xor-others-spec =
@@ -56,7 +54,6 @@ xor-others-spec =
     (tie.spec
     Inv-loop
     μ-loop
-    zero-block-requires
     loop-holds
     group-end-requires
     add-group-requires
