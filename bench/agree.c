@@ -1,0 +1,250 @@
+/*
+ * The peers against the library: random histories of all calls, refused ones among them, on random images, from every kind
+ * of record; and locate and owner of every block and place, for every n and m.
+ */
+#include "agree.h"
+
+#include <stdio.h>
+#include <stdlib.h>
+
+#include "isal.h"
+#include "pbm.h"
+#include "peer.h"
+#include "random.h"
+
+enum op { FORMAT, READ, VIEW, WRITE, GROW, ADVANCE, OUT, REBUILD, LOCATE, OWNER, OPS };
+
+static const char *const names[OPS] = {"format", "read",    "view",   "write", "grow",
+                                       "advance", "out", "rebuild", "locate", "owner"};
+
+static const uint32_t BEFORE_GROWTH = UINT32_MAX; /* in place of the moves done */
+
+struct call {
+    enum op op;
+    size_t record_len, images_len, block_len;
+    uint64_t x, y, z;
+};
+
+/* What one contestant is lent, and what it answered. */
+struct world {
+    uint8_t record[32];
+    uint8_t *images, *block;
+    uint64_t first, second;
+    uint8_t answer;
+};
+
+typedef void runner(struct world *w, const struct call *c);
+
+static void run_ours(struct world *w, const struct call *c)
+{
+    uint8_t *r = w->record, *i = w->images, *b = w->block;
+    size_t rl = c->record_len, il = c->images_len, bl = c->block_len;
+    switch (c->op) {
+    case FORMAT: w->answer = pbm_format(r, rl, i, il, c->x, c->y, c->z); break;
+    case READ:
+    case VIEW: w->answer = pbm_read(r, rl, i, il, c->x, b, bl); break;
+    case WRITE: w->answer = pbm_write(r, rl, i, il, c->x, b, bl); break;
+    case GROW: w->answer = pbm_grow(r, rl, i, il, c->x); break;
+    case ADVANCE: w->answer = pbm_advance(r, rl, i, il, c->x, &w->first); break;
+    case OUT: w->answer = pbm_out(r, rl, c->x); break;
+    case REBUILD: w->answer = pbm_rebuild(r, rl, i, il, c->x); break;
+    case LOCATE: w->answer = pbm_locate(r, rl, c->x, &w->first, &w->second); break;
+    default: w->answer = pbm_owner(r, rl, c->x, c->y, &w->first, &w->second);
+    }
+}
+
+/* A view is a part of the images, and the scratch untouched, or the scratch; its bytes are held against a read's. */
+static uint8_t view_as_read(struct world *w, const struct call *c)
+{
+    const uint8_t *view;
+    uint8_t answer = peer_view(w->record, c->record_len, w->images, c->images_len, c->x, w->block, c->block_len, &view);
+    if (answer == 0)
+        memmove(w->block, view, c->block_len);
+    return answer;
+}
+
+static void run_peer(struct world *w, const struct call *c)
+{
+    uint8_t *r = w->record, *i = w->images, *b = w->block;
+    size_t rl = c->record_len, il = c->images_len, bl = c->block_len;
+    switch (c->op) {
+    case FORMAT: w->answer = peer_format(r, rl, i, il, c->x, c->y, c->z); break;
+    case READ: w->answer = peer_read(r, rl, i, il, c->x, b, bl); break;
+    case VIEW: w->answer = view_as_read(w, c); break;
+    case WRITE: w->answer = peer_write(r, rl, i, il, c->x, b, bl); break;
+    case GROW: w->answer = peer_grow(r, rl, i, il, c->x); break;
+    case ADVANCE: w->answer = peer_advance(r, rl, i, il, c->x, &w->first); break;
+    case OUT: w->answer = peer_out(r, rl, c->x); break;
+    case REBUILD: w->answer = peer_rebuild(r, rl, i, il, c->x); break;
+    case LOCATE: w->answer = peer_locate(r, rl, c->x, &w->first, &w->second); break;
+    default: w->answer = peer_owner(r, rl, c->x, c->y, &w->first, &w->second);
+    }
+}
+
+static void run_isal(struct world *w, const struct call *c)
+{
+    if (c->op == READ || c->op == VIEW)
+        w->answer = isal_read(w->record, c->record_len, w->images, c->images_len, c->x, w->block, c->block_len);
+    else if (c->op == REBUILD)
+        w->answer = isal_rebuild(w->record, c->record_len, w->images, c->images_len, c->x);
+    else
+        run_peer(w, c);
+}
+
+struct shape {
+    uint32_t n, m, block_len, stripes;
+};
+
+static size_t size(struct shape h, uint32_t disks) { return (size_t)disks * h.stripes * h.block_len; }
+
+/* A call that the record lets through, if the health and t do; arguments run a little over their limits. */
+static struct call likely_call(struct random *r, struct shape h, const uint8_t *record)
+{
+    uint32_t disks = h.n + record[1];
+    struct call c = {.op = (enum op)(READ + random_below(r, OPS - READ)), .record_len = 16, .block_len = h.block_len};
+    c.images_len = size(h, c.op == GROW ? h.n + h.m : disks);
+    switch (c.op) {
+    case READ:
+    case VIEW:
+    case WRITE:
+    case LOCATE: c.x = random_below(r, (uint64_t)h.stripes * (disks - 1) + 1); break;
+    case GROW: c.x = h.m; break;
+    case ADVANCE: c.x = random_below(r, 3 * h.n); break;
+    case OUT: c.x = record[2] == 0 || random_below(r, 9) == 0 ? random_below(r, disks + 1) : record[3]; break;
+    case REBUILD: c.x = record[3]; break;
+    default: c.x = random_below(r, h.stripes + 1), c.y = random_below(r, disks + 1);
+    }
+    return c;
+}
+
+/* The same with something wrong in it or in the record, or a rare call. */
+static struct call odd_call(struct random *r, struct shape h, uint8_t *record)
+{
+    struct call c = likely_call(r, h, record);
+    switch (random_below(r, 8)) {
+    case 0: c.record_len += random_below(r, 3) - 1; break;
+    case 1: c.images_len += random_below(r, 3) - 1; break;
+    case 2: c.block_len += random_below(r, 3) - 1; break;
+    case 3: c.x = random_next(r); break;
+    case 4: record[random_below(r, 16)] = (uint8_t)random_next(r); break;
+    case 5: record[random_below(r, 16)] ^= (uint8_t)(1u << random_below(r, 8)); break;
+    case 6: c = (struct call){GROW, 16, size(h, h.n + h.m), 0, random_below(r, 18), 0, 0}; break;
+    default:
+        c = (struct call){FORMAT, 16, size(h, h.n), 0, h.n, h.block_len, h.stripes};
+        if (random_below(r, 2))
+            *(random_below(r, 2) ? &c.x : random_below(r, 2) ? &c.y : &c.z) = random_below(r, 5000);
+    }
+    return c;
+}
+
+static bool same(const struct world *a, const struct world *b, size_t images_len)
+{
+    return a->answer == b->answer && a->first == b->first && a->second == b->second &&
+           memcmp(a->record, b->record, sizeof a->record) == 0 && memcmp(a->block, b->block, 4096) == 0 &&
+           memcmp(a->images, b->images, images_len) == 0;
+}
+
+static void start_record(struct random *r, struct shape h, uint8_t record[32], uint32_t moves, uint8_t health)
+{
+    uint8_t m = moves == BEFORE_GROWTH ? 0 : (uint8_t)h.m;
+    memset(record, 0, 32);
+    record[0] = (uint8_t)h.n;
+    record[1] = m;
+    record[2] = health;
+    record[3] = health == 1 ? (uint8_t)random_below(r, h.n + m) : 0;
+    memcpy(record + 4, &(uint16_t){(uint16_t)h.block_len}, 2);
+    memcpy(record + 8, &h.stripes, 4);
+    memcpy(record + 12, &(uint32_t){m ? moves : 0}, 4);
+}
+
+/* A history from one record. One call in three is odd; a record spoilt for it is mended behind it. */
+static bool history(struct random *r, struct shape h, struct world *a, struct world *b, runner *peer, uint32_t moves,
+                    uint8_t health)
+{
+    size_t all = size(h, h.n + h.m);
+    random_fill(r, a->images, all);
+    memcpy(b->images, a->images, all);
+    start_record(r, h, a->record, moves, health);
+    for (int i = 0; i < 60; i++) {
+        uint8_t kept[32];
+        memcpy(kept, a->record, sizeof kept);
+        random_fill(r, a->block, 4096);
+        memcpy(b->block, a->block, 4096);
+        a->first = b->first = a->second = b->second = random_next(r);
+        struct call c = i % 3 == 0 ? odd_call(r, h, a->record) : likely_call(r, h, a->record);
+        if (c.images_len > all)
+            c.images_len = all + 1; /* refused by its length: nothing behind the images is touched */
+        bool spoilt = memcmp(a->record, kept, sizeof kept) != 0;
+        memcpy(b->record, a->record, sizeof a->record);
+        run_ours(a, &c);
+        peer(b, &c);
+        if (!same(a, b, all)) {
+            fprintf(stderr, "%u + %u, B %u: %s (%llu, %llu) at t = %u: %u and %u\n", h.n, h.m, h.block_len, names[c.op],
+                    (unsigned long long)c.x, (unsigned long long)c.y, moves, a->answer, b->answer);
+            return false;
+        }
+        if (spoilt)
+            memcpy(a->record, kept, sizeof kept);
+    }
+    return true;
+}
+
+static bool histories(struct random *r, struct shape h, runner *peer)
+{
+    uint32_t total = h.stripes / (h.n + h.m) * h.n * h.m;
+    size_t all = size(h, h.n + h.m) + 1;
+    struct world a = {.images = aligned_alloc(4096, (all + 4095) / 4096 * 4096), .block = aligned_alloc(4096, 4096)};
+    struct world b = {.images = aligned_alloc(4096, (all + 4095) / 4096 * 4096), .block = aligned_alloc(4096, 4096)};
+    const uint32_t moves[] = {BEFORE_GROWTH, 0, 1, h.n * h.m / 2, total / 2, total - 1, total};
+    bool agreed = a.images && b.images && a.block && b.block;
+    for (size_t i = 0; agreed && i < sizeof moves / sizeof moves[0]; i++)
+        for (uint8_t health = 0; agreed && health < 3; health++)
+            agreed = history(r, h, &a, &b, peer, moves[i], health);
+    free(a.images), free(a.block), free(b.images), free(b.block);
+    return agreed;
+}
+
+static bool same_layout(struct random *r, struct shape h, uint32_t moves)
+{
+    uint8_t record[32];
+    uint64_t x[2], y[2];
+    start_record(r, h, record, moves, 0);
+    for (uint64_t b = 0; b <= (uint64_t)h.stripes * (h.n + h.m - 1); b++)
+        if (pbm_locate(record, 16, b, &x[0], &x[1]) != peer_locate(record, 16, b, &y[0], &y[1]) || x[0] != y[0] ||
+            x[1] != y[1])
+            return false;
+    for (uint64_t s = 0; s < h.stripes; s++)
+        for (uint64_t d = 0; d < h.n + h.m; d++)
+            if (pbm_owner(record, 16, s, d, &x[0], &x[1]) != peer_owner(record, 16, s, d, &y[0], &y[1]) ||
+                x[0] != y[0] || x[1] != y[1])
+                return false;
+    return true;
+}
+
+static bool layouts(struct random *r)
+{
+    for (uint32_t n = 3; n <= 16; n++)
+        for (uint32_t m = 1; m <= 16; m++) {
+            struct shape h = {n, m, 64, n * (n + m)};
+            uint32_t total = n * n * m;
+            if (!same_layout(r, h, total) || !same_layout(r, h, (uint32_t)random_below(r, total))) {
+                fprintf(stderr, "%u + %u: layouts differ\n", n, m);
+                return false;
+            }
+        }
+    return true;
+}
+
+bool peers_agree(uint64_t seed)
+{
+    struct random r = {seed};
+    const struct shape shapes[] = {{5, 3, 64, 40}, {5, 3, 4096, 40}, {16, 16, 64, 512},
+                                   {3, 2, 7, 15},  {4, 1, 1, 20},    {5, 3, 33, 40}};
+    for (size_t i = 0; i < sizeof shapes / sizeof shapes[0]; i++) {
+        if (!histories(&r, shapes[i], run_peer))
+            return false;
+        if (shapes[i].block_len % 32 == 0 && !histories(&r, shapes[i], run_isal))
+            return false;
+    }
+    return layouts(&r);
+}

@@ -1,0 +1,223 @@
+/*
+ * What the hand-written calls share: the record taken apart, its tests, and the layout in closed form.
+ * Letters are those of include/pbm.h.
+ */
+#ifndef BENCH_ARRAY_H
+#define BENCH_ARRAY_H
+
+#include <stdbool.h>
+#include <stddef.h>
+#include <stdint.h>
+#include <string.h>
+
+#include "pbm.h"
+
+enum { MAX_DISKS = 32 };
+
+struct array {
+    uint32_t n, m, disks;
+    uint32_t block_len, stripes, moves;
+    uint32_t health, out;
+    bool grown; /* every move is made; also before growth, when there is none */
+};
+
+struct stripe {
+    uint32_t number, zone, within, parity;
+};
+
+struct place {
+    struct stripe stripe;
+    uint32_t disk;
+};
+
+static inline uint32_t min(uint32_t x, uint32_t y) { return x < y ? x : y; }
+static inline uint32_t max(uint32_t x, uint32_t y) { return x < y ? y : x; }
+
+/* The number, or 0. What depends on a stripe or block cannot be foretold: the layout below has sums, no branches. */
+static inline uint32_t only_if(bool holds, uint32_t x) { return -(uint32_t)holds & x; }
+
+static inline bool health_is_good(const struct array *a)
+{
+    if (a->health == PBM_HEALTH_OUT)
+        return a->out < a->disks;
+    return a->health <= PBM_HEALTH_LOST && a->out == 0;
+}
+
+static inline bool growth_is_good(uint32_t n, uint64_t m, uint32_t stripes)
+{
+    return m - 1 < 16 && stripes % (n * (n + (uint32_t)m)) == 0;
+}
+
+/* The total is T * n * m / (n + m): t is held against it without the division. */
+static inline bool moves_are_good(struct array *a)
+{
+    if (a->m == 0) {
+        a->grown = true;
+        return a->moves == 0;
+    }
+    if (!growth_is_good(a->n, a->m, a->stripes))
+        return false;
+    uint64_t done = (uint64_t)a->moves * a->disks;
+    uint64_t all = (uint64_t)a->stripes * (a->n * a->m);
+    a->grown = done == all;
+    return done <= all;
+}
+
+static inline bool old_is_good(uint64_t n) { return n - 3 < 14; }
+static inline bool block_is_good(uint64_t len) { return len - 1 < 4096; }
+static inline bool stripes_are_good(uint64_t stripes) { return stripes - 1 < 1048576; }
+
+/* The record, or refusal 1. */
+static inline uint8_t array_open(struct array *a, const uint8_t *record, size_t record_len)
+{
+    if (record_len != PBM_RECORD_LEN)
+        return PBM_RECORD;
+    uint16_t block_len, reserved;
+    memcpy(&block_len, record + 4, 2);
+    memcpy(&reserved, record + 6, 2);
+    memcpy(&a->stripes, record + 8, 4);
+    memcpy(&a->moves, record + 12, 4);
+    a->n = record[0];
+    a->m = record[1];
+    a->disks = a->n + a->m;
+    a->health = record[2];
+    a->out = record[3];
+    a->block_len = block_len;
+    bool good = old_is_good(a->n) && block_is_good(block_len) && reserved == 0 && stripes_are_good(a->stripes) &&
+                moves_are_good(a) && health_is_good(a);
+    return good ? PBM_DONE : PBM_RECORD;
+}
+
+/* The same for a call that the loss of the array refuses. */
+static inline uint8_t array_open_kept(struct array *a, const uint8_t *record, size_t record_len)
+{
+    uint8_t refused = array_open(a, record, record_len);
+    if (refused)
+        return refused;
+    return a->health == PBM_HEALTH_LOST ? PBM_LOST : PBM_DONE;
+}
+
+static inline size_t disk_len(const struct array *a) { return (size_t)a->stripes * a->block_len; }
+static inline size_t images_size(const struct array *a) { return a->disks * disk_len(a); }
+static inline uint32_t old_blocks(const struct array *a) { return a->stripes * (a->n - 1); }
+
+static inline uint32_t capacity(const struct array *a)
+{
+    return old_blocks(a) + (a->grown ? a->stripes * a->m : 0);
+}
+
+static inline bool is_out(const struct array *a, uint32_t disk)
+{
+    return a->health == PBM_HEALTH_OUT && a->out == disk;
+}
+
+/* Tests of a call that reaches one block: read, view and write. */
+static inline uint8_t array_reach(struct array *a, const uint8_t *record, size_t record_len, size_t images_len,
+                                  uint64_t block, size_t len)
+{
+    uint8_t refused = array_open_kept(a, record, record_len);
+    if (refused)
+        return refused;
+    if (images_len != images_size(a))
+        return PBM_IMAGES;
+    if (block >= capacity(a))
+        return PBM_PAST_THE_END;
+    return len == a->block_len ? PBM_DONE : PBM_BLOCK_LENGTH;
+}
+
+static inline uint8_t array_reach_disk(struct array *a, const uint8_t *record, size_t record_len, size_t images_len,
+                                       uint64_t disk)
+{
+    uint8_t refused = array_open_kept(a, record, record_len);
+    if (refused)
+        return refused;
+    if (images_len != images_size(a))
+        return PBM_IMAGES;
+    return a->health == PBM_HEALTH_OUT && a->out == disk ? PBM_DONE : PBM_DISK;
+}
+
+static inline struct stripe stripe_at(const struct array *a, uint32_t number)
+{
+    return (struct stripe){number, number / a->disks, number % a->disks, number % a->n};
+}
+
+/* The disk with lag i behind the parity, and back: (P - i) mod n is its own inverse. */
+static inline uint32_t behind(const struct array *a, struct stripe x, uint32_t i)
+{
+    return x.parity - i + only_if(x.parity < i, a->n);
+}
+
+/* Is the move of this lag, which goes to disk s + lag, one of the growth's, and made? */
+static inline bool is_moved(const struct array *a, struct stripe x, uint32_t lag)
+{
+    uint32_t nth = x.within + lag - a->n; /* of the new disks; to an old one goes no move, and this wraps */
+    return (nth < a->m) & (a->grown | ((x.zone * a->m + nth) * a->n + lag < a->moves));
+}
+
+static inline uint32_t disk_now(const struct array *a, struct stripe x, uint32_t disk)
+{
+    uint32_t lag = behind(a, x, disk);
+    return disk + only_if(is_moved(a, x, lag), x.within + lag - disk);
+}
+
+/*
+ * The blanks of a stripe once all moves are made, rising: four runs of disks, some of them empty. The old disks that were
+ * left are those of lag n - s up to n + m - s, around the ring of old disks; new disks below s and from s + n on got
+ * nothing.
+ */
+struct run {
+    uint32_t first, end;
+};
+
+static inline void blank_runs(const struct array *a, struct stripe x, struct run runs[4])
+{
+    uint32_t n = a->n, s = x.within, next = x.parity + 1;
+    uint32_t lo = n - min(s, n), hi = a->disks - max(s, a->m);
+    uint32_t split = min(max(next, lo), hi); /* lags below are on disks up to the parity's, the others behind it */
+    runs[0] = (struct run){next - split, next - lo};
+    runs[1] = (struct run){next + n - hi, next + n - split};
+    runs[2] = (struct run){n, max(s, n)};
+    runs[3] = (struct run){n + min(s, a->m), a->disks};
+}
+
+static inline uint32_t nth_blank(const struct array *a, struct stripe x, uint32_t k)
+{
+    struct run runs[4];
+    blank_runs(a, x, runs);
+    uint32_t disk = runs[0].first + k;
+    for (uint32_t i = 0, seen = 0; i < 3; i++) {
+        seen += runs[i].end - runs[i].first;
+        disk += only_if(k >= seen, runs[i + 1].first - runs[i].end);
+    }
+    return disk;
+}
+
+static inline uint32_t blanks_below(const struct array *a, struct stripe x, uint32_t disk)
+{
+    struct run runs[4];
+    blank_runs(a, x, runs);
+    uint32_t count = 0;
+    for (int i = 0; i < 4; i++)
+        count += min(max(disk, runs[i].first), runs[i].end) - runs[i].first;
+    return count;
+}
+
+/* Where a block below the capacity stands. */
+static inline struct place locate(const struct array *a, uint32_t block)
+{
+    uint32_t old = old_blocks(a);
+    if (block >= old) {
+        struct stripe x = stripe_at(a, (block - old) / a->m);
+        return (struct place){x, nth_blank(a, x, (block - old) % a->m)};
+    }
+    struct stripe x = stripe_at(a, block / (a->n - 1));
+    uint32_t up = a->n - 1 - block % (a->n - 1);
+    return (struct place){x, disk_now(a, x, up - (x.parity >= up))};
+}
+
+static inline size_t offset_of(const struct array *a, uint32_t stripe, uint32_t disk)
+{
+    return ((size_t)disk * a->stripes + stripe) * a->block_len;
+}
+
+#endif

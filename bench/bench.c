@@ -1,0 +1,81 @@
+/* The speed of the library against its peers, as ratios of times measured in turn in one run. Prints a Markdown report. */
+#include <inttypes.h>
+#include <stdio.h>
+#include <stdlib.h>
+#include <string.h>
+
+#include "agree.h"
+#include "cases.h"
+
+static const size_t IN_CACHE = 1048576;
+static const size_t OUT_OF_CACHE = (size_t)1 << 30;
+static const uint32_t SHORT_BLOCK = 32; /* the shortest that ISA-L takes */
+static const size_t OUT_OF_CACHE_QUICK = (size_t)1 << 26;
+
+static struct report report;
+
+static const char notes[] =
+    "A ratio is the peer's time by ours, for the same calls: 2 means that we have twice the peer's speed, 0.5 half of it.\n"
+    "The contestants take turns, round by round; given are the median over the rounds, its quartiles, and our own median\n"
+    "time of one call (or move, or stripe). Time is processor time of the thread. Before timing, all calls of the peers were\n"
+    "compared with the library's, byte for byte, refusals too; after each case that writes, xor_check found every parity\n"
+    "right.\n"
+    "\n"
+    "- *C* is bench/peer.c: the same calls with the same tests, written in C by hand. *ISA-L* is the same with xor_gen for\n"
+    "  the sums. *memcpy alone* copies from the same places, and asks nothing; *xor_check alone* reads all stripes, and\n"
+    "  writes nothing. *restripe* puts every block to its place in the layout of n + m disks, parities by xor_gen,\n"
+    "  in place, through a buffer of one stripe; *out of place* it writes a second image, which spares it the buffer and all\n"
+    "  care of order, and takes twice the disks.\n"
+    "- Arrays stand in the middle of their growth, t = half, unless another state is given; a disk that is out is disk 1.\n"
+    "- Buffers are aligned to 4096 bytes and touched before, with no wish for huge pages; all contestants share them.\n"
+    "- *Out of cache*: each contestant goes once through all blocks of the images, in one random order; they begin at\n"
+    "  different points of it. 5 + 3 at B = 64 has 512 MiB at most, by the limit of T.\n"
+    "- *In cache*: images of about 1 MiB, visited over and over. 16 + 16 at B = 4096 has 64 MiB at least: there 8 random\n"
+    "  stripes, 1 MiB together, are visited, and what takes the whole array, growth and rebuild, is not measured.\n"
+    "- Targets are set for B = 4096. locate and owner read the record alone.\n"
+    "- view returns a reference and is not exported to C. A read of a block of 32 bytes makes the same tests and finds the\n"
+    "  same place; it also copies 32 bytes, which view does not. It is given against C's read of the same and C's view.\n";
+
+static void run_all(bool quick, uint64_t seed)
+{
+    const uint32_t shapes[2][2] = {{5, 3}, {16, 16}}, blocks[2] = {4096, 64};
+    const struct settings set = quick ? (struct settings){5, 1000000} : (struct settings){15, 10000000};
+    for (int in_cache = 0; in_cache < 2; in_cache++)
+        for (size_t h = 0; h < 2; h++)
+            for (size_t b = 0; b < 2; b++) {
+                size_t len = in_cache ? IN_CACHE : quick ? OUT_OF_CACHE_QUICK : OUT_OF_CACHE;
+                static struct stage s;
+                stage_open(&s, (struct plan){shapes[h][0], shapes[h][1], blocks[b], len, in_cache}, seed);
+                cases_run(&s, set, &report);
+                stage_close(&s);
+            }
+    for (size_t h = 0; h < 2; h++) {
+        static struct stage s;
+        stage_open(&s, (struct plan){shapes[h][0], shapes[h][1], SHORT_BLOCK, IN_CACHE, true}, seed);
+        cases_view(&s, set, &report);
+        stage_close(&s);
+    }
+}
+
+static void print_notes(bool quick, uint64_t seed)
+{
+    printf("- seed: %" PRIu64 "\n\n", seed);
+    if (quick)
+        printf("**A shortened run, for trying out: \"out of cache\" is not, and the figures are rough.**\n\n");
+    fputs(notes, stdout);
+}
+
+int main(int argc, char **argv)
+{
+    bool quick = argc > 1 && strcmp(argv[1], "quick") == 0;
+    const char *wish = getenv("SEED");
+    uint64_t seed = wish ? strtoull(wish, NULL, 0) : 20131;
+    must(peers_agree(seed), "a peer and the library differ");
+    run_all(quick, seed);
+    print_notes(quick, seed);
+    printf("\n## Out of cache\n\n");
+    report_print(&report, false);
+    printf("\n## In cache\n\n");
+    report_print(&report, true);
+    return 0;
+}

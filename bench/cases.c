@@ -1,0 +1,200 @@
+/* The cases: who plays, on which record, from which list, and what must hold behind it. */
+#include "cases.h"
+
+#include <stdlib.h>
+
+#include "isal.h"
+#include "pbm.h"
+#include "peer.h"
+#include "turns.h"
+
+static void lend(struct stage *s, const uint8_t record[16]) { memcpy(s->record, record, 16); }
+
+static void parity_must_hold(const struct stage *s)
+{
+    must(isal_check(s->images, s->disks, s->stripes, s->plan.block_len), "a parity does not hold after a case");
+}
+
+/* The contestant, held to a target at B = 4096: out of cache, and in cache. */
+static struct contestant held(struct contestant c, double out, double in)
+{
+    c.target_out = out;
+    c.target_in = in;
+    return c;
+}
+
+static struct contestant reader(const char *name, read_call *call, struct list l)
+{
+    return (struct contestant){.name = name, .turn = reads, .list = l, .read = call};
+}
+
+static struct contestant writer(const char *name, write_call *call, struct list l)
+{
+    return (struct contestant){.name = name, .turn = writes, .list = l, .write = call};
+}
+
+static struct contestant rebuilder(const char *name, disk_call *call, struct list l)
+{
+    return (struct contestant){.name = name, .turn = rebuilds, .list = l, .on_disk = call};
+}
+
+static struct contestant grower(const char *name, disk_call *grow, advance_call *advance, struct list l)
+{
+    return (struct contestant){.name = name, .turn = growths, .list = l, .on_disk = grow, .advance = advance};
+}
+
+static struct contestant locator(const char *name, locate_call *call, struct list l)
+{
+    return (struct contestant){.name = name, .turn = locates, .list = l, .locate = call};
+}
+
+static struct contestant owner(const char *name, owner_call *call, struct list l)
+{
+    return (struct contestant){.name = name, .turn = owners, .list = l, .owner = call};
+}
+
+static void reading(struct stage *s, struct settings set, struct report *report)
+{
+    struct list l = list_blocks(s), places = list_place_numbers(s, l);
+    struct series x = {"read", {reader("library", pbm_read, l), held(reader("C", peer_read, l), 0.95, 0.6),
+                                {.name = "memcpy alone", .turn = copies, .list = places}}, 3, 1};
+    lend(s, s->half);
+    series_run(&x, s, set, report);
+    free(l.items), free(places.items);
+}
+
+/*
+ * View cannot be called from C. A read of a short block makes the same tests, finds the same place, and copies 32 bytes,
+ * which view does not: so it stands for view, against C's read of the same and against C's view.
+ */
+void cases_view(struct stage *s, struct settings set, struct report *report)
+{
+    struct list l = list_blocks(s);
+    struct series x = {"view, as a read of 32 bytes",
+                       {reader("library", pbm_read, l), reader("C, read", peer_read, l),
+                        {.name = "C, view", .turn = views, .list = l, .view = peer_view}}, 3, 1};
+    lend(s, s->half);
+    series_run(&x, s, set, report);
+    free(l.items);
+}
+
+static void reading_degraded(struct stage *s, struct settings set, struct report *report)
+{
+    struct list l = list_on_disk_out(s);
+    struct series x = {"degraded read", {reader("library", pbm_read, l), held(reader("ISA-L", isal_read, l), 0.9, 0.5),
+                                         reader("C", peer_read, l)}, 3, 1};
+    lend(s, s->degraded);
+    series_run(&x, s, set, report);
+    free(l.items);
+}
+
+static void writing(struct stage *s, struct settings set, struct report *report)
+{
+    struct list l = list_blocks(s);
+    struct series x = {"write", {writer("library", pbm_write, l), held(writer("C", peer_write, l), 0.95, 0.8)}, 2, 1};
+    lend(s, s->half);
+    series_run(&x, s, set, report);
+    parity_must_hold(s);
+    free(l.items);
+}
+
+static void writing_degraded(struct stage *s, struct settings set, struct report *report)
+{
+    struct list l = list_on_disk_out(s);
+    struct series x = {"write, its disk out",
+                       {writer("library", pbm_write, l), held(writer("C", peer_write, l), 0.8, 0.6)}, 2, 1};
+    lend(s, s->degraded);
+    series_run(&x, s, set, report);
+    must(pbm_rebuild(s->record, 16, s->images, s->images_len, OUT_DISK) == 0, "rebuild");
+    parity_must_hold(s);
+    free(l.items);
+}
+
+static void rebuilding(struct stage *s, struct settings set, struct report *report)
+{
+    uint32_t disk = OUT_DISK;
+    struct list l = {&disk, 1};
+    struct series x = {"rebuild, per stripe",
+                       {rebuilder("library", pbm_rebuild, l), held(rebuilder("ISA-L", isal_rebuild, l), 0.9, 0.5),
+                        rebuilder("C", peer_rebuild, l), {.name = "xor_check alone", .turn = checks, .list = l}},
+                       4, s->stripes};
+    lend(s, s->degraded);
+    series_run(&x, s, set, report);
+    parity_must_hold(s);
+}
+
+static void growing(struct stage *s, struct settings set, struct report *report, const char *name, uint32_t step)
+{
+    struct list l = {&step, 1};
+    struct series x = {name,
+                       {grower("library", pbm_grow, pbm_advance, l),
+                        held(grower("C", peer_grow, peer_advance, l), 0.95, 0.8),
+                        held((struct contestant){.name = "restripe", .turn = restripes_in_place, .list = l}, 3, 3),
+                        {.name = "restripe, out of place", .turn = restripes_apart, .list = l}},
+                       4, s->total};
+    series_run(&x, s, set, report);
+    for (size_t i = 0; i < 2; i++) { /* one more growth of either, to look at */
+        growths(s, &x.who[i], &step, 1);
+        must(memcmp(s->record, s->grown, 16) == 0, "a growth did not come to its end");
+        parity_must_hold(s);
+    }
+    for (int in_place = 0; in_place < 2; in_place++) {
+        struct restripe r = restripe_of(s, in_place);
+        memcpy(s->images, s->home, s->home_len);
+        restripe(&r);
+        must(restripe_is_right(&r, s->home), "a restripe is wrong");
+    }
+}
+
+/* No target is set for old and new blocks mixed. */
+static void locating(struct stage *s, struct settings set, struct report *report, const char *name,
+                     const uint8_t record[16], uint32_t first, uint32_t end)
+{
+    struct list l = list_some_blocks(s, first, end);
+    double target = record == s->grown && first == 0 ? 0 : 1;
+    struct series x = {name, {locator("library", pbm_locate, l), held(locator("C", peer_locate, l), target, target)}, 2, 1};
+    lend(s, record);
+    series_run(&x, s, set, report);
+    free(l.items);
+}
+
+static void owning(struct stage *s, struct settings set, struct report *report, const char *name,
+                   const uint8_t record[16])
+{
+    struct list l = list_some_places(s);
+    struct series x = {name, {owner("library", pbm_owner, l), held(owner("C", peer_owner, l), 1, 1)}, 2, 1};
+    lend(s, record);
+    series_run(&x, s, set, report);
+    free(l.items);
+}
+
+/* These read the record alone: no image is touched, whatever its size. */
+static void asking(struct stage *s, struct settings set, struct report *report)
+{
+    bool in_cache = s->plan.in_cache;
+    uint32_t old = s->stripes * (s->plan.n - 1), all = s->stripes * (s->disks - 1);
+    s->plan.in_cache = true; /* repeated as any small case */
+    size_t first = report->count;
+    locating(s, set, report, "locate, old block, half grown", s->half, 0, old);
+    locating(s, set, report, "locate, new block, grown", s->grown, old, all);
+    locating(s, set, report, "locate, any block, grown", s->grown, 0, all);
+    owning(s, set, report, "owner, half grown", s->half);
+    owning(s, set, report, "owner, grown", s->grown);
+    s->plan.in_cache = in_cache;
+    for (; first < report->count; first++)
+        report->rows[first].plan.in_cache = in_cache;
+}
+
+void cases_run(struct stage *s, struct settings set, struct report *report)
+{
+    reading(s, set, report);
+    reading_degraded(s, set, report);
+    writing(s, set, report);
+    writing_degraded(s, set, report);
+    if (!s->few_stripes) {
+        rebuilding(s, set, report);
+        growing(s, set, report, "grow + advance at once, per move", s->total);
+        growing(s, set, report, "grow + advance by 64, per move", 64);
+    }
+    asking(s, set, report);
+}

@@ -1,0 +1,58 @@
+/* The calls whose work is a sum, on ISA-L. Tests and layout are those of the hand-written peer. */
+#include "isal.h"
+
+#include <isa-l/raid.h>
+
+#include "array.h"
+
+/* ISA-L takes sources and result in one list of pointers to what may be written, and writes the last alone. */
+static void sum_others(const struct array *a, const uint8_t *images, uint32_t stripe, uint32_t but, uint8_t *into)
+{
+    void *vectors[MAX_DISKS];
+    int count = 0;
+    for (uint32_t d = 0; d < a->disks; d++)
+        if (d != but)
+            vectors[count++] = (void *)(uintptr_t)(images + offset_of(a, stripe, d));
+    vectors[count++] = into;
+    xor_gen(count, (int)a->block_len, vectors);
+}
+
+uint8_t isal_read(const uint8_t *record, size_t record_len, const uint8_t *images, size_t images_len, uint64_t block,
+                  uint8_t *into, size_t into_len)
+{
+    struct array a;
+    uint8_t refused = array_reach(&a, record, record_len, images_len, block, into_len);
+    if (refused)
+        return refused;
+    struct place q = locate(&a, (uint32_t)block);
+    if (is_out(&a, q.disk))
+        sum_others(&a, images, q.stripe.number, q.disk, into);
+    else
+        memcpy(into, images + offset_of(&a, q.stripe.number, q.disk), a.block_len);
+    return PBM_DONE;
+}
+
+uint8_t isal_rebuild(uint8_t *record, size_t record_len, uint8_t *images, size_t images_len, uint64_t disk)
+{
+    struct array a;
+    uint8_t refused = array_reach_disk(&a, record, record_len, images_len, disk);
+    if (refused)
+        return refused;
+    for (uint32_t s = 0; s < a.stripes; s++)
+        sum_others(&a, images, s, a.out, images + offset_of(&a, s, a.out));
+    record[2] = PBM_HEALTH_WHOLE;
+    record[3] = 0;
+    return PBM_DONE;
+}
+
+bool isal_check(const uint8_t *images, size_t disks, size_t stripes, size_t block_len)
+{
+    void *vectors[MAX_DISKS];
+    int failed = 0;
+    for (size_t s = 0; s < stripes; s++) {
+        for (size_t d = 0; d < disks; d++)
+            vectors[d] = (void *)(uintptr_t)(images + (d * stripes + s) * block_len);
+        failed |= xor_check((int)disks, (int)block_len, vectors);
+    }
+    return failed == 0;
+}

@@ -1,0 +1,17 @@
+/* Degraded read and rebuild with Intel's ISA-L (xor_gen) for the sums; every stripe's parity checked by xor_check. */
+#ifndef BENCH_ISAL_H
+#define BENCH_ISAL_H
+
+#include <stdbool.h>
+#include <stddef.h>
+#include <stdint.h>
+
+/* As pbm_read and pbm_rebuild; images and `into` begin at a multiple of 32 bytes, and so does every block. */
+uint8_t isal_read(const uint8_t *record, size_t record_len, const uint8_t *images, size_t images_len, uint64_t block,
+                  uint8_t *into, size_t into_len);
+uint8_t isal_rebuild(uint8_t *record, size_t record_len, uint8_t *images, size_t images_len, uint64_t disk);
+
+/* Do the places of every stripe xor to zero? */
+bool isal_check(const uint8_t *images, size_t disks, size_t stripes, size_t block_len);
+
+#endif

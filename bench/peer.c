@@ -1,0 +1,235 @@
+/* The hand-written calls. Plain loops, which the compiler makes vectors of; memcpy and memset for copies and zeroes. */
+#include "peer.h"
+
+#include "array.h"
+#include "sum.h"
+
+uint8_t peer_format(uint8_t *record, size_t record_len, uint8_t *images, size_t images_len, uint64_t n,
+                    uint64_t block_len, uint64_t stripes)
+{
+    if (record_len != PBM_RECORD_LEN)
+        return PBM_RECORD;
+    if (!old_is_good(n) || !block_is_good(block_len) || !stripes_are_good(stripes))
+        return PBM_GEOMETRY;
+    if (images_len != n * stripes * block_len)
+        return PBM_IMAGES;
+    memset(images, 0, images_len);
+    memset(record, 0, PBM_RECORD_LEN);
+    record[0] = (uint8_t)n;
+    memcpy(record + 4, &(uint16_t){(uint16_t)block_len}, 2);
+    memcpy(record + 8, &(uint32_t){(uint32_t)stripes}, 4);
+    return PBM_DONE;
+}
+
+uint8_t peer_read(const uint8_t *record, size_t record_len, const uint8_t *images, size_t images_len, uint64_t block,
+                  uint8_t *into, size_t into_len)
+{
+    struct array a;
+    uint8_t refused = array_reach(&a, record, record_len, images_len, block, into_len);
+    if (refused)
+        return refused;
+    struct place q = locate(&a, (uint32_t)block);
+    if (is_out(&a, q.disk))
+        sum_others(&a, images, q.stripe.number, q.disk, into);
+    else
+        memcpy(into, images + offset_of(&a, q.stripe.number, q.disk), a.block_len);
+    return PBM_DONE;
+}
+
+uint8_t peer_view(const uint8_t *record, size_t record_len, const uint8_t *images, size_t images_len, uint64_t block,
+                  uint8_t *scratch, size_t scratch_len, const uint8_t **view)
+{
+    struct array a;
+    *view = NULL;
+    uint8_t refused = array_reach(&a, record, record_len, images_len, block, scratch_len);
+    if (refused)
+        return refused;
+    struct place q = locate(&a, (uint32_t)block);
+    if (is_out(&a, q.disk)) {
+        sum_others(&a, images, q.stripe.number, q.disk, scratch);
+        *view = scratch;
+    } else {
+        *view = images + offset_of(&a, q.stripe.number, q.disk);
+    }
+    return PBM_DONE;
+}
+
+/* The parity with the data's disk out needs neither its old value nor the old block: it is the data and all the rest. */
+static void write_around(const struct array *a, uint8_t *images, struct place q, uint32_t parity, const uint8_t *data)
+{
+    const uint8_t *sources[MAX_DISKS];
+    unsigned count = 0;
+    sources[count++] = data;
+    for (uint32_t d = 0; d < a->disks; d++)
+        if (d != q.disk && d != parity)
+            sources[count++] = images + offset_of(a, q.stripe.number, d);
+    sum(images + offset_of(a, q.stripe.number, parity), sources, count, a->block_len);
+}
+
+static void replace(uint8_t *restrict old, uint8_t *restrict parity, const uint8_t *restrict data, size_t len)
+{
+    for (size_t i = 0; i < len; i++) {
+        parity[i] ^= old[i] ^ data[i];
+        old[i] = data[i];
+    }
+}
+
+uint8_t peer_write(const uint8_t *record, size_t record_len, uint8_t *images, size_t images_len, uint64_t block,
+                   const uint8_t *data, size_t data_len)
+{
+    struct array a;
+    uint8_t refused = array_reach(&a, record, record_len, images_len, block, data_len);
+    if (refused)
+        return refused;
+    struct place q = locate(&a, (uint32_t)block);
+    uint32_t parity = disk_now(&a, q.stripe, q.stripe.parity);
+    if (is_out(&a, q.disk)) {
+        write_around(&a, images, q, parity, data);
+        return PBM_DONE;
+    }
+    uint8_t *old = images + offset_of(&a, q.stripe.number, q.disk);
+    if (is_out(&a, parity))
+        memcpy(old, data, a.block_len);
+    else
+        replace(old, images + offset_of(&a, q.stripe.number, parity), data, a.block_len);
+    return PBM_DONE;
+}
+
+uint8_t peer_grow(uint8_t *record, size_t record_len, uint8_t *images, size_t images_len, uint64_t m)
+{
+    struct array a;
+    uint8_t refused = array_open_kept(&a, record, record_len);
+    if (refused)
+        return refused;
+    if (a.health == PBM_HEALTH_OUT)
+        return PBM_DEGRADED;
+    if (a.m != 0)
+        return PBM_GROWN;
+    if (!growth_is_good(a.n, m, a.stripes))
+        return PBM_GEOMETRY;
+    if (images_len != (a.n + m) * disk_len(&a))
+        return PBM_IMAGES;
+    memset(images + a.n * disk_len(&a), 0, m * disk_len(&a));
+    record[1] = (uint8_t)m;
+    return PBM_DONE;
+}
+
+/* The next moves in order: zone, then new disk, then lag. Divides once for the first; the rest are counted on. */
+static void make_moves(const struct array *a, uint8_t *images, uint32_t count)
+{
+    uint32_t lag = a->moves % a->n;
+    uint32_t to = a->n + a->moves / a->n % a->m;
+    uint32_t first = a->moves / a->n / a->m * a->disks; /* stripe of the zone */
+    uint32_t parity = (first + to - lag) % a->n;        /* of the move's stripe, before growth */
+    while (count-- > 0) {
+        uint32_t from = parity >= lag ? parity - lag : parity + a->n - lag;
+        uint8_t *left = images + offset_of(a, first + to - lag, from);
+        memcpy(images + offset_of(a, first + to - lag, to), left, a->block_len);
+        memset(left, 0, a->block_len);
+        lag++;
+        parity = parity == 0 ? a->n - 1 : parity - 1;
+        if (lag < a->n)
+            continue;
+        lag = 0;
+        parity = parity + 1 == a->n ? 0 : parity + 1; /* n lags are a full turn; the next new disk is one stripe on */
+        if (++to < a->disks)
+            continue;
+        to = a->n;
+        first += a->disks;
+        parity = (first + to) % a->n;
+    }
+}
+
+uint8_t peer_advance(uint8_t *record, size_t record_len, uint8_t *images, size_t images_len, uint64_t k,
+                     uint64_t *made)
+{
+    struct array a;
+    *made = 0;
+    uint8_t refused = array_open_kept(&a, record, record_len);
+    if (refused)
+        return refused;
+    if (a.health == PBM_HEALTH_OUT)
+        return PBM_DEGRADED;
+    if (a.grown)
+        return PBM_NOTHING_TO_MOVE;
+    if (images_len != images_size(&a))
+        return PBM_IMAGES;
+    uint32_t left = a.stripes / a.disks * a.n * a.m - a.moves;
+    uint32_t count = k < left ? (uint32_t)k : left;
+    make_moves(&a, images, count);
+    memcpy(record + 12, &(uint32_t){a.moves + count}, 4);
+    *made = count;
+    return PBM_DONE;
+}
+
+uint8_t peer_out(uint8_t *record, size_t record_len, uint64_t disk)
+{
+    struct array a;
+    uint8_t refused = array_open_kept(&a, record, record_len);
+    if (refused)
+        return refused;
+    if (disk >= a.disks || is_out(&a, (uint32_t)disk))
+        return PBM_DISK;
+    bool whole = a.health == PBM_HEALTH_WHOLE;
+    record[2] = whole ? PBM_HEALTH_OUT : PBM_HEALTH_LOST;
+    record[3] = whole ? (uint8_t)disk : 0;
+    return PBM_DONE;
+}
+
+uint8_t peer_rebuild(uint8_t *record, size_t record_len, uint8_t *images, size_t images_len, uint64_t disk)
+{
+    struct array a;
+    uint8_t refused = array_reach_disk(&a, record, record_len, images_len, disk);
+    if (refused)
+        return refused;
+    for (uint32_t s = 0; s < a.stripes; s++)
+        sum_others(&a, images, s, a.out, images + offset_of(&a, s, a.out));
+    record[2] = PBM_HEALTH_WHOLE;
+    record[3] = 0;
+    return PBM_DONE;
+}
+
+uint8_t peer_locate(const uint8_t *record, size_t record_len, uint64_t block, uint64_t *stripe, uint64_t *disk)
+{
+    struct array a;
+    *stripe = *disk = 0;
+    uint8_t refused = array_open(&a, record, record_len);
+    if (refused)
+        return refused;
+    if (block >= capacity(&a))
+        return PBM_PAST_THE_END;
+    struct place q = locate(&a, (uint32_t)block);
+    *stripe = q.stripe.number;
+    *disk = q.disk;
+    return PBM_DONE;
+}
+
+/* The lag of what stands on a disk or can have stood there: an old disk's own, or that of the move to a new one. */
+static uint32_t lag_on(const struct array *a, struct stripe x, uint32_t disk)
+{
+    uint32_t to_new = disk - x.within;
+    return to_new + only_if(disk < a->n, behind(a, x, disk) - to_new);
+}
+
+uint8_t peer_owner(const uint8_t *record, size_t record_len, uint64_t stripe, uint64_t disk, uint64_t *role,
+                   uint64_t *block)
+{
+    struct array a;
+    *role = *block = 0;
+    uint8_t refused = array_open(&a, record, record_len);
+    if (refused)
+        return refused;
+    if (stripe >= a.stripes)
+        return PBM_PAST_THE_END;
+    if (disk >= a.disks)
+        return PBM_DISK;
+    struct stripe x = stripe_at(&a, (uint32_t)stripe);
+    uint32_t e = (uint32_t)disk, lag = lag_on(&a, x, e), home = behind(&a, x, lag);
+    bool taken = (lag < a.n) & (is_moved(&a, x, lag) == (e >= a.n));
+    bool old = taken & (lag != 0), new = !taken & a.grown;
+    uint32_t old_block = x.number * (a.n - 1) + a.n - 1 - home - (home < x.parity);
+    uint32_t new_block = a.grown ? old_blocks(&a) + x.number * a.m + blanks_below(&a, x, e) : 0;
+    *role = only_if(old | new, PBM_DATA) + only_if(taken & !old, PBM_PARITY);
+    *block = only_if(old, old_block) + only_if(new, new_block);
+    return PBM_DONE;
+}

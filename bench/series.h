@@ -1,0 +1,65 @@
+/* Contestants in turn, round by round, each making the same calls; and the report's rows. */
+#ifndef BENCH_SERIES_H
+#define BENCH_SERIES_H
+
+#include <stddef.h>
+#include <stdint.h>
+
+#include "stage.h"
+
+struct contestant;
+
+/* Makes the calls for these items of the contestant's list; returns the time, in ns, of the calls alone. */
+typedef uint64_t turn(struct stage *s, const struct contestant *c, const uint32_t *items, size_t count);
+
+typedef uint8_t read_call(const uint8_t *, size_t, const uint8_t *, size_t, uint64_t, uint8_t *, size_t);
+typedef uint8_t view_call(const uint8_t *, size_t, const uint8_t *, size_t, uint64_t, uint8_t *, size_t, const uint8_t **);
+typedef uint8_t write_call(const uint8_t *, size_t, uint8_t *, size_t, uint64_t, const uint8_t *, size_t);
+typedef uint8_t disk_call(uint8_t *, size_t, uint8_t *, size_t, uint64_t);
+typedef uint8_t advance_call(uint8_t *, size_t, uint8_t *, size_t, uint64_t, uint64_t *);
+typedef uint8_t locate_call(const uint8_t *, size_t, uint64_t, uint64_t *, uint64_t *);
+typedef uint8_t owner_call(const uint8_t *, size_t, uint64_t, uint64_t, uint64_t *, uint64_t *);
+
+struct contestant {
+    const char *name;
+    turn *turn;
+    struct list list;
+    read_call *read;
+    view_call *view;
+    write_call *write;
+    disk_call *on_disk; /* grow or rebuild */
+    advance_call *advance;
+    locate_call *locate;
+    owner_call *owner;
+    double target_out, target_in; /* least ratio at B = 4096, out of cache and in cache; 0: none is set */
+};
+
+/* The first contestant is the library, the others are held against it. */
+struct series {
+    const char *name;
+    struct contestant who[4];
+    size_t count;
+    double units; /* per item, to give the time of one */
+};
+
+struct settings {
+    size_t rounds;
+    uint64_t turn_ns; /* least length of a turn in cache */
+};
+
+struct row {
+    const char *call, *peer;
+    struct plan plan;
+    size_t images_len;
+    double low, median, high, ns, target;
+};
+
+struct report {
+    struct row rows[256];
+    size_t count;
+};
+
+void series_run(const struct series *x, struct stage *s, struct settings set, struct report *report);
+void report_print(const struct report *report, bool in_cache);
+
+#endif

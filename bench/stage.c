@@ -1,0 +1,168 @@
+/* Arrays for the cases: buffers on whole pages, touched; random contents, written by the library; lists in random order. */
+#include "stage.h"
+
+#include <stdio.h>
+#include <stdlib.h>
+
+#include "isal.h"
+#include "pbm.h"
+
+enum { MAX_STRIPES = 1048576, SOME = 65536 };
+
+void must(bool holds, const char *what)
+{
+    if (holds)
+        return;
+    fprintf(stderr, "bench: %s\n", what);
+    exit(1);
+}
+
+static void *buffer(size_t len)
+{
+    size_t pages = (len + 4095) / 4096 * 4096;
+    void *bytes = aligned_alloc(4096, pages);
+    must(bytes != NULL, "out of memory");
+    memset(bytes, 1, pages);
+    return bytes;
+}
+
+/* The most stripes that fit, in the unit that a growth asks for. */
+static uint32_t stripes_for(struct plan p)
+{
+    uint32_t disks = p.n + p.m, unit = p.n * disks;
+    size_t most = p.images_len / ((size_t)disks * p.block_len);
+    if (most > MAX_STRIPES)
+        most = MAX_STRIPES;
+    size_t units = (most + (p.in_cache ? unit / 2 : 0)) / unit; /* a small array is rounded, a big one cut */
+    return (uint32_t)(units > 0 ? units : 1) * unit;
+}
+
+static void fill_home(struct stage *s)
+{
+    must(pbm_format(s->formatted, 16, s->home, s->home_len, s->plan.n, s->plan.block_len, s->stripes) == 0, "format");
+    for (uint64_t b = 0; b < (uint64_t)s->stripes * (s->plan.n - 1); b++) {
+        random_fill(&s->random, s->into, s->plan.block_len);
+        must(pbm_write(s->formatted, 16, s->home, s->home_len, b, s->into, s->plan.block_len) == 0, "write");
+    }
+    must(isal_check(s->home, s->plan.n, s->stripes, s->plan.block_len), "a parity does not hold before growth");
+}
+
+void stage_half(struct stage *s)
+{
+    uint64_t made;
+    memcpy(s->images, s->home, s->home_len);
+    memcpy(s->half, s->formatted, 16);
+    must(pbm_grow(s->half, 16, s->images, s->images_len, s->plan.m) == 0, "grow");
+    must(pbm_advance(s->half, 16, s->images, s->images_len, s->total / 2, &made) == 0, "advance");
+    memcpy(s->degraded, s->half, 16);
+    must(pbm_out(s->degraded, 16, OUT_DISK) == 0, "out");
+    memcpy(s->grown, s->half, 16);
+    memcpy(s->grown + 12, &s->total, 4);
+}
+
+static bool block_on_disk_out(const struct stage *s, uint32_t block)
+{
+    uint64_t stripe, disk;
+    must(pbm_locate(s->half, 16, block, &stripe, &disk) == 0, "locate");
+    return disk == OUT_DISK;
+}
+
+/* Random stripes, of 1 MiB together, each with a block on the disk that is out. */
+static void choose_stripes(struct stage *s)
+{
+    uint32_t data = s->plan.n - 1;
+    size_t wanted = s->plan.images_len / ((size_t)s->disks * s->plan.block_len);
+    while (s->visited_count < wanted && s->visited_count < 64) {
+        uint32_t stripe = (uint32_t)random_below(&s->random, s->stripes);
+        bool fit = false, taken = false;
+        for (uint32_t b = 0; b < data; b++)
+            fit |= block_on_disk_out(s, stripe * data + b);
+        for (uint32_t i = 0; i < s->visited_count; i++)
+            taken |= s->visited[i] == stripe;
+        if (fit && !taken)
+            s->visited[s->visited_count++] = stripe;
+    }
+}
+
+void stage_open(struct stage *s, struct plan plan, uint64_t seed)
+{
+    *s = (struct stage){.plan = plan, .disks = plan.n + plan.m, .stripes = stripes_for(plan), .random = {seed}};
+    size_t disk_len = (size_t)s->stripes * plan.block_len;
+    s->total = s->stripes / s->disks * plan.n * plan.m;
+    s->home_len = plan.n * disk_len;
+    s->images_len = s->disks * disk_len;
+    s->home = buffer(s->home_len);
+    s->images = buffer(s->images_len);
+    s->spare = buffer(s->images_len);
+    s->into = buffer(plan.block_len);
+    s->data = buffer((size_t)DATA_BLOCKS * plan.block_len);
+    random_fill(&s->random, s->data, (size_t)DATA_BLOCKS * plan.block_len);
+    fill_home(s);
+    stage_half(s);
+    s->few_stripes = plan.in_cache && s->images_len > 2 * plan.images_len;
+    if (s->few_stripes)
+        choose_stripes(s);
+}
+
+void stage_close(struct stage *s)
+{
+    free(s->home), free(s->images), free(s->spare), free(s->into), free(s->data);
+}
+
+static struct list list_of(size_t most)
+{
+    struct list l = {malloc(most * sizeof(uint32_t)), 0};
+    must(l.items != NULL, "out of memory");
+    return l;
+}
+
+struct list list_blocks(struct stage *s)
+{
+    uint32_t data = s->plan.n - 1, stripes = s->few_stripes ? s->visited_count : s->stripes;
+    struct list l = list_of((size_t)stripes * data);
+    for (uint32_t i = 0; i < stripes; i++)
+        for (uint32_t b = 0; b < data; b++)
+            l.items[l.count++] = (s->few_stripes ? s->visited[i] : i) * data + b;
+    random_shuffle(&s->random, l.items, l.count);
+    return l;
+}
+
+struct list list_on_disk_out(struct stage *s)
+{
+    struct list l = list_blocks(s);
+    size_t kept = 0;
+    for (size_t i = 0; i < l.count; i++)
+        if (block_on_disk_out(s, l.items[i]))
+            l.items[kept++] = l.items[i];
+    l.count = kept;
+    return l;
+}
+
+struct list list_some_blocks(struct stage *s, uint32_t first, uint32_t end)
+{
+    struct list l = list_of(SOME);
+    while (l.count < SOME)
+        l.items[l.count++] = first + (uint32_t)random_below(&s->random, end - first);
+    return l;
+}
+
+struct list list_some_places(struct stage *s)
+{
+    struct list l = list_of(SOME);
+    while (l.count < SOME) {
+        uint32_t stripe = (uint32_t)random_below(&s->random, s->stripes);
+        l.items[l.count++] = 32 * stripe + (uint32_t)random_below(&s->random, s->disks);
+    }
+    return l;
+}
+
+struct list list_place_numbers(const struct stage *s, struct list blocks)
+{
+    struct list l = list_of(blocks.count);
+    for (; l.count < blocks.count; l.count++) {
+        uint64_t stripe, disk;
+        must(pbm_locate(s->half, 16, blocks.items[l.count], &stripe, &disk) == 0, "locate");
+        l.items[l.count] = (uint32_t)(disk * s->stripes + stripe);
+    }
+    return l;
+}

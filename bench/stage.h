@@ -1,0 +1,56 @@
+/* One array on which a set of cases is played: its images before growth and in the middle of it, its records, its lists. */
+#ifndef BENCH_STAGE_H
+#define BENCH_STAGE_H
+
+#include <stdbool.h>
+#include <stddef.h>
+#include <stdint.h>
+
+#include "random.h"
+
+struct plan {
+    uint32_t n, m, block_len;
+    size_t images_len; /* wished for: the array has as many stripes as fit it and are lawful, or the fewest lawful */
+    bool in_cache;
+};
+
+/* Numbers in random order: blocks, or places as 32 * S + d. */
+struct list {
+    uint32_t *items;
+    size_t count;
+};
+
+struct stage {
+    struct plan plan;
+    uint32_t disks, stripes, total;
+    uint8_t *home;   /* n disks, before growth */
+    uint8_t *images; /* n + m disks */
+    uint8_t *spare;  /* n + m disks, for the restripe */
+    size_t home_len, images_len;
+    uint8_t formatted[16], half[16], degraded[16], grown[16]; /* records; in `degraded` OUT_DISK is out */
+    uint8_t record[16];                                       /* the one lent in the case that is played */
+    uint8_t *into, *data;                                     /* one block; DATA_BLOCKS blocks */
+    bool few_stripes; /* the images are above the wish: only these stripes are visited, which are about it */
+    uint32_t visited[64], visited_count;
+    struct random random;
+};
+
+enum { OUT_DISK = 1, DATA_BLOCKS = 16 };
+
+void stage_open(struct stage *s, struct plan plan, uint64_t seed);
+void stage_close(struct stage *s);
+
+/* The images again as they were in the middle of the growth. */
+void stage_half(struct stage *s);
+
+struct list list_blocks(struct stage *s);     /* all blocks of before the growth */
+struct list list_on_disk_out(struct stage *s); /* those that stand on OUT_DISK */
+struct list list_some_blocks(struct stage *s, uint32_t first, uint32_t end);
+struct list list_some_places(struct stage *s);
+/* The number of the place on which each block stands: d * T + S. */
+struct list list_place_numbers(const struct stage *s, struct list blocks);
+
+/* Ends the run if what must hold does not. */
+void must(bool holds, const char *what);
+
+#endif

@@ -1,0 +1,62 @@
+/* The xor of several blocks: up to eight sources a pass, so that the sum is stored but once for every eight. */
+#ifndef BENCH_SUM_H
+#define BENCH_SUM_H
+
+#include "array.h"
+
+enum { PASS = 8 };
+
+/*
+ * One pass; begun with nothing or with what the passes before left. `count` is a constant where this is called. The sources
+ * are named, not kept in an array: that one would be written by halves and read whole, which waits for the stores.
+ */
+__attribute__((always_inline)) static inline void pass(uint8_t *restrict into, const uint8_t *const *sources,
+                                                       unsigned count, bool go_on, size_t len)
+{
+    const uint8_t *a = sources[0], *b = count > 1 ? sources[1] : a, *c = count > 2 ? sources[2] : a;
+    const uint8_t *d = count > 3 ? sources[3] : a, *e = count > 4 ? sources[4] : a, *f = count > 5 ? sources[5] : a;
+    const uint8_t *g = count > 6 ? sources[6] : a, *h = count > 7 ? sources[7] : a;
+    for (size_t i = 0; i < len; i++) {
+        uint8_t x = go_on ? into[i] ^ a[i] : a[i];
+        x ^= (count > 1 ? b[i] : 0) ^ (count > 2 ? c[i] : 0) ^ (count > 3 ? d[i] : 0) ^ (count > 4 ? e[i] : 0);
+        x ^= (count > 5 ? f[i] : 0) ^ (count > 6 ? g[i] : 0) ^ (count > 7 ? h[i] : 0);
+        into[i] = x;
+    }
+}
+
+__attribute__((always_inline)) static inline void some(uint8_t *restrict into, const uint8_t *const *sources,
+                                                       unsigned count, bool go_on, size_t len)
+{
+    switch (count) {
+    case 1: pass(into, sources, 1, go_on, len); break;
+    case 2: pass(into, sources, 2, go_on, len); break;
+    case 3: pass(into, sources, 3, go_on, len); break;
+    case 4: pass(into, sources, 4, go_on, len); break;
+    case 5: pass(into, sources, 5, go_on, len); break;
+    case 6: pass(into, sources, 6, go_on, len); break;
+    case 7: pass(into, sources, 7, go_on, len); break;
+    default: pass(into, sources, PASS, go_on, len);
+    }
+}
+
+/* Sets into to the xor of the sources, of which none overlaps it. */
+static inline void sum(uint8_t *restrict into, const uint8_t *const *sources, unsigned count, size_t len)
+{
+    some(into, sources, count < PASS ? count : PASS, false, len);
+    for (unsigned i = PASS; i < count; i += PASS)
+        some(into, sources + i, count - i < PASS ? count - i : PASS, true, len);
+}
+
+/* Sets into to the xor of the places of a stripe on all disks but one. */
+static inline void sum_others(const struct array *a, const uint8_t *images, uint32_t stripe, uint32_t but,
+                              uint8_t *into)
+{
+    const uint8_t *sources[MAX_DISKS];
+    unsigned count = 0;
+    for (uint32_t d = 0; d < a->disks; d++)
+        if (d != but)
+            sources[count++] = images + offset_of(a, stripe, d);
+    sum(into, sources, count, a->block_len);
+}
+
+#endif

@@ -1,0 +1,159 @@
+/* The turns: each makes its calls in one loop; what the calls answer goes to a volatile sink. */
+#include "turns.h"
+
+#include "clock.h"
+#include "isal.h"
+
+static volatile uint64_t sink;
+
+/* A refused call would be a fast one. */
+static uint64_t since(uint64_t start, uint8_t refused, uint64_t seen)
+{
+    uint64_t ns = now_ns() - start;
+    must(refused == 0, "a timed call was refused");
+    sink += seen;
+    return ns;
+}
+
+uint64_t reads(struct stage *s, const struct contestant *c, const uint32_t *items, size_t count)
+{
+    uint8_t refused = 0;
+    uint64_t seen = 0, start = now_ns();
+    for (size_t i = 0; i < count; i++) {
+        refused |= c->read(s->record, 16, s->images, s->images_len, items[i], s->into, s->plan.block_len);
+        seen += s->into[0];
+    }
+    return since(start, refused, seen);
+}
+
+uint64_t copies(struct stage *s, const struct contestant *c, const uint32_t *items, size_t count)
+{
+    (void)c;
+    size_t len = s->plan.block_len;
+    uint64_t seen = 0, start = now_ns();
+    for (size_t i = 0; i < count; i++) {
+        memcpy(s->into, s->images + items[i] * len, len);
+        seen += s->into[0];
+    }
+    return since(start, 0, seen);
+}
+
+uint64_t writes(struct stage *s, const struct contestant *c, const uint32_t *items, size_t count)
+{
+    uint8_t refused = 0;
+    uint64_t start = now_ns();
+    for (size_t i = 0; i < count; i++) {
+        const uint8_t *data = s->data + i % DATA_BLOCKS * s->plan.block_len;
+        refused |= c->write(s->record, 16, s->images, s->images_len, items[i], data, s->plan.block_len);
+    }
+    return since(start, refused, s->images[items[0]]);
+}
+
+uint64_t rebuilds(struct stage *s, const struct contestant *c, const uint32_t *items, size_t count)
+{
+    uint8_t refused = 0;
+    uint64_t start = now_ns();
+    for (size_t i = 0; i < count; i++) {
+        uint8_t record[16];
+        memcpy(record, s->record, 16);
+        refused |= c->on_disk(record, 16, s->images, s->images_len, items[i]);
+    }
+    return since(start, refused, s->images[0]);
+}
+
+uint64_t checks(struct stage *s, const struct contestant *c, const uint32_t *items, size_t count)
+{
+    (void)c, (void)items;
+    bool held = true;
+    uint64_t start = now_ns();
+    for (size_t i = 0; i < count; i++)
+        held &= isal_check(s->images, s->disks, s->stripes, s->plan.block_len);
+    return since(start, !held, 0);
+}
+
+/* A whole growth, from the images of before, which are put back first and not timed. An item is the moves of one advance. */
+uint64_t growths(struct stage *s, const struct contestant *c, const uint32_t *items, size_t count)
+{
+    uint64_t ns = 0;
+    for (size_t i = 0; i < count; i++) {
+        uint8_t refused = 0;
+        uint64_t made = 1;
+        memcpy(s->images, s->home, s->home_len);
+        memcpy(s->record, s->formatted, 16);
+        uint64_t start = now_ns();
+        refused |= c->on_disk(s->record, 16, s->images, s->images_len, s->plan.m);
+        for (uint32_t left = s->total; left > 0 && refused == 0; left -= (uint32_t)made)
+            refused |= c->advance(s->record, 16, s->images, s->images_len, items[i], &made);
+        ns += since(start, refused, s->images[0]);
+    }
+    return ns;
+}
+
+struct restripe restripe_of(const struct stage *s, bool in_place)
+{
+    return (struct restripe){in_place ? s->images : s->home, in_place ? s->images : s->spare, in_place ? s->spare : NULL,
+                             s->plan.n, s->plan.m, s->plan.block_len, s->stripes};
+}
+
+static uint64_t one_restripe(struct stage *s, bool in_place)
+{
+    struct restripe r = restripe_of(s, in_place);
+    memcpy(s->images, s->home, s->home_len);
+    uint64_t start = now_ns();
+    restripe(&r);
+    return since(start, 0, r.to[0]);
+}
+
+uint64_t restripes_in_place(struct stage *s, const struct contestant *c, const uint32_t *items, size_t count)
+{
+    (void)c, (void)items;
+    uint64_t ns = 0;
+    while (count-- > 0)
+        ns += one_restripe(s, true);
+    return ns;
+}
+
+uint64_t restripes_apart(struct stage *s, const struct contestant *c, const uint32_t *items, size_t count)
+{
+    (void)c, (void)items;
+    uint64_t ns = 0;
+    while (count-- > 0)
+        ns += one_restripe(s, false);
+    return ns;
+}
+
+uint64_t views(struct stage *s, const struct contestant *c, const uint32_t *items, size_t count)
+{
+    uint8_t refused = 0;
+    uint64_t seen = 0, start = now_ns();
+    for (size_t i = 0; i < count; i++) {
+        const uint8_t *view;
+        refused |= c->view(s->record, 16, s->images, s->images_len, items[i], s->into, s->plan.block_len, &view);
+        seen += view[0];
+    }
+    return since(start, refused, seen);
+}
+
+uint64_t locates(struct stage *s, const struct contestant *c, const uint32_t *items, size_t count)
+{
+    uint8_t refused = 0;
+    uint64_t seen = 0, start = now_ns();
+    for (size_t i = 0; i < count; i++) {
+        uint64_t stripe, disk;
+        refused |= c->locate(s->record, 16, items[i], &stripe, &disk);
+        seen += stripe + disk;
+    }
+    return since(start, refused, seen);
+}
+
+uint64_t owners(struct stage *s, const struct contestant *c, const uint32_t *items, size_t count)
+{
+    uint8_t refused = 0;
+    uint64_t seen = 0, start = now_ns();
+    for (size_t i = 0; i < count; i++) {
+        uint64_t role, block;
+        refused |= c->owner(s->record, 16, items[i] / 32, items[i] % 32, &role, &block);
+        seen += role + block;
+    }
+    return since(start, refused, seen);
+}
