@@ -12,8 +12,8 @@ ghost use Rattle.array.specs.Table.{badRecord, lost, idle, formable, wor
 use crate::health::is_degraded;
 use crate::health::is_lost;
 use crate::health::is_out;
+use layout::all_moved;
 use layout::capacity_of;
-use layout::total_of;
 use state::Record;
 use state::block_is_good;
 use state::geometry_of;
@@ -71,10 +71,7 @@ fn is_idle(r: Record) -> bool
     requires { ⌜ Limits r ⌝ }
     ensures { λ x. ⌜ x ≡ idle (geometry r) ⌝ }
 {
-    if r.new == 0 {
-        return true;
-    }
-    r.moves as u64 == total_of(geometry_of(r))
+    all_moved(geometry_of(r))
 }
 
 fn is_formable(n: u64, block: u64, stripes: u64) -> bool

@@ -11,6 +11,8 @@ pub mod NewBlocks
 pub mod OneMove
 pub mod Zones
 pub mod Bounds
+pub mod Settled
+pub mod Runs
 pub mod Numbers
 pub mod Lawful
 pub mod Home

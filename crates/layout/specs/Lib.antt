@@ -3,6 +3,7 @@ pub mod Home
 pub mod Moves
 pub mod Closed
 pub mod Blanks
+pub mod Runs
 pub mod Layout
 pub mod Limits
 pub mod Theorem

@@ -1,55 +1,91 @@
-// The blank places of a stripe after t moves, counted from the lowest disk.
-ghost use Prim.Native.Nat.{_<_, _≤_, _+_};
+// The blank places of a stripe whose moves have all been made, counted from the lowest disk. With s its place in the zone and P its
+// parity disk, its moves have the lags i with n <= s + i < n + m, and each leaves the old disk i below P, counted on from disk n - 1:
+// what is left is one run of disks up to P and one above it. The new disks that no move goes to are one run below s and one from
+// s + n on. So the blanks are at most four runs of consecutive disks, and none of them has to be looked for.
+ghost use Prim.Native.Nat.{_<_, _+_, _-_};
 ghost use mathlib.Core.Path.{_≡_};
-ghost use mathlib.Core.Bool.{not};
+ghost use mathlib.Core.Bool.{false};
 ghost use lib.ListN.{length, getD};
 ghost use Rattle.layout.specs.Closed.{taken};
 ghost use Rattle.layout.specs.Blanks.{blanks, blanksBelow};
+ghost use Rattle.layout.specs.Runs.{settled, firstLag, endLag, runsOf};
 ghost use Rattle.layout.specs.Limits.{Apart};
+use crate::Runs;
 use crate::Stripe;
-use crate::closed::disk_at;
-use crate::closed::source_of;
 
-// Does nothing of before the growth stand on disk e?
-pub(crate) fn is_blank(n: u64, m: u64, t: u64, x: Stripe, e: u64) -> bool
-    requires { ⌜ Apart n m x ⌝ }
-    ensures { λ r. ⌜ r ≡ not (taken n m t (x .number) e) ⌝ }
+// How far a is above b: 0 if it is not.
+fn excess(a: u64, b: u64) -> u64
+    ensures { λ r. ⌜ r ≡ a - b ⌝ }
 {
-    let d = source_of(n, m, x, e);
-    !(disk_at(n, m, t, x, d) == e)
+    if a < b { 0 } else { a - b }
+}
+
+// The lags of the stripe's moves: from the first ..
+fn first_lag(n: u64, x: Stripe) -> u64
+    ensures { λ r. ⌜ r ≡ firstLag n (x .within) ⌝ }
+{
+    excess(n, x.within)
+}
+
+// .. to below this one.
+fn end_lag(n: u64, m: u64, x: Stripe) -> u64
+    requires { ⌜ Apart n m x ⌝ }
+    ensures { λ r. ⌜ r ≡ endLag n m (x .within) ⌝ }
+{
+    n - excess(x.within, m)
+}
+
+fn runs_of(n: u64, m: u64, x: Stripe) -> Runs
+    requires { ⌜ Apart n m x ⌝ }
+    ensures { λ r. ⌜ r ≡ runsOf n m (x .within) (x .parity) ⌝ }
+{
+    let first = first_lag(n, x);
+    let end = end_lag(n, m, x);
+    let left = end - first;
+    let early = left + excess(x.within, n);
+    let past = x.parity + 1;
+    let low = excess(past, end);
+    Runs {
+        low: low,
+        high: n - excess(end, past),
+        some: excess(past, first) - low,
+        left: left,
+        early: early,
+    }
 }
 
 // The disk of blank place j.
-pub(crate) fn nth_blank(n: u64, m: u64, t: u64, x: Stripe, j: u64) -> u64
+pub(crate) fn nth_blank(n: u64, m: u64, x: Stripe, j: u64) -> u64
     requires { ⌜ Apart n m x × (j < m) ⌝ }
-    ensures { λ r. ⌜ r ≡ getD (blanks n m t (x .number)) j 0 ⌝ }
+    ensures { λ r. ⌜ r ≡ getD (blanks n m (settled n m (x .number)) (x .number)) j 0 ⌝ }
 {
-    let mut e = 0;
-    let mut seen = 0;
-    while e < n + m {
-        if is_blank(n, m, t, x, e) {
-            if seen == j {
-                return e;
-            }
-            seen += 1;
-        }
-        e += 1;
+    let r = runs_of(n, m, x);
+    if j < r.some {
+        return r.low + j;
     }
-    0
+    if j < r.left {
+        return r.high + (j - r.some);
+    }
+    if j < r.early {
+        return n + (j - r.left);
+    }
+    x.within + n + (j - r.early)
 }
 
-// The number of blank places below disk e.
-pub(crate) fn blanks_below(n: u64, m: u64, t: u64, x: Stripe, e: u64) -> u64
-    requires { ⌜ Apart n m x × (e ≤ n + m) ⌝ }
-    ensures { λ r. ⌜ r ≡ length (blanksBelow n m t (x .number) e) ⌝ }
+// The number of blank places below disk e, itself one.
+pub(crate) fn blanks_below(n: u64, m: u64, x: Stripe, e: u64) -> u64
+    requires { ⌜ Apart n m x × (e < n + m) × (taken n m (settled n m (x .number)) (x .number) e ≡ false) ⌝ }
+    ensures { λ r. ⌜ r ≡ length (blanksBelow n m (settled n m (x .number)) (x .number) e) ⌝ }
 {
-    let mut i = 0;
-    let mut seen = 0;
-    while i < e {
-        if is_blank(n, m, t, x, i) {
-            seen += 1;
-        }
-        i += 1;
+    let r = runs_of(n, m, x);
+    if e <= x.parity {
+        return e - r.low;
     }
-    seen
+    if e < n {
+        return r.some + (e - r.high);
+    }
+    if e < x.within {
+        return r.left + (e - n);
+    }
+    r.early + (e - (x.within + n))
 }

@@ -1,6 +1,9 @@
 // The layout of the whole array: its numbers, places and owners.
 ghost use Prim.Native.Nat.{_<_, _*_};
 ghost use mathlib.Core.Path.{_≡_};
+ghost use mathlib.Core.Bool.{false};
+ghost use lib.Dec.{eqb};
+ghost use Rattle.layout.specs.Closed.{taken};
 ghost use Rattle.layout.specs.Layout.{disks, totalOf, oldBlocks, openStripes, capacity, carried, newPlace, newOwner, layout};
 ghost use Rattle.layout.specs.Limits.{Apart, Good};
 use crate::Geometry;
@@ -8,7 +11,6 @@ use crate::Place;
 use crate::Role;
 use crate::Stripe;
 use crate::blanks::blanks_below;
-use crate::blanks::is_blank;
 use crate::blanks::nth_blank;
 use crate::closed::disk_at;
 use crate::closed::source_of;
@@ -33,12 +35,22 @@ fn old_blocks(g: Geometry) -> u64
     g.stripes * (g.old - 1)
 }
 
+// Are all moves of the growth made? (With no new disk there is none.) n + m divides T * n * m, so the code need not.
+pub fn all_moved(g: Geometry) -> bool
+    requires { ⌜ Good g ⌝ }
+    ensures { λ r. ⌜ r ≡ eqb (g .moves) (totalOf g) ⌝ }
+{
+    let n = g.old;
+    let m = g.new;
+    g.moves * (n + m) == g.stripes * n * m
+}
+
 // The stripes whose blanks are new blocks.
 fn open_stripes(g: Geometry) -> u64
     requires { ⌜ Good g ⌝ }
     ensures { λ r. ⌜ r ≡ openStripes g ⌝ }
 {
-    if g.moves == total_of(g) { g.stripes } else { 0 }
+    if all_moved(g) { g.stripes } else { 0 }
 }
 
 // The number of blocks.
@@ -54,6 +66,9 @@ fn carried_place(g: Geometry, q: Place) -> Place
     requires { ⌜ Good g × (q .stripe < g .stripes) × (q .disk < g .old) ⌝ }
     ensures { λ r. ⌜ r ≡ carried g q ⌝ }
 {
+    if g.new == 0 {
+        return q;
+    }
     let x = stripe_of(g.old, g.new, q.stripe);
     Place {
         stripe: q.stripe,
@@ -71,7 +86,7 @@ fn new_place(g: Geometry, k: u64) -> Place
     let x = stripe_of(g.old, m, s);
     Place {
         stripe: s,
-        disk: nth_blank(g.old, m, g.moves, x, k % m),
+        disk: nth_blank(g.old, m, x, k % m),
     }
 }
 
@@ -97,27 +112,29 @@ pub fn parity_of(g: Geometry, s: u64) -> u64
     disk_at(g.old, g.new, g.moves, x, x.parity)
 }
 
-// What disk e of stripe x holds if nothing of before the growth stands there.
+// What disk e of stripe x holds: nothing of before the growth.
 fn new_owner(g: Geometry, x: Stripe, e: u64) -> Role
-    requires { ⌜ Good g × Apart (g .old) (g .new) x × (x .number < g .stripes) × (e < disks g) ⌝ }
+    requires { ⌜ Good g × Apart (g .old) (g .new) x × (x .number < g .stripes) × (e < disks g) × (taken (g .old) (g .new) (g .moves) (x .number) e ≡ false) ⌝ }
     ensures { λ r. ⌜ r ≡ newOwner g (x .number) e ⌝ }
 {
     let s = x.number;
     if s < open_stripes(g) {
-        Role::Data(old_blocks(g) + (s * g.new + blanks_below(g.old, g.new, g.moves, x, e)))
+        Role::Data(old_blocks(g) + (s * g.new + blanks_below(g.old, g.new, x, e)))
     } else {
         Role::Blank
     }
 }
 
-// What disk e of stripe s holds.
+// What disk e of stripe s holds: what came to stand there, or a new block, or nothing.
 pub fn owner_of(g: Geometry, s: u64, e: u64) -> Role
     requires { ⌜ Good g × (s < g .stripes) × (e < disks g) ⌝ }
     ensures { λ r. ⌜ r ≡ layout g .owner s e ⌝ }
 {
     let x = stripe_of(g.old, g.new, s);
-    if is_blank(g.old, g.new, g.moves, x, e) {
-        return new_owner(g, x, e);
+    let d = source_of(g.old, g.new, x, e);
+    if disk_at(g.old, g.new, g.moves, x, d) == e {
+        home_owner(g.old, x.parity, s, d)
+    } else {
+        new_owner(g, x, e)
     }
-    home_owner(g.old, x.parity, s, source_of(g.old, g.new, x, e))
 }

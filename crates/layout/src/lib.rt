@@ -8,6 +8,7 @@ mod layout;
 mod moves;
 
 pub use home::home_place;
+pub use layout::all_moved;
 pub use layout::capacity_of;
 pub use layout::owner_of;
 pub use layout::parity_of;
@@ -51,4 +52,14 @@ pub struct Stripe {
     pub zone: u64,
     pub within: u64,
     pub parity: u64,
+}
+
+// The blanks of a stripe whose moves have all been made, run by run: the first disk of the first run and of the second, and the
+// blanks in the first run, in the first two (all old disks left) and in the first three.
+pub struct Runs {
+    pub low: u64,
+    pub high: u64,
+    pub some: u64,
+    pub left: u64,
+    pub early: u64,
 }

@@ -5,7 +5,6 @@ ghost use Rattle.state.specs.Good.{geometry, within, oldGood, newGood, b
 use crate::Health;
 use crate::Record;
 use layout::Geometry;
-use layout::total_of;
 
 // The array that a record speaks of.
 pub fn geometry_of(r: Record) -> Geometry
@@ -61,28 +60,22 @@ pub fn stripes_are_good(stripes: u64) -> bool
     is_within(1, stripes, 1048576)
 }
 
-// Can the array have come this far? The total is asked of the growth's start, which is good whatever the moves.
-fn moves_are_good(g: Geometry) -> bool
-    requires { ⌜ (3 ≤ g .old) × (g .old ≤ 16) × (1 ≤ g .stripes) × (g .stripes ≤ 1048576) ⌝ }
-    ensures { λ r. ⌜ r ≡ movesGood g ⌝ }
+// Can the array have come this far? "At most the total, T * n * m / (n + m)" is asked without the division.
+fn moves_are_good(r: Record) -> bool
+    requires { ⌜ (3 ≤ r .old) × (r .old ≤ 16) × (r .stripes ≤ 1048576) ⌝ }
+    ensures { λ x. ⌜ x ≡ movesGood (geometry r) ⌝ }
 {
-    let n = g.old;
-    let m = g.new;
-    let stripes = g.stripes;
-    let moves = g.moves;
+    let n = r.old as u64;
+    let m = r.new as u64;
+    let stripes = r.stripes as u64;
+    let moves = r.moves as u64;
     if m == 0 {
         return moves == 0;
     }
     if !new_is_good(n, m, stripes) {
         return false;
     }
-    let start = Geometry {
-        old: n,
-        new: m,
-        stripes: stripes,
-        moves: 0,
-    };
-    moves <= total_of(start)
+    moves * (n + m) <= stripes * n * m
 }
 
 // Is the disk that is out, if one is, a disk of the array?
@@ -112,7 +105,7 @@ pub fn is_good(r: Record) -> bool
     if !stripes_are_good(r.stripes as u64) {
         return false;
     }
-    if !moves_are_good(geometry_of(r)) {
+    if !moves_are_good(r) {
         return false;
     }
     health_is_good(n + m, health)

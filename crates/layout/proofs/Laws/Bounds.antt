@@ -1,10 +1,11 @@
 -- The limits of the sizes keep every number of the layout far below a word. Assumes nothing.
 use Prim.Native.Nat.{ℕ, _+_, _-_, _*_, _/_, _%_, _≤_, _<_}
 use mathlib.Core.Path.{_≡_}
-use native.Mathlib.Nat.{div-le-self, div-mul-le-self, mod-lt}
+use native.Mathlib.Nat.{div-le-self, div-mul-le-self, le-div-iff-mul-le, mod-lt}
 use native.Mathlib.Omega.{arith}
 use Rattle.layout.specs.declared.Geometry.{Geometry}
 use Rattle.layout.specs.declared.Stripe.{Stripe}
+use Rattle.layout.specs.Moves.{total}
 use Rattle.layout.specs.Closed.{lag}
 use Rattle.layout.specs.Limits.{Disks, Sizes, Apart, Good}
 use Rattle.layout.proofs.Laws.Basics.{times}
@@ -65,17 +66,20 @@ module _ (n m : ℕ) (x : Stripe) (w : Apart n m x) where
 pub record Products (g : Geometry) : Type 0 where
   pub by-old : g .stripes * g .old ≤ 16777216
   pub by-moves : g .stripes * g .old * g .new ≤ 268435456
+  pub moves-by : g .moves * (g .old + g .new) ≤ 268435456
   pub by-data : g .stripes * (g .old - 1) ≤ 16777216
-  pub by-new : g .stripes * g .new ≤ 16777216
 
 pub products : (g : Geometry) → Good g → Products g
+unfolding total
 products g w =
     let a : g .stripes * g .old ≤ 16777216 = times 1048576 16 (w .stripes-high) (w .disks .n-high) in
+    let b : g .stripes * g .old * g .new ≤ 268435456 = times 16777216 16 a (w .disks .m-high) in
+    let d : 0 < g .old + g .new = omega (arith, w .disks .n-low) in
     record {
       by-old = a;
-      by-moves = times 16777216 16 a (w .disks .m-high);
+      by-moves = b;
+      moves-by = omega (arith, le-div-iff-mul-le d .0 (w .moves));
       by-data = times {b = g .old - 1} 1048576 16 (w .stripes-high) (omega (arith, w .disks .n-high));
-      by-new = times 1048576 16 (w .stripes-high) (w .disks .m-high);
     }
 
 -- a stripe of an array

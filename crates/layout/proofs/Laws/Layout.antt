@@ -1,33 +1,41 @@
 -- The layout of the array is lawful; what a program finds that looks for a block, and for an owner. Assumes nothing.
 use Prim.Native.Nat.{ℕ, _+_, _-_, _*_, _/_, _≤_, _<_}
 use mathlib.Core.Path.{_≡_, refl, sym, ap, _∙_}
-use mathlib.Core.Bool.{Bool, true, false, not}
+use mathlib.Core.Bool.{false}
+use mathlib.Core.Logic.{_≢_}
 use native.Mathlib.Nat.{div-lt-iff-lt-mul}
 use native.Mathlib.Omega.{arith}
+use lib.Dec.{eqb}
 use lib.ListN.{length}
-use borrow.Author.Tests.{not-true, not-false, lt-ltb, le-ltb}
+use borrow.Author.Tests.{lt-ltb, le-ltb, eq-eqb, ne-eqb}
 use Rattle.layout.specs.declared.Geometry.{Geometry}
 use Rattle.layout.specs.declared.Place.{Place}
 use Rattle.layout.specs.declared.Role.the-variants.{Data, Blank}
 use Rattle.layout.specs.declared.Role.{Role}
 use Rattle.layout.specs.declared.Stripe.{Stripe}
-use Rattle.layout.specs.Closed.{stripeOf, source, taken}
-use Rattle.layout.specs.Blanks.{blanksBelow, newBlock}
-use Rattle.layout.specs.Layout.{oldBlocks, openStripes, capacity, home, layout, carried, newPlace, grownPlace, newOwner, grownOwner}
+use Rattle.layout.specs.Closed.{stripeOf, diskAt, source, taken}
+use Rattle.layout.specs.Blanks.{blanksBelow, blanks, newBlock}
+use Rattle.layout.specs.Runs.{settled}
+use Rattle.layout.specs.Layout.{disks, oldBlocks, openStripes, capacity, home, layout, carried, newPlace, grownPlace, newOwner, grownOwner}
 use Rattle.layout.specs.Limits.{Good}
 use Rattle.layout.proofs.Laws.Basics.{times}
+use Rattle.layout.proofs.Laws.Source.{says-taken}
 use Rattle.layout.proofs.Laws.Blanks.{blanks-le}
-use Rattle.layout.proofs.Laws.Numbers.{open-le}
+use Rattle.layout.proofs.Laws.Settled.{same-taken, same-below}
+use Rattle.layout.proofs.Laws.Numbers.{open-le, open-settled}
 use Rattle.layout.proofs.Laws.Lawful.{Lawful, Full}
 use Rattle.layout.proofs.Laws.Home.{home-layout-full}
 use Rattle.layout.proofs.Laws.Grown.{low, owner-old, grown-lawful, positive}
 
 module _ (g : Geometry) (good : Good g) where
+  pn : 2 ≤ g .old
+  pn = omega (arith, good .disks .n-low)
+
   pub home-full : Full (g .old) (g .stripes) (home g)
-  home-full = home-layout-full (g .old) (g .stripes) (omega (arith, good .disks .n-low))
+  home-full = home-layout-full (g .old) (g .stripes) pn
 
   pub lawful : Lawful (g .old + g .new) (g .stripes) (capacity g) (layout g)
-  lawful = grown-lawful (home g) g (omega (arith, good .disks .n-low)) (open-le g) (home-full .lawful)
+  lawful = grown-lawful (home g) g pn (open-le g) (home-full .lawful)
 
   pub open-room : openStripes g * g .new ≤ 16777216
   open-room = times 1048576 16 (omega (arith, open-le g, good .stripes-high)) (good .disks .m-high)
@@ -50,37 +58,51 @@ module _ (g : Geometry) (good : Good g) where
       unfolding capacity
       new-in h = omega arith
 
-  pub new-room : (k : ℕ) → k < openStripes g * g .new → (0 < g .new) × (k / g .new < g .stripes)
+  pub new-room : (k : ℕ) → k < openStripes g * g .new → (0 < g .new) × (k / g .new < g .stripes) × (k / g .new < openStripes g)
   new-room k l =
       let pm : 0 < g .new = positive (openStripes g) (g .new) k l in
-      (pm, omega (arith, div-lt-iff-lt-mul pm .1 l, open-le g))
+      let h : k / g .new < openStripes g = div-lt-iff-lt-mul pm .1 l in
+      (pm, omega (arith, open-le g), h)
+
+  -- the blanks of an open stripe stay as they are
+  pub open-blanks : (S : ℕ) → S < openStripes g → blanks (g .old) (g .new) (settled (g .old) (g .new) S) S ≡ blanks (g .old) (g .new) (g .moves) S
+  unfolding blanks
+  open-blanks S l = sym (same-below (g .old) (g .new) pn S (g .moves) (open-settled g good S l) (disks g))
 
   -- ---- and for the owner of place (S, e)
 
+  pub new-times : (S : ℕ) → S < g .stripes → S * g .new ≤ 16777216
+  new-times S l = times {a = S} {b = g .new} 1048576 16 (omega (arith, good .stripes-high)) (good .disks .m-high)
+
   module _ (S e : ℕ) where
-    pub says-new : S < openStripes g → (old : ℕ) → old ≡ oldBlocks g → (j : ℕ) → j ≡ length (blanksBelow (g .old) (g .new) (g .moves) S e) → Data (old + (S * g .new + j)) ≡ newOwner g S e
+    pub says-new : S < openStripes g → (old : ℕ) → old ≡ oldBlocks g → (j : ℕ) → j ≡ length (blanksBelow (g .old) (g .new) (settled (g .old) (g .new) S) S e) → Data (old + (S * g .new + j)) ≡ newOwner g S e
     unfolding newOwner newBlock
-    says-new l old eo j ej = rw (lt-ltb _ _ l, eo, ej) refl
+    says-new l old eo j ej = rw (lt-ltb _ _ l, eo, ej, same-below (g .old) (g .new) pn S (g .moves) (open-settled g good S l) e) refl
 
     pub says-none : openStripes g ≤ S → Blank ≡ newOwner g S e
     unfolding newOwner
     says-none l = rw (le-ltb _ _ l) refl
 
-    pub new-number : S < g .stripes → e ≤ 32 → S * g .new + length (blanksBelow (g .old) (g .new) (g .moves) S e) ≤ 16777248
-    new-number l k = omega (arith, times {a = S} {b = g .new} 1048576 16 (omega (arith, good .stripes-high)) (good .disks .m-high), blanks-le (g .old) (g .new) (omega (arith, good .disks .n-low)) (g .moves) S e)
+    pub new-count : (t j : ℕ) → j ≡ length (blanksBelow (g .old) (g .new) t S e) → j ≤ e
+    new-count t j q = omega (arith, blanks-le (g .old) (g .new) pn t S e)
 
-    -- x is stripe S taken apart, r what is_blank says
-    module _ (x : Stripe) (ex : x ≡ stripeOf (g .old) (g .new) S) (r : Bool) (q : r ≡ not (taken (g .old) (g .new) (g .moves) (x .number) e)) where
+    pub free-settled : S < openStripes g → taken (g .old) (g .new) (g .moves) S e ≡ false → taken (g .old) (g .new) (settled (g .old) (g .new) S) S e ≡ false
+    free-settled l f = sym (same-taken (g .old) (g .new) pn S (g .moves) (open-settled g good S l) e) ∙ f
+
+    -- x is stripe S taken apart, d the old disk whose content can have come to disk e, y where that stands
+    module _ (x : Stripe) (ex : x ≡ stripeOf (g .old) (g .new) S) (d : ℕ) (ed : d ≡ source (g .old) (g .new) (x .number) e) (y : ℕ) (ey : y ≡ diskAt (g .old) (g .new) (g .moves) (x .number) d) where
       number : x .number ≡ S
-      number = ap (λ y. y .number) ex
+      number = ap (λ z. z .number) ex
 
-      pub says-blank : r ≡ true → (y : Role) → y ≡ newOwner g (x .number) e → y ≡ layout g .owner S e
+      says : eqb y e ≡ taken (g .old) (g .new) (g .moves) (x .number) e
+      says = says-taken (g .old) (g .new) pn (g .moves) (x .number) e d y ed ey
+
+      pub is-free : y ≢ e → taken (g .old) (g .new) (g .moves) (x .number) e ≡ false
+      is-free q = sym says ∙ ne-eqb _ _ q
+
+      pub says-blank : y ≢ e → (o : Role) → o ≡ newOwner g (x .number) e → o ≡ layout g .owner S e
       unfolding grownOwner
-      says-blank h y ey =
-          let f : taken (g .old) (g .new) (g .moves) S e ≡ false = not-true _ (rw number at (sym q ∙ h)) in
-          rw f (rw number at ey)
+      says-blank q o eo = rw (rw number at (is-free q)) (rw number at eo)
 
-      pub says-old : r ≡ false → (d : ℕ) → d ≡ source (g .old) (g .new) (x .number) e → home g .owner S d ≡ layout g .owner S e
-      says-old h d ed =
-          let f : taken (g .old) (g .new) (g .moves) S e ≡ true = not-false _ (rw number at (sym q ∙ h)) in
-          ap (home g .owner S) (rw number at ed) ∙ sym (owner-old (home g) g S e f)
+      pub says-old : y ≡ e → home g .owner S d ≡ layout g .owner S e
+      says-old q = ap (home g .owner S) (rw number at ed) ∙ sym (owner-old (home g) g S e (rw number at (sym says ∙ eq-eqb _ _ q)))

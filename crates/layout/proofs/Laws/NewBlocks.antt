@@ -1,17 +1,15 @@
 -- The blank places of a stripe, counted from the lowest disk, and the new blocks on them, once each. Assumes nothing.
 use Prim.Native.Nat.{ℕ, zero, suc, _+_, _%_, _≤_, _<_}
-use mathlib.Core.Path.{_≡_, refl, sym, ap, _∙_}
-use mathlib.Core.Bool.{Bool, true, false, not}
+use mathlib.Core.Path.{_≡_, refl, ap, _∙_}
+use mathlib.Core.Bool.{Bool, true, false}
 use mathlib.Core.List.{[], _∷_, _++_, append-nil}
 use mathlib.Core.Logic.{inl, inr}
 use native.Mathlib.Decide.{ℕ-discrete}
 use native.Mathlib.Nat.{le-refl, not-suc-le-zero, div-add-mod', mod-lt}
-use native.Mathlib.Numerals.{add-one}
 use native.Mathlib.Omega.{arith}
 use lib.Arith.{digits-div, digits-mod}
 use lib.ListN.{length, getD, length-append, List·getD-append}
 use lib.Seq.{getD-append-seam, getD-at}
-use borrow.Author.Tests.{not-true, not-false}
 use Rattle.layout.specs.Closed.{taken}
 use Rattle.layout.specs.Blanks.{blanksBelow, blanks, newStripe, newDisk, newBlock}
 use Rattle.layout.proofs.Laws.Basics.{le-or-lt}
@@ -128,19 +126,3 @@ module _ (n m : ℕ) (pn : 2 ≤ n) (t : ℕ) where
     pub disk-of-new : newDisk n m t (newBlock n m t S e) ≡ e
     unfolding newDisk
     disk-of-new = rw (stripe-of-new, rest-of-new) (blank-there n m t S e he free)
-
--- ---- a program that counts blanks from the lowest disk: r is what is_blank says of disk e
-
-module _ (n m t S e : ℕ) (r : Bool) (says : r ≡ not (taken n m t S e)) where
-  pub count-taken : r ≡ false → length (blanksBelow n m t S (e + 1)) ≡ length (blanksBelow n m t S e)
-  count-taken q = rw (add-one e) (ap length (below-taken n m t S e (not-false _ (sym says ∙ q))))
-
-  pub count-blank : r ≡ true → length (blanksBelow n m t S (e + 1)) ≡ length (blanksBelow n m t S e) + 1
-  count-blank q = rw (add-one e) (blank-more n m t S e (not-true _ (sym says ∙ q)) ∙ sym (add-one _))
-
-  pub found : r ≡ true → (j : ℕ) → e < n + m → length (blanksBelow n m t S e) ≡ j → e ≡ getD (blanks n m t S) j 0
-  found q j h z = sym (rw z at (blank-there n m t S e h (not-true _ (sym says ∙ q))))
-
-pub count-all : (n m t S e : ℕ) → 2 ≤ n → e ≡ n + m → length (blanksBelow n m t S e) ≡ m
-unfolding blanks
-count-all n m t S e pn q = rw q (blanks-length n m pn t S)

@@ -1,12 +1,15 @@
 -- The numbers of an array: its zones and their moves, its open stripes, its capacity. Assumes nothing.
-use Prim.Native.Nat.{ℕ, _+_, _-_, _*_, _≤_, _<_}
+use Prim.Native.Nat.{ℕ, _+_, _-_, _*_, _/_, _≤_, _<_}
 use mathlib.Core.Path.{_≡_, sym, ap, _∙_}
 use mathlib.Core.Logic.{inl, inr, _≢_}
 use native.Mathlib.Decide.{ℕ-discrete}
+use native.Mathlib.Nat.{le-refl, mul-le-mul, mul-div-cancel, div-lt-iff-lt-mul}
 use native.Mathlib.Omega.{arith}
+use lib.Dec.{eqb}
 use borrow.Author.Tests.{eq-eqb, ne-eqb}
 use Rattle.layout.specs.declared.Geometry.{Geometry}
-use Rattle.layout.specs.Moves.{zones, moveIndex, moveZone, moveStripe}
+use Rattle.layout.specs.Moves.{zoneOf, total, zones, moveIndex, moveZone, moveStripe}
+use Rattle.layout.specs.Runs.{settled}
 use Rattle.layout.specs.Layout.{totalOf, disks, oldBlocks, openStripes, capacity}
 use Rattle.layout.specs.Limits.{Good}
 use Rattle.layout.proofs.Laws.Basics.{le-or-lt}
@@ -47,6 +50,26 @@ module _ (g : Geometry) (good : Good g) where
       none : g .new ≡ 0 → totalOf g ≡ zones (g .old) (g .new) (g .stripes) * g .new * g .old
       none z = total-none (g .old) (g .new) (g .stripes) z ∙ sym (ap (λ x. zones (g .old) (g .new) (g .stripes) * x * g .old) z ∙ omega arith)
 
+  -- the total without a division, and whether it is reached
+  pub total-times : totalOf g * disks g ≡ g .stripes * g .old * g .new
+  total-times = elim (le-or-lt (g .new) 0) [
+    | inr pm ↦ rw total-is (omega (arith, ap (λ x. x * g .old * g .new) (whole-zones pm)))
+    | inl z ↦ none (omega arith)
+  ]
+    where
+      none : g .new ≡ 0 → totalOf g * disks g ≡ g .stripes * g .old * g .new
+      none z = ap (λ x. x * disks g) (total-none (g .old) (g .new) (g .stripes) z) ∙ sym (ap (λ x. g .stripes * g .old * x) z ∙ omega arith)
+
+  reached-back : g .moves * disks g ≡ g .stripes * g .old * g .new → g .moves ≡ totalOf g
+  unfolding total
+  reached-back z = sym (mul-div-cancel (g .moves) (omega (arith, good .disks .n-low))) ∙ ap (λ x. x / disks g) z
+
+  pub reached : eqb (g .moves * disks g) (g .stripes * g .old * g .new) ≡ eqb (g .moves) (totalOf g)
+  reached = elim (ℕ-discrete (g .moves) (totalOf g)) [
+    | yes q ↦ eq-eqb _ _ (ap (λ x. x * disks g) q ∙ total-times) ∙ sym (eq-eqb _ _ q)
+    | no q ↦ ne-eqb _ _ (λ z. q (reached-back z)) ∙ sym (ne-eqb _ _ q)
+  ]
+
   -- a growth with moves has new disks
   pub has-new : (k : ℕ) → k < totalOf g → 0 < g .new
   has-new k h = elim (le-or-lt (g .new) 0) [ inr pm ↦ pm | inl z ↦ absurd (omega (arith, total-none (g .old) (g .new) (g .stripes) (omega arith))) ]
@@ -63,3 +86,20 @@ module _ (g : Geometry) (good : Good g) where
   pub inside : 0 < g .new → (k : ℕ) → k < totalOf g → moveStripe (g .old) (g .new) k < g .stripes
   inside pm k h =
       rw (whole-zones pm) at (stripe-in (g .old) (g .new) p0 pm (zones (g .old) (g .new) (g .stripes)) k (rw total-is at h))
+
+  -- the blanks of a stripe are new blocks only once all its moves are made
+  pub open-settled : (S : ℕ) → S < openStripes g → settled (g .old) (g .new) S ≤ g .moves
+  open-settled S l = elim (ℕ-discrete (g .moves) (totalOf g)) [
+    | no q ↦ absurd (omega (arith, open-none g q))
+    | yes q ↦ rw (q ∙ total-is) (elim (le-or-lt (g .new) 0) [ inl z ↦ none (omega arith) | inr pm ↦ zone-le pm ])
+  ]
+    where
+      none : g .new ≡ 0 → settled (g .old) (g .new) S ≤ zones (g .old) (g .new) (g .stripes) * g .new * g .old
+      none z = rw (ap (λ m. (zoneOf (g .old) (g .new) S + 1) * m * g .old) z) (omega arith)
+
+      zone-le : 0 < g .new → settled (g .old) (g .new) S ≤ zones (g .old) (g .new) (g .stripes) * g .new * g .old
+      zone-le pm =
+          let h : S < zones (g .old) (g .new) (g .stripes) * disks g = omega (arith, open-le g, whole-zones pm) in
+          let pd : 0 < disks g = omega arith in
+          let z : zoneOf (g .old) (g .new) S < zones (g .old) (g .new) (g .stripes) = div-lt-iff-lt-mul pd .1 h in
+          mul-le-mul (mul-le-mul (omega arith) (le-refl _)) (le-refl _)

@@ -1,10 +1,14 @@
 -- The first z zones and their z * m * n moves; the zones of a whole array, and the total. Assumes nothing.
 use Prim.Native.Nat.{ℕ, _+_, _-_, _*_, _/_, _%_, _<_}
 use mathlib.Core.Path.{_≡_, sym, ap, _∙_}
-use native.Mathlib.Nat.{div-add-mod', zero-div, div-lt-iff-lt-mul, mul-div-cancel}
+use mathlib.Core.Logic.{inl, inr}
+use native.Mathlib.Nat.{div-add-mod', zero-div, div-lt-iff-lt-mul, le-div-iff-mul-le, mul-div-cancel}
 use native.Mathlib.Omega.{arith}
 use lib.Arith.{digits-lt}
+use lib.Dec.{leb}
+use borrow.Author.Tests.{le-leb, lt-leb}
 use Rattle.layout.specs.Moves.{moveIndex, moveZone, moveWithin, moveStripe, zones, total}
+use Rattle.layout.proofs.Laws.Basics.{le-or-lt}
 use Rattle.layout.proofs.Laws.Lag.{to-above, to-below, lag-below}
 
 module _ (n m : ℕ) (pn : 0 < n) (pm : 0 < m) (z : ℕ) where
@@ -43,3 +47,11 @@ module _ (n m T : ℕ) (pn : 0 < n) (whole : T % (n * (n + m)) ≡ 0) where
 pub total-none : (n m T : ℕ) → m ≡ 0 → total n m T ≡ 0
 unfolding total
 total-none n m T z = ap (λ x. x / (n + m)) (ap (λ x. T * n * x) z ∙ omega arith) ∙ zero-div (n + m)
+
+-- at most the total, without a division
+pub total-le : (n m T t : ℕ) → 0 < n + m → leb (t * (n + m)) (T * n * m) ≡ leb t (total n m T)
+unfolding total
+total-le n m T t p = elim (le-or-lt t (T * n * m / (n + m))) [
+  | inl h ↦ le-leb _ _ (le-div-iff-mul-le p .0 h) ∙ sym (le-leb _ _ h)
+  | inr h ↦ lt-leb _ _ (div-lt-iff-lt-mul p .0 h) ∙ sym (lt-leb _ _ h)
+]

@@ -51,6 +51,18 @@ divisor n m low high e =
 
 -- ---- moves
 
+-- the two sides that the code compares fit in a word
+pub record Sides (n m T t : ℕ) : Type 0 where
+  pub moves-by : t * (n + m) ≤ 1168231104512
+  pub by-old : T * n ≤ 16777216
+  pub by-moves : T * n * m ≤ 4294967296
+
+pub sides : (n m T t : ℕ) → n ≤ 16 → m ≤ 256 → T ≤ 1048576 → t ≤ 4294967296 → Sides n m T t
+sides n m T t hn hm hT ht =
+    let s : n + m ≤ 272 = omega arith in
+    let a : T * n ≤ 16777216 = mul-le-mul hT hn in
+    record { moves-by = mul-le-mul ht s; by-old = a; by-moves = mul-le-mul a hm }
+
 record Moves (g : Geometry) : Type 0 where
   new-high : g .new ≤ 16
   moves-high : g .moves ≤ totalOf g

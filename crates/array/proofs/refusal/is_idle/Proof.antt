@@ -1,30 +1,36 @@
 -- `is_idle` meets its contract. Assumes nothing.
-use mathlib.Core.Path.{refl}
+use mathlib.Core.Path.{_≡_, refl, ap, _∙_}
+use native.Mathlib.Decide.{ℕ-discrete}
+use native.Mathlib.Omega.{arith}
+use lib.Dec.{eqb}
+use borrow.Author.Tests.{eq-eqb, ne-eqb}
 use borrow.Author.Needs.{needs}
+use Rattle.layout.specs.declared.Geometry.{Geometry}
+use Rattle.layout.specs.Layout.{totalOf}
+use Rattle.layout.specs.Limits.{Good}
+use Rattle.layout.proofs.Laws.Zones.{total-none}
 use Rattle.array.specs.Table.{idle}
-use Rattle.array.proofs.Calls.Asked.{same, other}
 use Rattle.array.proofs.refusal.is_idle.Statement.{statement}
 use Rattle.array.proofs.refusal.is_idle.Tie as tie
 
-returns : tie.Need-returns
+-- with no new disk the total is 0, and no move is made
+at-total : (g : Geometry) → Good g → eqb (g .moves) (totalOf g) ≡ idle g
 unfolding idle
-returns c = rw (same refl (c .if1 .taken)) refl
-
-cast-result : tie.Need-cast-result
-cast-result c = search needs
+at-total g w = elim (ℕ-discrete (g .new) 0) [
+  | yes z ↦ (let q : g .moves ≡ totalOf g = omega (arith, w .moves, total-none (g .old) (g .new) (g .stripes) z) in
+      rw (eq-eqb _ _ z, eq-eqb _ _ q) refl)
+  | no z ↦ rw (ne-eqb _ _ z) refl
+]
 
 geometry-of-requires : tie.Need-geometry-of-requires
 geometry-of-requires c κs = search needs
 
-total-of-requires : tie.Need-total-of-requires
-total-of-requires c κs = rw (c .geometry-of .ensures) (c .before .before .before .before .pre .array)
+all-moved-requires : tie.Need-all-moved-requires
+all-moved-requires c κs = rw (c .geometry-of .ensures) (c .before .pre .array)
 
-returns-2 : tie.Need-returns-2
-unfolding idle
-returns-2 c =
-    let c1 = c .before .before .before in
-    rw (other refl (c1 .if1 .left)) (rw (c .total-of .ensures, c .before .geometry-of .ensures) refl)
+returns : tie.Need-returns
+returns c =
+    c .all-moved .ensures ∙ ap (λ g. eqb (g .moves) (totalOf g)) (c .before .geometry-of .ensures) ∙ at-total _ (c .before .before .pre .array)
 
 pub is-idle-spec : {M : Type 1} → statement M
-is-idle-spec =
-    tie.close (tie.spec returns cast-result geometry-of-requires total-of-requires returns-2)
+is-idle-spec = tie.close (tie.spec geometry-of-requires all-moved-requires returns)

@@ -1,58 +1,80 @@
 -- `blanks_below` meets its contract. Assumes nothing.
-use Prim.Native.Nat.{_≤_, _-_}
-use mathlib.Core.Path.{_≡_, _∙_, ap}
-use mathlib.Core.Logic.{⊎-elim}
 use native.Mathlib.Omega.{arith}
-use lib.ListN.{length}
 use borrow.Author.Needs.{needs}
-use Rattle.layout.specs.Blanks.{blanksBelow}
-use Rattle.layout.proofs.Laws.NewBlocks.{count-taken, count-blank}
+use Rattle.layout.proofs.Laws.Bounds.{parts}
+use Rattle.layout.proofs.Laws.Runs.{runs, counted, low-in-run, high-in-run, late-in-run, below-low, below-high, below-early, below-late}
 use Rattle.layout.proofs.blanks.blanks_below.Statement.{statement}
 use Rattle.layout.proofs.blanks.blanks_below.Tie as tie
 
-abbrev Inv-loop : tie.InvT-loop
-Inv-loop n m t x e i₀ seen₀ i seen = (i ≤ e) × (seen ≡ length (blanksBelow n m t (x .number) i)) × (seen ≤ i)
+runs-of-requires : tie.Need-runs-of-requires
+runs-of-requires c κs = search needs
 
-abbrev μ-loop : tie.MeasureT-loop
-μ-loop n m t x e i₀ seen₀ i seen = e - i
+sub-result : tie.Need-sub-result
+sub-result c =
+    let k = c .before .before .before in
+    omega (arith, low-in-run _ _ _ (k .before .pre .0) _ (k .runs-of .ensures) _ (k .before .pre .2) (c .before .if1 .taken))
 
-loop-holds : tie.Need-loop-holds Inv-loop μ-loop
-unfolding blanksBelow
-loop-holds c = omega arith
-
-is-blank-requires : tie.Need-is-blank-requires Inv-loop μ-loop
-is-blank-requires c κs = search needs
-
-add-seen : tie.Need-add-seen Inv-loop μ-loop
-add-seen c = omega arith
-
-add-i : tie.Need-add-i Inv-loop μ-loop
-add-i c = omega arith
-
-loop-less : tie.Need-loop-less Inv-loop μ-loop
-loop-less c = omega arith
-
-loop-again : tie.Need-loop-again Inv-loop μ-loop
-loop-again c =
-    let k = c .before .is-blank .ensures in
-    ⊎-elim (λ w. omega (arith, count-blank _ _ _ _ _ _ k (w .0 .taken))) (λ w. omega (arith, count-taken _ _ _ _ _ _ k (w .0 .left))) (c .if1 .came)
-
-returns : tie.Need-returns Inv-loop μ-loop
+returns : tie.Need-returns
 returns c =
-    let a = c .before .before .args in
-    let z : c .before .loop .i ≡ a .e = omega arith in
-    c .before .loop .inv .1 ∙ ap (λ i. length (blanksBelow (a .n) (a .m) (a .t) (a .x .number) i)) z
+    let k = c .before .before .before in
+    below-low _ _ _ (k .before .pre .0) _ (k .runs-of .ensures) _ (k .before .pre .2) (c .before .if1 .taken)
+
+sub-result-2 : tie.Need-sub-result-2
+sub-result-2 c =
+    let k = c .before .before .before .before in
+    omega (arith, high-in-run _ _ _ (k .before .pre .0) _ (k .runs-of .ensures) _ (k .before .pre .2) (c .before .before .if1 .left) (c .before .if2 .taken))
+
+add-result : tie.Need-add-result
+add-result c =
+    let k = c .before .before .before .before .before in
+    omega (arith, runs _ _ _ (k .before .pre .0) _ (k .runs-of .ensures), counted _ _ _ (k .before .pre .0) _ (k .runs-of .ensures))
+
+returns-2 : tie.Need-returns-2
+returns-2 c =
+    let k = c .before .before .before .before .before in
+    below-high _ _ _ (k .before .pre .0) _ (k .runs-of .ensures) _ (k .before .pre .2) (c .before .before .before .if1 .left) (c .before .before .if2 .taken)
+
+add-result-2 : tie.Need-add-result-2
+add-result-2 c =
+    let k = c .before .before .before .before .before .before in
+    omega (arith, parts _ _ _ (k .before .pre .0), counted _ _ _ (k .before .pre .0) _ (k .runs-of .ensures))
+
+returns-3 : tie.Need-returns-3
+returns-3 c =
+    let k = c .before .before .before .before .before .before in
+    below-early _ _ _ (k .before .pre .0) _ (k .runs-of .ensures) _ (k .before .pre .2) (c .before .before .before .if2 .left) (c .before .if3 .taken)
+
+add-result-3 : tie.Need-add-result-3
+add-result-3 c = search needs
+
+sub-result-3 : tie.Need-sub-result-3
+sub-result-3 c =
+    let k = c .before .before .before .before .before .before in
+    omega (arith, late-in-run _ _ _ (k .before .pre .0) _ (k .runs-of .ensures) _ (k .before .pre .2) (c .before .before .before .if2 .left) (k .before .pre .1) (c .before .if3 .left))
+
+add-result-4 : tie.Need-add-result-4
+add-result-4 c =
+    let k = c .before .before .before .before .before .before .before in
+    omega (arith, parts _ _ _ (k .before .pre .0), counted _ _ _ (k .before .pre .0) _ (k .runs-of .ensures))
+
+returns-4 : tie.Need-returns-4
+returns-4 c =
+    let k = c .before .before .before .before .before .before .before in
+    below-late _ _ _ (k .before .pre .0) _ (k .runs-of .ensures) _ (k .before .pre .2) (c .before .before .before .before .if2 .left) (k .before .pre .1) (c .before .before .if3 .left)
 
 pub blanks-below-spec : {M : Type 1} → statement M
 blanks-below-spec =
     tie.close
     (tie.spec
-    Inv-loop
-    μ-loop
-    loop-holds
-    is-blank-requires
-    add-seen
-    add-i
-    loop-less
-    loop-again
-    returns)
+    runs-of-requires
+    sub-result
+    returns
+    sub-result-2
+    add-result
+    returns-2
+    add-result-2
+    returns-3
+    add-result-3
+    sub-result-3
+    add-result-4
+    returns-4)

@@ -1,65 +1,68 @@
 -- `nth_blank` meets its contract. Assumes nothing.
-use Prim.Native.Nat.{_≤_, _+_, _-_}
-use mathlib.Core.Path.{_≡_}
-use mathlib.Core.Logic.{⊎-elim}
 use native.Mathlib.Omega.{arith}
-use lib.ListN.{length}
 use borrow.Author.Needs.{needs}
-use Rattle.layout.specs.Blanks.{blanksBelow}
-use Rattle.layout.proofs.Laws.NewBlocks.{count-taken, count-blank, found, count-all}
+use Rattle.layout.proofs.Laws.Bounds.{parts}
+use Rattle.layout.proofs.Laws.Runs.{runs, nth-low, nth-high, nth-early, nth-late}
 use Rattle.layout.proofs.blanks.nth_blank.Statement.{statement}
 use Rattle.layout.proofs.blanks.nth_blank.Tie as tie
 
-abbrev Inv-loop : tie.InvT-loop
-Inv-loop n m t x j e₀ seen₀ e seen = (e ≤ n + m) × (seen ≡ length (blanksBelow n m t (x .number) e)) × (seen ≤ j)
+runs-of-requires : tie.Need-runs-of-requires
+runs-of-requires c κs = search needs
 
-abbrev μ-loop : tie.MeasureT-loop
-μ-loop n m t x j e₀ seen₀ e seen = n + m - e
+add-result : tie.Need-add-result
+add-result c =
+    let k = c .before .before .before in
+    omega (arith, runs _ _ _ (k .before .pre .0) _ (k .runs-of .ensures))
 
-loop-holds : tie.Need-loop-holds Inv-loop μ-loop
-unfolding blanksBelow
-loop-holds c = omega arith
+returns : tie.Need-returns
+returns c =
+    let k = c .before .before .before in
+    nth-low _ _ _ (k .before .pre .0) _ (k .runs-of .ensures) _ (c .before .if1 .taken)
 
-add-loop : tie.Need-add-loop Inv-loop μ-loop
-add-loop c = omega arith
+add-result-2 : tie.Need-add-result-2
+add-result-2 c =
+    let k = c .before .before .before .before .before .before in
+    omega (arith, runs _ _ _ (k .before .pre .0) _ (k .runs-of .ensures))
 
-is-blank-requires : tie.Need-is-blank-requires Inv-loop μ-loop
-is-blank-requires c κs = search needs
-
-returns : tie.Need-returns Inv-loop μ-loop
-returns c = found _ _ _ _ _ _ (c .before .before .is-blank .ensures) (c .before .if1 .taken) _ (omega arith) (omega arith)
-
-add-seen : tie.Need-add-seen Inv-loop μ-loop
-add-seen c = omega arith
-
-add-e : tie.Need-add-e Inv-loop μ-loop
-add-e c = omega arith
-
-loop-less : tie.Need-loop-less Inv-loop μ-loop
-loop-less c = omega arith
-
-loop-again : tie.Need-loop-again Inv-loop μ-loop
-loop-again c =
-    let k = c .before .is-blank .ensures in
-    ⊎-elim (λ w. omega (arith, count-blank _ _ _ _ _ _ k (w .0 .taken))) (λ w. omega (arith, count-taken _ _ _ _ _ _ k (w .0 .left))) (c .if1 .came)
-
-returns-2 : tie.Need-returns-2 Inv-loop μ-loop
+returns-2 : tie.Need-returns-2
 returns-2 c =
-    let a = c .before .before .args in
-    absurd (omega (arith, count-all (a .n) (a .m) (a .t) (a .x .number) (c .before .loop .e) (omega arith) (omega arith)))
+    let k = c .before .before .before .before .before .before in
+    nth-high _ _ _ (k .before .pre .0) _ (k .runs-of .ensures) _ (c .before .before .before .before .if1 .left) (c .before .before .if2 .taken)
+
+add-result-3 : tie.Need-add-result-3
+add-result-3 c = search needs
+
+returns-3 : tie.Need-returns-3
+returns-3 c =
+    let k = c .before .before .before .before .before .before .before in
+    nth-early _ _ _ (k .before .pre .0) _ (k .runs-of .ensures) _ (c .before .before .before .if2 .left) (c .before .if3 .taken)
+
+add-result-4 : tie.Need-add-result-4
+add-result-4 c =
+    let k = c .before .before .before .before .before .before .before in
+    omega (arith, parts _ _ _ (k .before .pre .0))
+
+add-result-5 : tie.Need-add-result-5
+add-result-5 c =
+    let k = c .before .before .before .before .before .before .before .before in
+    omega (arith, parts _ _ _ (k .before .pre .0))
+
+returns-4 : tie.Need-returns-4
+returns-4 c =
+    let k = c .before .before .before .before .before .before .before .before in
+    nth-late _ _ _ (k .before .pre .0) _ (k .runs-of .ensures) _ (c .before .before .if3 .left) (k .before .pre .1)
 
 pub nth-blank-spec : {M : Type 1} → statement M
 nth-blank-spec =
     tie.close
     (tie.spec
-    Inv-loop
-    μ-loop
-    loop-holds
-    add-loop
-    is-blank-requires
+    runs-of-requires
+    add-result
     returns
-    add-seen
-    add-e
-    loop-less
-    loop-again
-    returns-2)
+    add-result-2
+    returns-2
+    add-result-3
+    returns-3
+    add-result-4
+    add-result-5
+    returns-4)

@@ -4,9 +4,10 @@ use mathlib.Core.Path.{ap, _∙_}
 use native.Mathlib.Nat.{mod-lt}
 use lib.ListN.{getD}
 use Rattle.layout.specs.Blanks.{blanks, newStripe, newDisk}
+use Rattle.layout.specs.Runs.{settled}
 use Rattle.layout.proofs.Laws.Apart.{apart}
 use Rattle.layout.proofs.Laws.Bounds.{sizes-of}
-use Rattle.layout.proofs.Laws.Layout.{new-room}
+use Rattle.layout.proofs.Laws.Layout.{new-room, open-blanks}
 use Rattle.layout.proofs.layout.new_place.Statement.{statement}
 use Rattle.layout.proofs.layout.new_place.Tie as tie
 
@@ -26,7 +27,11 @@ returns : tie.Need-returns
 unfolding newStripe newDisk
 returns c =
     let a = c .before .before .args in
-    ap (λ x. record { stripe = newStripe (a .g .new) (a .k); disk = x }) (c .nth-blank .ensures ∙ ap (λ x. getD (blanks (a .g .old) (a .g .new) (a .g .moves) (x .number)) (a .k % a .g .new) 0) (c .before .stripe-of .ensures))
+    let r = new-room _ (c .before .before .pre .0) _ (c .before .before .pre .1) in
+    let n = a .g .old in
+    let m = a .g .new in
+    ap (λ x. record { stripe = newStripe m (a .k); disk = x })
+    (c .nth-blank .ensures ∙ ap (λ x. getD (blanks n m (settled n m (x .number)) (x .number)) (a .k % m) 0) (c .before .stripe-of .ensures) ∙ ap (λ b. getD b (a .k % m) 0) (open-blanks _ (c .before .before .pre .0) _ (r .2)))
 
 pub new-place-spec : {M : Type 1} → statement M
 new-place-spec =

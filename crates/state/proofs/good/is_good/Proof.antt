@@ -1,8 +1,8 @@
 -- `is_good` meets its contract. Assumes nothing.
 -- Below, c1 to c4 are the states past the first to the fourth test.
-use mathlib.Core.Path.{sym, ap, _∙_}
+use mathlib.Core.Path.{sym, _∙_}
 use borrow.Author.Needs.{needs}
-use Rattle.state.specs.Good.{movesGood, good}
+use Rattle.state.specs.Good.{good}
 use Rattle.state.proofs.Laws.Tests.{and-true, and-false, went-on, returned}
 use Rattle.state.proofs.Laws.Good.{within-true}
 use Rattle.state.proofs.good.is_good.Statement.{statement}
@@ -53,30 +53,25 @@ returns-3 c =
     ∙ and-false _ _ (returned (c .before .stripes-are-good .ensures) (c .if3 .taken))
     )
 
-geometry-of-requires : tie.Need-geometry-of-requires
-geometry-of-requires c κs = search needs
-
 moves-are-good-requires : tie.Need-moves-are-good-requires
 moves-are-good-requires c κs =
-    let c3 = c .before in
-    let c2 = c3 .before .before .before in
+    let c2 = c .before .before .before in
     let c1 = c2 .before .before .before in
     let n = within-true 3 _ 16 (went-on (c1 .before .old-is-good .ensures) (c1 .if1 .left)) in
-    let s = within-true 1 _ 1048576 (went-on (c3 .before .stripes-are-good .ensures) (c3 .if3 .left)) in
-    rw (c .geometry-of .ensures) (n .0, n .1, s .0, s .1)
+    let s = within-true 1 _ 1048576 (went-on (c .before .stripes-are-good .ensures) (c .if3 .left)) in
+    (n .0, n .1, s .1)
 
 returns-4 : tie.Need-returns-4
 unfolding good
 returns-4 c =
-    let c3 = c .before .before .before in
+    let c3 = c .before .before in
     let c2 = c3 .before .before .before in
     let c1 = c2 .before .before .before in
-    let m = c .before .moves-are-good .ensures ∙ ap movesGood (c .before .before .geometry-of .ensures) in
     sym (
     and-true _ _ (went-on (c1 .before .old-is-good .ensures) (c1 .if1 .left))
     ∙ and-true _ _ (went-on (c2 .before .block-is-good .ensures) (c2 .if2 .left))
     ∙ and-true _ _ (went-on (c3 .before .stripes-are-good .ensures) (c3 .if3 .left))
-    ∙ and-false _ _ (returned m (c .if4 .taken))
+    ∙ and-false _ _ (returned (c .before .moves-are-good .ensures) (c .if4 .taken))
     )
 
 add-health-is-good : tie.Need-add-health-is-good
@@ -89,16 +84,15 @@ returns-5 : tie.Need-returns-5
 unfolding good
 returns-5 c =
     let c4 = c .before in
-    let c3 = c4 .before .before .before in
+    let c3 = c4 .before .before in
     let c2 = c3 .before .before .before in
     let c1 = c2 .before .before .before in
-    let m = c4 .before .moves-are-good .ensures ∙ ap movesGood (c4 .before .before .geometry-of .ensures) in
     c .health-is-good .ensures
     ∙ sym (
     and-true _ _ (went-on (c1 .before .old-is-good .ensures) (c1 .if1 .left))
     ∙ and-true _ _ (went-on (c2 .before .block-is-good .ensures) (c2 .if2 .left))
     ∙ and-true _ _ (went-on (c3 .before .stripes-are-good .ensures) (c3 .if3 .left))
-    ∙ and-true _ _ (went-on m (c4 .if4 .left))
+    ∙ and-true _ _ (went-on (c4 .before .moves-are-good .ensures) (c4 .if4 .left))
     )
 
 pub is-good-spec : {M : Type 1} → statement M
@@ -115,7 +109,6 @@ is-good-spec =
     cast-stripes-are-good
     stripes-are-good-requires
     returns-3
-    geometry-of-requires
     moves-are-good-requires
     returns-4
     add-health-is-good

@@ -1,0 +1,81 @@
+-- A stripe once all moves of its zone are made: which of its disks are taken, from then on. Assumes nothing.
+use Prim.Native.Nat.{ℕ, zero, suc, _+_, _-_, _≤_, _<_}
+use mathlib.Core.Path.{_≡_, refl, sym, ap, ap₂, _∙_}
+use mathlib.Core.Bool.{true, false, cond}
+use mathlib.Core.List.{[], _∷_, _++_}
+use mathlib.Core.Logic.{_≢_}
+use native.Mathlib.Nat.{mod-lt}
+use native.Mathlib.Omega.{arith}
+use lib.Dec.{eqb}
+use Rattle.layout.specs.Home.{parityDisk}
+use Rattle.layout.specs.Moves.{zoneOf, withinZone}
+use Rattle.layout.specs.Closed.{lag, target, turn, diskAt, source, taken}
+use Rattle.layout.specs.Blanks.{blanksBelow}
+use Rattle.layout.specs.Runs.{settled}
+use Rattle.layout.proofs.Laws.Lag.{lag-lt, lag-le, lag-lag}
+use Rattle.layout.proofs.Laws.Closed.Where.{moved, stays}
+use Rattle.layout.proofs.Laws.Closed.{Where, look, disk-moved, disk-stays}
+use Rattle.layout.proofs.Laws.Source.{source-low, not-there, taken-disk}
+use Rattle.layout.proofs.Laws.Zones.{index-in}
+
+module _ (n m : ℕ) (pn : 2 ≤ n) (S : ℕ) where
+  p0 : 0 < n
+  p0 = omega arith
+
+  -- all moves of the stripe are made ..
+  turn-early : (d : ℕ) → n ≤ target n m S d → target n m S d < n + m → turn n m S d < settled n m S
+  unfolding turn
+  turn-early d lo hi = index-in n m p0 (omega arith) (zoneOf n m S + 1) (zoneOf n m S) (target n m S d) (lag n S d) (omega arith) hi (lag-lt n S d p0)
+
+  goes : (d : ℕ) → n ≤ target n m S d → target n m S d < n + m → diskAt n m (settled n m S) S d ≡ target n m S d
+  goes d lo hi = disk-moved n m (settled n m S) S d lo hi (turn-early d lo hi)
+
+  -- .. and later ones change nothing of it
+  module _ (t : ℕ) (over : settled n m S ≤ t) where
+    same-disk : (d : ℕ) → diskAt n m t S d ≡ diskAt n m (settled n m S) S d
+    same-disk d = go (look n m t S d)
+      where
+        go : Where n m t S d → diskAt n m t S d ≡ diskAt n m (settled n m S) S d
+        go (moved q lo hi done) = q ∙ sym (goes d lo hi)
+        go (stays q k) = q ∙ sym (disk-stays n m (settled n m S) S d (λ lo hi. omega (arith, k lo hi)))
+
+    pub same-taken : (e : ℕ) → taken n m t S e ≡ taken n m (settled n m S) S e
+    unfolding taken
+    same-taken e = ap (λ x. eqb x e) (same-disk (source n m S e))
+
+    pub same-below : (e : ℕ) → blanksBelow n m t S e ≡ blanksBelow n m (settled n m S) S e
+    unfolding blanksBelow
+    same-below zero = refl
+    same-below (suc e) = ap₂ (λ l b. l ++ cond b [] (e ∷ [])) (same-below e) (same-taken e)
+
+  -- ---- an old disk is taken exactly if no move leaves it
+
+  pub is-left : (e : ℕ) → e < n → (n ≤ target n m S e) × (target n m S e < n + m) → taken n m (settled n m S) S e ≡ false
+  is-left e l i = not-there n m pn _ S e (λ q. let z = goes e (i .0) (i .1) in omega (arith, sym (ap (diskAt n m (settled n m S) S) (source-low n m pn S e l)) ∙ q))
+
+  pub is-kept : (e : ℕ) → e < n → (n ≤ target n m S e → n + m ≤ target n m S e) → taken n m (settled n m S) S e ≡ true
+  is-kept e l h = rw (disk-stays n m (settled n m S) S e (λ lo hi. omega (arith, h lo))) at (taken-disk n m pn (settled n m S) S e l)
+
+  -- ---- and a new one exactly if a move goes to it
+
+  pub is-met : (e : ℕ) → n ≤ e → e < n + m → withinZone n m S ≤ e → e < withinZone n m S + n → taken n m (settled n m S) S e ≡ true
+  unfolding target
+  is-met e l h lo hi =
+      let i : ℕ = e - withinZone n m S in
+      let q : lag n S (lag n S i) ≡ i = lag-lag n S i (omega arith) in
+      let z : target n m S (lag n S i) ≡ e = omega (arith, q) in
+      rw (goes (lag n S i) (omega arith) (omega arith) ∙ z) at (taken-disk n m pn (settled n m S) S (lag n S i) (lag-lt n S i p0))
+
+  parity-target : target n m S (parityDisk n S) ≡ withinZone n m S
+  unfolding target
+  parity-target =
+      let l : parityDisk n S < n = mod-lt S p0 in
+      omega (arith, lag-le n S (parityDisk n S) l (omega arith))
+
+  -- else only the parity could have come, and that goes elsewhere or nowhere
+  pub is-missed : (e : ℕ) → n ≤ e → parityDisk n S ≡ source n m S e → e ≢ withinZone n m S → taken n m (settled n m S) S e ≡ false
+  is-missed e l q ne = not-there n m pn _ S e (λ z. go (look n m (settled n m S) S (parityDisk n S)) (rw (← q) at z))
+    where
+      go : Where n m (settled n m S) S (parityDisk n S) → diskAt n m (settled n m S) S (parityDisk n S) ≡ e → ⊥
+      go (moved d lo hi done) z = ne (sym z ∙ d ∙ parity-target)
+      go (stays d k) z = omega (arith, mod-lt S {m = n} p0)
