@@ -2,3 +2,4 @@
 pub mod Block
 pub mod Xor
 pub mod Stripe
+pub mod Sum

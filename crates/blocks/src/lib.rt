@@ -1,6 +1,7 @@
 // One block inside the images: zeroed, copied, moved and xored, and the places of a stripe. Bytes only; no layout and no record.
 mod copy;
 mod stripe;
+mod sum;
 mod xor;
 
 pub use copy::copy_in;
@@ -10,5 +11,14 @@ pub use copy::zero_block;
 pub use stripe::fold_others;
 pub use stripe::offset_of;
 pub use stripe::rebuild_place;
-pub use stripe::xor_others;
+pub use sum::xor_others;
 pub use xor::fold_parity;
+
+// The places of one stripe on the disks from `first` to before `last`, but for disk `out`, summed at once. A disk has `stripes` blocks.
+pub struct Group {
+    pub stripes: usize,
+    pub stripe: usize,
+    pub out: usize,
+    pub first: usize,
+    pub last: usize,
+}

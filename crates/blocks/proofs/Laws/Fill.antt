@@ -12,6 +12,8 @@ use lib.ListN.{length, getD, set, take, length-set}
 use lib.Seq.{take-suc, take-add, take-all, length-take-le}
 use Rattle.blocks.specs.Block.{Apart, store, blockAt}
 use Rattle.blocks.specs.Xor.{xorB}
+use Rattle.blocks.specs.declared.Group.{Group}
+use Rattle.blocks.specs.Sum.{Begun}
 use Rattle.blocks.proofs.Laws.Block.{length-store, store-nil, store-append, store-snoc, getD-store-other, blockAt-other, store-whole, getD-blockAt, length-blockAt}
 use Rattle.blocks.proofs.Laws.Xor.{getD-xorB, length-xorB}
 
@@ -104,7 +106,7 @@ run-more {l₀} {b} {k} {l} {l′} {i} f n h e =
       within = h;
     }
 
--- and, where l₀ may be anything before disk 0, what a group begins with
-pub begun-kept : {l₀ b : List ℕ} {k : ℕ} {l : List ℕ} {i first : ℕ} {o : List ℕ} → (first ≡ 0) ⊎ (l₀ ≡ o) → Filled l₀ 0 b k l i → (n : ℕ) → (first ≡ 0) ⊎ (blockAt l i n ≡ blockAt o i n)
-begun-kept (inl e) f n = inl e
-begun-kept {i = i} (inr q) f n = inr (run-kept f n ∙ ap (λ (x : List ℕ). blockAt x i n) q)
+-- and so is what a group of disks begins with
+pub begun-kept : {l₀ b : List ℕ} {k : ℕ} {l : List ℕ} {i : ℕ} {o : List ℕ} (x : Group) → Begun x l₀ o → Filled l₀ 0 b k l i → (n : ℕ) → Begun x (blockAt l i n) (blockAt o i n)
+begun-kept x (inl e) f n = inl e
+begun-kept {i = i} x (inr q) f n = inr (run-kept f n ∙ ap (λ (r : List ℕ). blockAt r i n) q)

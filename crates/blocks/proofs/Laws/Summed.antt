@@ -7,22 +7,27 @@ use mathlib.Core.List.{List}
 use native.Mathlib.Nat.{le-antisymm}
 use native.Mathlib.Numerals.{add-one}
 use native.Mathlib.Omega.{arith}
-use borrow.Author.Tests.{eq-eqb, ne-eqb}
+use borrow.Author.Tests.{ne-eqb}
 use lib.Dec.{eqb}
 use lib.ListN.{length}
 use Rattle.blocks.specs.Block.{blockAt, zeros}
 use Rattle.blocks.specs.Xor.{xorB}
 use Rattle.blocks.specs.Stripe.{offset, place, others}
+use Rattle.blocks.specs.declared.Group.{Group}
+use Rattle.blocks.specs.Sum.{sumTo, Begun}
 use Rattle.blocks.proofs.Laws.Block.{blockAt-within, blockAt-zeros}
 use Rattle.blocks.proofs.Laws.Xor.{blockAt-xorB}
 use Rattle.blocks.proofs.Laws.Stripe.{others-in, others-out, length-others}
 
 -- what a group of disks begins with: zeroes before disk 0, else what was left in b
-pub begun : (l : List ℕ) (T S out B first : ℕ) (b : List ℕ) (at n : ℕ) → at + n ≤ B → (first ≡ 0) ⊎ (blockAt b at n ≡ blockAt (others B T l S first out) at n)
-    → cond (eqb first 0) (zeros n) (blockAt b at n) ≡ blockAt (others B T l S first out) at n
-begun l T S out B zero b at n h o = sym (blockAt-zeros B at n h)
-begun l T S out B (suc first) b at n h (inl e) = absurd (omega arith)
-begun l T S out B (suc first) b at n h (inr q) = rw (ne-eqb (suc first) 0 (λ (e : suc first ≡ 0). absurd (omega arith))) q
+pub begun : (l : List ℕ) (B : ℕ) (x : Group) (b : List ℕ) (at n : ℕ) → at + n ≤ B → Begun x (blockAt b at n) (blockAt (sumTo B l x (x .first)) at n)
+    → cond (eqb (x .first) 0) (zeros n) (blockAt b at n) ≡ blockAt (sumTo B l x (x .first)) at n
+begun l B x b at n h o = go (x .first) o
+  where
+    go : (k : ℕ) → (k ≡ 0) ⊎ (blockAt b at n ≡ blockAt (sumTo B l x k) at n) → cond (eqb k 0) (zeros n) (blockAt b at n) ≡ blockAt (sumTo B l x k) at n
+    go zero q = sym (blockAt-zeros B at n h)
+    go (suc k) (inl e) = absurd (omega arith)
+    go (suc k) (inr q) = rw (ne-eqb (suc k) 0 (λ (e : suc k ≡ 0). absurd (omega arith))) q
 
 -- after the turns up to disk d b is the xor of the places of the first d disks but `out`; before the first it is anything
 pub record Summed (l : List ℕ) (N T S out B : ℕ) (b : List ℕ) (d : ℕ) : Type 0 where

@@ -1,45 +1,44 @@
 -- `add_group` meets its contract: what the whole pieces leave is taken on in one or two parts. Assumes nothing.
-use Prim.Native.Nat.{ℕ, _+_, _-_, _*_, _≤_, _<_}
+use Prim.Native.Nat.{ℕ, _+_, _-_, _≤_}
 use mathlib.Core.Path.{_≡_, refl, ap, _∙_}
 use mathlib.Core.List.{List}
-use mathlib.Core.Logic.{_⊎_}
 use native.Mathlib.Omega.{arith}
 use borrow.Author.Needs.{needs}
 use lib.ListN.{length, take}
 use Rattle.blocks.specs.Block.{blockAt, store}
-use Rattle.blocks.specs.Stripe.{others}
+use Rattle.blocks.specs.Sum.{sumTo, Inside, Begun}
 use Rattle.blocks.proofs.Laws.Block.{length-store}
 use Rattle.blocks.proofs.Laws.Stripe.{length-others}
 use Rattle.blocks.proofs.Laws.Fill.{Filled, filled-all₀, run-more, begun-kept}
-use Rattle.blocks.proofs.stripe.add_group.Statement.{statement}
-use Rattle.blocks.proofs.stripe.add_group.Tie as tie
+use Rattle.blocks.proofs.sum.add_group.Statement.{statement}
+use Rattle.blocks.proofs.sum.add_group.Tie as tie
 
--- the xor of the first k disks
+-- the sum of the first k disks, in blocks of n bytes
 abbrev sum : tie.Start → ℕ → ℕ → List ℕ
-sum c n k = others n (c .args .stripes) (c .args .images .now) (c .args .s) k (c .args .out)
+sum c n k = sumTo n (c .args .images .now) (c .args .x) k
 
 -- the bytes before `at` are taken on
 abbrev Done : (c : tie.Start) → List ℕ → ℕ → Type 0
-Done c b at = Filled (c .args .block .now) 0 (sum c (length (c .args .block .now)) (c .args .last)) (length (c .args .block .now)) b at
+Done c b at = Filled (c .args .block .now) 0 (sum c (length (c .args .block .now)) (c .args .x .last)) (length (c .args .block .now)) b at
 
-pieces : (c : tie.After-add-pieces) → Done (c .before .before .before .before) (c .add-pieces .last .1 .1 .1 .1 .1 .1 .0) (c .add-pieces .result)
+pieces : (c : tie.After-add-pieces) → Done (c .before .before .before .before) (c .add-pieces .last .1 .1 .0) (c .add-pieces .result)
 pieces c =
     let a = c .before .before .before .before .args in
     let e = c .add-pieces .ensures in
-    let o = sum (c .before .before .before .before) (length (a .block .now)) (a .last) in
-    record { is = e .2; size = ap length (e .2) ∙ length-store (a .block .now) 0 (take (c .add-pieces .result) o); long = length-others (length (a .block .now)) (a .stripes) (a .images .now) (a .s) (a .last) (a .out); within = e .0 }
+    let o = sum (c .before .before .before .before) (length (a .block .now)) (a .x .last) in
+    record { is = e .2; size = ap length (e .2) ∙ length-store (a .block .now) 0 (take (c .add-pieces .result) o); long = length-others (length (a .block .now)) (a .x .stripes) (a .images .now) (a .x .stripe) (a .x .last) (a .x .out); within = e .0 }
 
 -- what a part asks, and what it gives
 module _ (c : tie.Start) {b : List ℕ} {at : ℕ} (f : Done c b at) (n : ℕ) (h : at + n ≤ length (c .args .block .now)) where
   asked : n ≤ 64
-      → (1 ≤ length b) × (c .args .s < c .args .stripes) × (c .args .first ≤ c .args .last) × (c .args .last * (c .args .stripes * length b) ≤ length (c .args .images .now)) × (n ≤ 64) × (at + n ≤ length b) × ((c .args .first ≡ 0) ⊎ (blockAt b at n ≡ blockAt (sum c (length b) (c .args .first)) at n))
-  asked k = rw (f .size) (c .pre .0, c .pre .1, c .pre .2, c .pre .3, k, h, begun-kept (c .pre .4) f n)
+      → Inside (c .args .x) (length b) (length (c .args .images .now)) × (n ≤ 64) × (at + n ≤ length b) × Begun (c .args .x) (blockAt b at n) (blockAt (sum c (length b) (c .args .x .first)) at n)
+  asked k = rw (f .size) (c .pre .0, k, h, begun-kept (c .args .x) (c .pre .1) f n)
 
-  given : {b′ : List ℕ} → b′ ≡ store b at (blockAt (sum c (length b) (c .args .last)) at n) → Done c b′ (at + n)
-  given e = run-more f n h (e ∙ ap (λ (m : ℕ). store b at (blockAt (sum c m (c .args .last)) at n)) (f .size))
+  given : {b′ : List ℕ} → b′ ≡ store b at (blockAt (sum c (length b) (c .args .x .last)) at n) → Done c b′ (at + n)
+  given e = run-more f n h (e ∙ ap (λ (m : ℕ). store b at (blockAt (sum c m (c .args .x .last)) at n)) (f .size))
 
 -- behind half a piece more
-half : (c : tie.After-add-less) → Done (c .before .before .before .before .before .before .before .before .before) (c .add-less .last .1 .1 .1 .1 .1 .1 .1 .1 .0) (c .before .before .before .before .before .add-pieces .result + 64)
+half : (c : tie.After-add-less) → Done (c .before .before .before .before .before .before .before .before .before) (c .add-less .last .1 .1 .1 .1 .0) (c .before .before .before .before .before .add-pieces .result + 64)
 half c = given (c .before .before .before .before .before .before .before .before .before) (pieces (c .before .before .before .before .before)) 64 (omega arith) (c .add-less .ensures)
 
 add-pieces-requires : tie.Need-add-pieces-requires

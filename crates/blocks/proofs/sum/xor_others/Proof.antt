@@ -1,14 +1,13 @@
 -- `xor_others` meets its contract. The loop has xored in the places of the first d disks but `out`. Assumes nothing.
 use native.Mathlib.Nat.{mul-le-mul-right}
 use native.Mathlib.Omega.{arith}
-use Prim.Native.Nat.{ℕ, _-_, _*_}
-use mathlib.Core.Path.{_≡_, refl, sym, subst}
-use mathlib.Core.Logic.{_⊎_, inl}
+use Prim.Native.Nat.{_-_, _*_, _≤_}
+use mathlib.Core.Path.{_≡_, refl}
+use mathlib.Core.Logic.{inl}
 use lib.ListN.{length}
-use Rattle.blocks.specs.Stripe.{others}
 use Rattle.blocks.proofs.Laws.Summed.{Summed, summed-more, summed-all}
-use Rattle.blocks.proofs.stripe.xor_others.Statement.{statement}
-use Rattle.blocks.proofs.stripe.xor_others.Tie as tie
+use Rattle.blocks.proofs.sum.xor_others.Statement.{statement}
+use Rattle.blocks.proofs.sum.xor_others.Tie as tie
 
 abbrev Inv-loop : tie.InvT-loop
 Inv-loop images disks stripes s out block₀ d₀ block d = Summed images disks stripes s out (length block₀) block d
@@ -28,13 +27,9 @@ add-group-requires c κs =
     let a = st .args in
     let l = c .before .before .before .loop in
     let e = c .before .group-end in
-    let size : length (l .block) ≡ length (a .block .now) = l .inv .size in (
-      omega arith,
-      st .pre .2,
-      omega arith,
-      rw size (omega (arith, mul-le-mul-right (a .stripes * length (a .block .now)) (e .ensures .1))),
-      subst (λ (n : ℕ). (l .d ≡ 0) ⊎ (l .block ≡ others n (a .stripes) (a .images .now) (a .s) (l .d) (a .out))) (sym size) (l .inv .is),
-    )
+    let size : length (l .block) ≡ length (a .block .now) = l .inv .size in
+    let end : e .result * (a .stripes * length (a .block .now)) ≤ length (a .images .now) = omega (arith, mul-le-mul-right (a .stripes * length (a .block .now)) (e .ensures .1)) in
+    rw size (record { long = st .pre .0; stripe-lt = st .pre .2; order = omega arith; within = end }, l .inv .is)
 
 loop-less : tie.Need-loop-less Inv-loop μ-loop
 loop-less c = omega arith

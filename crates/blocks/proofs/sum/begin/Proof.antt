@@ -6,8 +6,8 @@ use borrow.Author.Tests.{eq-eqb, ne-eqb}
 use lib.ListN.{length, length-replicate}
 use Rattle.blocks.specs.Block.{zeros}
 use Rattle.blocks.proofs.Laws.Block.{store-whole}
-use Rattle.blocks.proofs.stripe.begin.Statement.{statement}
-use Rattle.blocks.proofs.stripe.begin.Tie as tie
+use Rattle.blocks.proofs.sum.begin.Statement.{statement}
+use Rattle.blocks.proofs.sum.begin.Tie as tie
 
 zero-block-requires : tie.Need-zero-block-requires
 zero-block-requires c κs = search needs

@@ -1,14 +1,13 @@
 -- `add_through` meets its contract: the piece is begun, taken on and stored. Assumes nothing.
-use Prim.Native.Nat.{ℕ}
 use mathlib.Core.Path.{_≡_, sym, ap, _∙_}
 use native.Mathlib.Omega.{arith}
 use borrow.Author.Needs.{needs}
 use lib.ListN.{length}
 use Rattle.blocks.specs.Block.{blockAt, store}
-use Rattle.blocks.specs.Stripe.{others}
+use Rattle.blocks.specs.Sum.{sumTo}
 use Rattle.blocks.proofs.Laws.Summed.{begun}
-use Rattle.blocks.proofs.stripe.add_through.Statement.{statement}
-use Rattle.blocks.proofs.stripe.add_through.Tie as tie
+use Rattle.blocks.proofs.sum.add_through.Statement.{statement}
+use Rattle.blocks.proofs.sum.add_through.Tie as tie
 
 begin-requires : tie.Need-begin-requires
 begin-requires c κs = search needs
@@ -18,15 +17,8 @@ add-disks-requires c κs =
     let st = c .before .before .before .before .before .before .before .before .before in
     let a = st .args in
     let p = c .before .before .before .begin in
-    let size : length (p .last .1 .1 .1 .0) ≡ length (a .piece .now) = p .kept .1 .1 .1 .0 in (
-      st .pre .0,
-      st .pre .1,
-      st .pre .2,
-      st .pre .3,
-      omega arith,
-      p .ensures ∙ begun (a .images .now) (a .stripes) (a .s) (a .out) (length (a .block .now)) (a .first) (a .block .now) (a .at) (length (a .piece .now)) (st .pre .4) (st .pre .5)
-          ∙ ap (blockAt (others (length (a .block .now)) (a .stripes) (a .images .now) (a .s) (a .first) (a .out)) (a .at)) (sym size),
-    )
+    let size : length (p .last .1 .1 .1 .0) ≡ length (a .piece .now) = p .kept .1 .1 .1 .0 in
+    (st .pre .0, omega arith, p .ensures ∙ begun (a .images .now) (length (a .block .now)) (a .x) (a .block .now) (a .at) (length (a .piece .now)) (st .pre .1) (st .pre .2) ∙ ap (blockAt (sumTo (length (a .block .now)) (a .images .now) (a .x) (a .x .first)) (a .at)) (sym size))
 
 store-bytes-requires : tie.Need-store-bytes-requires
 store-bytes-requires c κs = search needs
@@ -43,7 +35,7 @@ returns c =
     let p = c .before .before .before .before .before .before .before .before .before .before .before .begin in
     let size : length (p .last .1 .1 .1 .0) ≡ length (a .piece .now) = p .kept .1 .1 .1 .0 in
     c .before .before .store-bytes .ensures
-    ∙ ap (store (a .block .now) (a .at)) (c .before .before .before .before .before .before .before .add-disks .ensures ∙ ap (blockAt (others (length (a .block .now)) (a .stripes) (a .images .now) (a .s) (a .last) (a .out)) (a .at)) size)
+    ∙ ap (store (a .block .now) (a .at)) (c .before .before .before .before .before .before .before .add-disks .ensures ∙ ap (blockAt (sumTo (length (a .block .now)) (a .images .now) (a .x) (a .x .last)) (a .at)) size)
 
 pub add-through-spec : {M : Type 1} → statement M
 add-through-spec =

@@ -1,0 +1,22 @@
+-- The xor of a stripe's places, group by group of disks: what a group must be, and how far the sum has come.
+use Prim.Native.Nat.{ℕ, _*_, _≤_, _<_}
+use mathlib.Core.Path.{_≡_}
+use mathlib.Core.Logic.{_⊎_}
+use mathlib.Core.List.{List}
+use Rattle.blocks.specs.declared.Group.{Group}
+use Rattle.blocks.specs.Stripe.{others}
+
+-- the xor of the places of the first k disks but `out`, of B bytes each
+abbrev pub sumTo : ℕ → List ℕ → Group → ℕ → List ℕ
+sumTo B l x k = others B (x .stripes) l (x .stripe) k (x .out)
+
+-- the group's places lie within images of so many bytes
+pub record Inside (x : Group) (B images : ℕ) : Type 0 where
+  pub long : 1 ≤ B
+  pub stripe-lt : x .stripe < x .stripes
+  pub order : x .first ≤ x .last
+  pub within : x .last * (x .stripes * B) ≤ images
+
+-- a group begins with any bytes if no disk comes before it, else with the sum so far
+abbrev pub Begun : Group → List ℕ → List ℕ → Type 0
+Begun x b sum = (x .first ≡ 0) ⊎ (b ≡ sum)
