@@ -6,5 +6,6 @@ pub mod Blanks
 pub mod Runs
 pub mod Layout
 pub mod Limits
+pub mod Coded
 pub mod Theorem
 pub mod Paper

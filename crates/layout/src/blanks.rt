@@ -2,7 +2,7 @@
 // parity disk, its moves have the lags i with n <= s + i < n + m, and each leaves the old disk i below P, counted on from disk n - 1:
 // what is left is one run of disks up to P and one above it. The new disks that no move goes to are one run below s and one from
 // s + n on. So the blanks are at most four runs of consecutive disks, and none of them has to be looked for.
-ghost use Prim.Native.Nat.{_<_, _+_, _-_};
+ghost use Prim.Native.Nat.{_<_, _≤_, _+_};
 ghost use mathlib.Core.Path.{_≡_};
 ghost use mathlib.Core.Bool.{false};
 ghost use lib.ListN.{length, getD};
@@ -12,13 +12,8 @@ ghost use Rattle.layout.specs.Runs.{settled, firstLag, endLag, runsOf};
 ghost use Rattle.layout.specs.Limits.{Apart};
 use crate::Runs;
 use crate::Stripe;
-
-// How far a is above b: 0 if it is not.
-fn excess(a: u64, b: u64) -> u64
-    ensures { λ r. ⌜ r ≡ a - b ⌝ }
-{
-    if a < b { 0 } else { a - b }
-}
+use crate::choice::excess;
+use crate::choice::pick;
 
 // The lags of the stripe's moves: from the first ..
 fn first_lag(n: u64, x: Stripe) -> u64
@@ -54,38 +49,24 @@ fn runs_of(n: u64, m: u64, x: Stripe) -> Runs
     }
 }
 
-// The disk of blank place j.
+// The disk of blank place j. All along a run it is above j by one number; that number is picked.
 pub(crate) fn nth_blank(n: u64, m: u64, x: Stripe, j: u64) -> u64
     requires { ⌜ Apart n m x × (j < m) ⌝ }
     ensures { λ r. ⌜ r ≡ getD (blanks n m (settled n m (x .number)) (x .number)) j 0 ⌝ }
 {
     let r = runs_of(n, m, x);
-    if j < r.some {
-        return r.low + j;
-    }
-    if j < r.left {
-        return r.high + (j - r.some);
-    }
-    if j < r.early {
-        return n + (j - r.left);
-    }
-    x.within + n + (j - r.early)
+    let new = pick(j < r.early, n - r.left, x.within + n - r.early);
+    let old = pick(j < r.some, r.low, r.high - r.some);
+    j + pick(j < r.left, old, new)
 }
 
-// The number of blank places below disk e, itself one.
-pub(crate) fn blanks_below(n: u64, m: u64, x: Stripe, e: u64) -> u64
-    requires { ⌜ Apart n m x × (e < n + m) × (taken n m (settled n m (x .number)) (x .number) e ≡ false) ⌝ }
-    ensures { λ r. ⌜ r ≡ length (blanksBelow n m (settled n m (x .number)) (x .number) e) ⌝ }
+// The way back: the number of blank places below disk e, if that is one itself.
+pub(crate) fn count_below(n: u64, m: u64, x: Stripe, e: u64) -> u64
+    requires { ⌜ Apart n m x × (e < n + m) ⌝ }
+    ensures { λ r. ⌜ (r ≤ e) × (taken n m (settled n m (x .number)) (x .number) e ≡ false → r ≡ length (blanksBelow n m (settled n m (x .number)) (x .number) e)) ⌝ }
 {
     let r = runs_of(n, m, x);
-    if e <= x.parity {
-        return e - r.low;
-    }
-    if e < n {
-        return r.some + (e - r.high);
-    }
-    if e < x.within {
-        return r.left + (e - n);
-    }
-    r.early + (e - (x.within + n))
+    let new = pick(e < x.within, n - r.left, x.within + n - r.early);
+    let old = pick(e <= x.parity, r.low, r.high - r.some);
+    excess(e, pick(e < n, old, new))
 }

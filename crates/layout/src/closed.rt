@@ -4,6 +4,8 @@ ghost use mathlib.Core.Path.{_≡_};
 ghost use Rattle.layout.specs.Closed.{stripeOf, lag, diskAt, source};
 ghost use Rattle.layout.specs.Limits.{Sizes, Apart};
 use crate::Stripe;
+use crate::choice::excess;
+use crate::choice::pick;
 
 pub(crate) fn stripe_of(n: u64, m: u64, s: u64) -> Stripe
     requires { ⌜ Sizes n m s ⌝ }
@@ -35,17 +37,11 @@ pub(crate) fn disk_at(n: u64, m: u64, t: u64, x: Stripe, d: u64) -> u64
     requires { ⌜ Apart n m x × (d < n) ⌝ }
     ensures { λ r. ⌜ r ≡ diskAt n m t (x .number) d ⌝ }
 {
-    let z = x.zone;
-    let s = x.within;
     let i = lag_of(n, m, x, d);
-    let p = s + i;
-    if p < n {
-        return d;
-    }
-    if n + m <= p {
-        return d;
-    }
-    if (z * m + (p - n)) * n + i < t { p } else { d }
+    let p = x.within + i;
+    let turn = (x.zone * m + excess(p, n)) * n + i;
+    let to = pick(p < n, d, pick(n + m <= p, d, p));
+    pick(turn < t, to, d)
 }
 
 // The only disk whose content can have come to stand on disk e.
@@ -53,17 +49,7 @@ pub(crate) fn source_of(n: u64, m: u64, x: Stripe, e: u64) -> u64
     requires { ⌜ Apart n m x ⌝ }
     ensures { λ r. ⌜ r ≡ source n m (x .number) e ⌝ }
 {
-    if e < n {
-        return e;
-    }
-    let s = x.within;
-    let parity = x.parity;
-    if e <= s {
-        return parity;
-    }
-    let i = e - s;
-    if n <= i {
-        return parity;
-    }
-    lag_of(n, m, x, i)
+    let i = excess(e, x.within);
+    let d = lag_of(n, m, x, pick(n <= i, 0, i));
+    pick(e < n, e, d)
 }

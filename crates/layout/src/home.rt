@@ -2,9 +2,12 @@
 ghost use Prim.Native.Nat.{_<_};
 ghost use mathlib.Core.Path.{_≡_};
 ghost use Rattle.layout.specs.Home.{homeDisk, homePlace, homeBlock, homeOwner, parityDisk};
+ghost use Rattle.layout.specs.Coded.{code};
 ghost use Rattle.layout.specs.Limits.{Disks, Sizes};
 use crate::Place;
-use crate::Role;
+use crate::choice::excess;
+use crate::choice::pick;
+use crate::coded::PARITY;
 
 // The disk of block b.
 fn home_disk(n: u64, b: u64) -> u64
@@ -27,22 +30,18 @@ pub fn home_place(n: u64, b: u64) -> Place
     }
 }
 
-// The block on disk d of stripe s, whose parity is on disk `parity`.
+// The block on data disk d of stripe s, whose parity is on disk `parity`.
 fn home_block(n: u64, parity: u64, s: u64, d: u64) -> u64
-    requires { ⌜ Sizes n 0 s × (d < n) × (parity ≡ parityDisk n s) × (d ≡ parity → ⊥) ⌝ }
+    requires { ⌜ Sizes n 0 s × (d < n) × (parity ≡ parityDisk n s) ⌝ }
     ensures { λ r. ⌜ r ≡ homeBlock n s d ⌝ }
 {
-    let up = s * (n - 1) + (n - 1 - d);
-    if parity < d { up } else { up - 1 }
+    s * (n - 1) + excess(n - pick(parity < d, 1, 2), d)
 }
 
-// What disk d of stripe s holds.
-pub(crate) fn home_owner(n: u64, parity: u64, s: u64, d: u64) -> Role
+// What disk d of stripe s holds, coded.
+pub(crate) fn home_code(n: u64, parity: u64, s: u64, d: u64) -> u64
     requires { ⌜ Sizes n 0 s × (d < n) × (parity ≡ parityDisk n s) ⌝ }
-    ensures { λ r. ⌜ r ≡ homeOwner n s d ⌝ }
+    ensures { λ r. ⌜ r ≡ code (homeOwner n s d) ⌝ }
 {
-    if d == parity {
-        return Role::Parity;
-    }
-    Role::Data(home_block(n, parity, s, d))
+    pick(d == parity, PARITY, home_block(n, parity, s, d))
 }

@@ -5,17 +5,21 @@ ghost use mathlib.Core.Bool.{false};
 ghost use lib.Dec.{eqb};
 ghost use Rattle.layout.specs.Closed.{taken};
 ghost use Rattle.layout.specs.Layout.{disks, totalOf, oldBlocks, openStripes, capacity, carried, newPlace, newOwner, layout};
+ghost use Rattle.layout.specs.Coded.{code};
 ghost use Rattle.layout.specs.Limits.{Apart, Good};
 use crate::Geometry;
 use crate::Place;
 use crate::Role;
 use crate::Stripe;
-use crate::blanks::blanks_below;
+use crate::blanks::count_below;
 use crate::blanks::nth_blank;
+use crate::choice::pick;
 use crate::closed::disk_at;
 use crate::closed::source_of;
 use crate::closed::stripe_of;
-use crate::home::home_owner;
+use crate::coded::BLANK;
+use crate::coded::role_of;
+use crate::home::home_code;
 use crate::home::home_place;
 
 // The moves of the growth.
@@ -112,16 +116,16 @@ pub fn parity_of(g: Geometry, s: u64) -> u64
     disk_at(g.old, g.new, g.moves, x, x.parity)
 }
 
-// What disk e of stripe x holds: nothing of before the growth.
-fn new_owner(g: Geometry, x: Stripe, e: u64) -> Role
-    requires { ⌜ Good g × Apart (g .old) (g .new) x × (x .number < g .stripes) × (e < disks g) × (taken (g .old) (g .new) (g .moves) (x .number) e ≡ false) ⌝ }
-    ensures { λ r. ⌜ r ≡ newOwner g (x .number) e ⌝ }
+// What disk e of stripe x holds, coded, if nothing of before the growth.
+fn new_code(g: Geometry, x: Stripe, e: u64) -> u64
+    requires { ⌜ Good g × Apart (g .old) (g .new) x × (x .number < g .stripes) × (e < disks g) ⌝ }
+    ensures { λ r. ⌜ (taken (g .old) (g .new) (g .moves) (x .number) e ≡ false → r ≡ code (newOwner g (x .number) e)) ⌝ }
 {
     let s = x.number;
     if s < open_stripes(g) {
-        Role::Data(old_blocks(g) + (s * g.new + blanks_below(g.old, g.new, x, e)))
+        old_blocks(g) + (s * g.new + count_below(g.old, g.new, x, e))
     } else {
-        Role::Blank
+        BLANK
     }
 }
 
@@ -132,9 +136,8 @@ pub fn owner_of(g: Geometry, s: u64, e: u64) -> Role
 {
     let x = stripe_of(g.old, g.new, s);
     let d = source_of(g.old, g.new, x, e);
-    if disk_at(g.old, g.new, g.moves, x, d) == e {
-        home_owner(g.old, x.parity, s, d)
-    } else {
-        new_owner(g, x, e)
-    }
+    let there = disk_at(g.old, g.new, g.moves, x, d);
+    let old = home_code(g.old, x.parity, s, d);
+    let new = new_code(g, x, e);
+    role_of(pick(there == e, old, new))
 }

@@ -2,7 +2,9 @@
 // Numbers only. Letters: n old disks, m new disks, t moves done, s a stripe, d and e disks, b a
 // block, k a move's index. Contracts cite the definitions of specs/, which follow document 01.
 mod blanks;
+mod choice;
 mod closed;
+mod coded;
 mod home;
 mod layout;
 mod moves;

@@ -1,13 +1,18 @@
 -- What a program finds that has a stripe taken apart once. Assumes nothing.
 use Prim.Native.Nat.{ℕ, _+_, _-_, _*_, _≤_, _<_}
 use mathlib.Core.Path.{_≡_, refl, sym, ap, _∙_}
+use mathlib.Core.Bool.{cond}
+use mathlib.Core.Logic.{inl, inr}
 use native.Mathlib.Omega.{arith}
+use lib.Dec.{ltb, leb}
+use borrow.Author.Tests.{lt-ltb, le-ltb, le-leb, lt-leb}
 use Rattle.layout.specs.declared.Stripe.{Stripe}
+use Rattle.layout.specs.Moves.{withinZone}
 use Rattle.layout.specs.Closed.{stripeOf, lag, target, turn, diskAt, source}
 use Rattle.layout.specs.Limits.{Sizes, Apart}
-use Rattle.layout.proofs.Laws.Lag.{lag-le, lag-gt}
+use Rattle.layout.proofs.Laws.Basics.{le-or-lt}
+use Rattle.layout.proofs.Laws.Lag.{lag-le, lag-gt, lag-clipped}
 use Rattle.layout.proofs.Laws.Closed.{disk-moved, disk-stays}
-use Rattle.layout.proofs.Laws.Source.{source-lagged}
 
 -- what stripe_of makes
 pub apart : (n m S : ℕ) (x : Stripe) → Sizes n m S → x ≡ stripeOf n m S → Apart n m x
@@ -30,17 +35,36 @@ module _ (n m : ℕ) (x : Stripe) (w : Apart n m x) where
     unfolding turn
     at-turn = rw (to-target, w .zone, e) refl
 
-    pub early : x .within + i < n → d ≡ diskAt n m t (x .number) d
+    early : x .within + i < n → d ≡ diskAt n m t (x .number) d
     early h = sym (disk-stays n m t _ d (λ a b. omega (arith, to-target)))
 
-    pub late : n + m ≤ x .within + i → d ≡ diskAt n m t (x .number) d
+    late : n + m ≤ x .within + i → d ≡ diskAt n m t (x .number) d
     late h = sym (disk-stays n m t _ d (λ a b. omega (arith, to-target)))
 
-    pub waits : t ≤ (x .zone * m + (x .within + i - n)) * n + i → d ≡ diskAt n m t (x .number) d
+    waits : t ≤ (x .zone * m + (x .within + i - n)) * n + i → d ≡ diskAt n m t (x .number) d
     waits h = sym (disk-stays n m t _ d (λ a b. omega (arith, at-turn)))
 
-    pub has-moved : n ≤ x .within + i → x .within + i < n + m → (x .zone * m + (x .within + i - n)) * n + i < t → x .within + i ≡ diskAt n m t (x .number) d
+    has-moved : n ≤ x .within + i → x .within + i < n + m → (x .zone * m + (x .within + i - n)) * n + i < t → x .within + i ≡ diskAt n m t (x .number) d
     has-moved lo hi h = to-target ∙ sym (disk-moved n m t _ d (omega (arith, to-target)) (omega (arith, to-target)) (omega (arith, at-turn)))
 
-  pub source-new : (e : ℕ) → n ≤ e → lag n (x .number) (e - x .within) ≡ source n m (x .number) e
-  source-new e h = rw (w .within) (source-lagged n m (omega (arith, w .sizes .disks .n-low)) (x .number) e h)
+    goes : (x .zone * m + (x .within + i - n)) * n + i < t → cond (ltb (x .within + i) n) d (cond (leb (n + m) (x .within + i)) d (x .within + i)) ≡ diskAt n m t (x .number) d
+    goes h = elim (le-or-lt n (x .within + i)) [
+      | inr a ↦ simp (lt-ltb _ _ a) (early a)
+      | inl a ↦ elim (le-or-lt (n + m) (x .within + i)) [ inl b ↦ simp (le-ltb _ _ a, le-leb _ _ b) (late b) | inr b ↦ simp (le-ltb _ _ a, lt-leb _ _ b) (has-moved a b h) ]
+    ]
+
+    stands : cond (ltb ((x .zone * m + (x .within + i - n)) * n + i) t) (cond (ltb (x .within + i) n) d (cond (leb (n + m) (x .within + i)) d (x .within + i))) d ≡ diskAt n m t (x .number) d
+    stands = elim (le-or-lt t ((x .zone * m + (x .within + i - n)) * n + i)) [ inl h ↦ simp (le-ltb _ _ h) (waits h) | inr h ↦ simp (lt-ltb _ _ h) (goes h) ]
+
+    -- what the code picks: from the number of the new disk, the disk it would go to, in two steps, and the answer
+    pub picked : (nth new to r : ℕ) → nth ≡ x .within + i - n → new ≡ cond (leb (n + m) (x .within + i)) d (x .within + i) → to ≡ cond (ltb (x .within + i) n) d new → r ≡ cond (ltb ((x .zone * m + nth) * n + i) t) to d → r ≡ diskAt n m t (x .number) d
+    picked nth new to r en ew et er = rw (er, et, ew, en) stands
+
+  -- the lag j that the code asks for disk e, and the disk d that it gets: an old disk is its own source
+  pub source-picked : (e i j d r : ℕ) → i ≡ e - x .within → j ≡ cond (leb n i) 0 i → d ≡ lag n (x .number) j → r ≡ cond (ltb e n) e d → r ≡ source n m (x .number) e
+  unfolding source
+  source-picked e i j d r ei ej ed er = rw (er, ed, ej, ei, w .within) (ap (λ k. cond (ltb e n) e k) (lag-clipped n (x .number) (e - withinZone n m (x .number))))
+
+-- that lag is one
+pub clipped-lt : (n i j : ℕ) → 0 < n → j ≡ cond (leb n i) 0 i → j < n
+clipped-lt n i j pn ej = elim (le-or-lt n i) [ inl h ↦ rw ej (simp (le-leb _ _ h) pn) | inr h ↦ rw ej (simp (lt-leb _ _ h) h) ]

@@ -41,7 +41,7 @@ pub record Turns (n m : ℕ) (x : Stripe) (i : ℕ) : Type 0 where
   pub sizes : Disks n m
   pub parts : Parts n m x
   pub lag : i < n
-  pub index : x .within + i < n + m → (x .zone * m + (x .within + i - n)) * n ≤ 268435712
+  pub index : (k : ℕ) → k ≡ x .within + i - n → (x .zone * m + k) * n ≤ 268435968
 
 module _ (n m : ℕ) (x : Stripe) (w : Apart n m x) where
   p0 : 0 < n
@@ -59,7 +59,7 @@ module _ (n m : ℕ) (x : Stripe) (w : Apart n m x) where
     sizes = w .sizes .disks;
     parts = parts;
     lag = omega (arith, lag-lt n (x .number) d p0);
-    index = λ h. times {a = x .zone * m + (x .within + i - n)} {b = n} 16777232 16 (omega (arith, parts, w .sizes .disks)) (w .sizes .disks .n-high);
+    index = λ k h. times {a = x .zone * m + k} {b = n} 16777248 16 (omega (arith, parts, w .sizes .disks, lag-lt n (x .number) d p0)) (w .sizes .disks .n-high);
   }
 
 -- the products of a whole array's sizes

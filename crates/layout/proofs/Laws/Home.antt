@@ -1,15 +1,18 @@
 -- Before growth: each block has a data disk, and each data place its block. Assumes nothing.
 use Prim.Native.Nat.{ℕ, _+_, _-_, _*_, _%_, _≤_, _<_}
 use mathlib.Core.Path.{_≡_, refl, sym, ap, _∙_}
+use mathlib.Core.Bool.{cond}
 use mathlib.Core.Logic.{inl, inr, _≢_}
 use native.Mathlib.Decide.{ℕ-discrete}
 use native.Mathlib.Nat.{mod-lt, div-add-mod', div-lt-iff-lt-mul}
 use native.Mathlib.Omega.{arith}
+use lib.Dec.{ltb, eqb}
 use lib.Arith.{digits-div, digits-mod, digits-lt}
 use borrow.Author.Tests.{lt-ltb, le-ltb, eq-eqb, ne-eqb}
 use Rattle.layout.specs.declared.Role.the-variants.{Data, Parity, Blank}
 use Rattle.layout.specs.Home.{homeStripe, parityDisk, dataDisk, homeDisk, rankOf, homeBlock, homeOwner}
 use Rattle.layout.specs.Layout.{homeLayout}
+use Rattle.layout.specs.Coded.{code}
 use Rattle.layout.proofs.Laws.Basics.{le-or-lt}
 use Rattle.layout.proofs.Laws.Lawful.Held.{a-block, the-parity}
 use Rattle.layout.proofs.Laws.Lawful.{Held, Full}
@@ -91,7 +94,7 @@ module _ (n T : ℕ) (pn : 2 ≤ n) where
   unfolding homeOwner
   owner-parity S d e = simp (eq-eqb _ _ e)
 
-  pub owner-data : (S d : ℕ) → d ≢ parityDisk n S → homeOwner n S d ≡ Data (homeBlock n S d)
+  owner-data : (S d : ℕ) → d ≢ parityDisk n S → homeOwner n S d ≡ Data (homeBlock n S d)
   unfolding homeOwner
   owner-data S d e = simp (ne-eqb _ _ e)
 
@@ -120,13 +123,13 @@ module _ (n T : ℕ) (pn : 2 ≤ n) where
     no-blank = λ S d a b. no-blank S d;
   }
 
--- ---- what a program finds that looks for the block on data disk d of stripe S
+-- ---- what a program picks that looks for the block on disk d of stripe S, and for what it holds
 
-module _ (n S d parity : ℕ) (pn : 2 ≤ n) (e : parity ≡ parityDisk n S) where
-  pub block-above : parity < d → S * (n - 1) + (n - 1 - d) ≡ homeBlock n S d
+module _ (n S d parity : ℕ) (e : parity ≡ parityDisk n S) where
+  pub block-picked : (k r : ℕ) → k ≡ cond (ltb parity d) 1 2 → r ≡ n - k - d → S * (n - 1) + r ≡ homeBlock n S d
   unfolding homeBlock rankOf
-  block-above h = let k : parityDisk n S < d = omega arith in simp (lt-ltb _ _ k)
+  block-picked k r ek er = rw (er, ek, e) (elim (le-or-lt d (parityDisk n S)) [ inl h ↦ simp (le-ltb _ _ h) | inr h ↦ simp (lt-ltb _ _ h) ])
 
-  pub block-below : d < parity → S * (n - 1) + (n - 1 - d) - 1 ≡ homeBlock n S d
-  unfolding homeBlock rankOf
-  block-below h = let k : d ≤ parityDisk n S = omega arith in simp (le-ltb _ _ k) (omega (arith, parity-lt n pn S))
+  pub code-picked : (b r : ℕ) → b ≡ homeBlock n S d → r ≡ cond (eqb d parity) 4294967296 b → r ≡ code (homeOwner n S d)
+  unfolding code homeOwner
+  code-picked b r eb er = rw (er, eb, e) (elim (ℕ-discrete d (parityDisk n S)) [ yes z ↦ simp (eq-eqb _ _ z) | no z ↦ simp (ne-eqb _ _ z) ])

@@ -1,10 +1,13 @@
 -- The lag is its own inverse below n; every move is the one that lag, target and turn give. Assumes nothing.
 use Prim.Native.Nat.{ℕ, _+_, _-_, _*_, _/_, _%_, _≤_, _<_}
 use mathlib.Core.Path.{_≡_, refl, sym, ap, _∙_}
-use mathlib.Core.Logic.{⊎-elim}
+use mathlib.Core.Bool.{cond}
+use mathlib.Core.Logic.{inl, inr, ⊎-elim}
 use native.Mathlib.Nat.{mod-add-mod, mod-eq-of-lt, add-mod-right, add-mul-mod-self-right, mod-lt, div-add-mod', sub-zero, sub-eq-zero-of-le, add-zero}
 use native.Mathlib.Omega.{arith}
 use lib.Arith.{digits-div, digits-mod}
+use lib.Dec.{leb}
+use borrow.Author.Tests.{le-leb, lt-leb}
 use Rattle.layout.specs.Moves.{moveZone, moveTo, moveLag, moveWithin, moveStripe, moveFrom}
 use Rattle.layout.specs.Closed.{lag, target, turn}
 use Rattle.layout.proofs.Laws.Basics.{le-or-lt}
@@ -34,6 +37,10 @@ lag-zero n S = rw sub-zero (add-mod-right S n)
 pub lag-beyond : (n S d : ℕ) → n ≤ d → lag n S d ≡ S % n
 unfolding lag
 lag-beyond n S d h = rw (sub-eq-zero-of-le h, add-zero) refl
+
+-- so that disk 0 may be asked in place of those beyond
+pub lag-clipped : (n S d : ℕ) → lag n S (cond (leb n d) 0 d) ≡ lag n S d
+lag-clipped n S d = elim (le-or-lt n d) [ inl h ↦ simp (le-leb _ _ h) (lag-zero n S ∙ sym (lag-beyond n S d h)) | inr h ↦ simp (lt-leb _ _ h) ]
 
 pub lag-lag : (n S d : ℕ) → d < n → lag n S (lag n S d) ≡ d
 lag-lag n S d h =

@@ -1,8 +1,9 @@
 -- The layout of the array is lawful; what a program finds that looks for a block, and for an owner. Assumes nothing.
 use Prim.Native.Nat.{ℕ, _+_, _-_, _*_, _/_, _≤_, _<_}
 use mathlib.Core.Path.{_≡_, refl, sym, ap, _∙_}
-use mathlib.Core.Bool.{false}
+use mathlib.Core.Bool.{false, cond}
 use mathlib.Core.Logic.{_≢_}
+use native.Mathlib.Decide.{ℕ-discrete}
 use native.Mathlib.Nat.{div-lt-iff-lt-mul}
 use native.Mathlib.Omega.{arith}
 use lib.Dec.{eqb}
@@ -10,20 +11,21 @@ use lib.ListN.{length}
 use borrow.Author.Tests.{lt-ltb, le-ltb, eq-eqb, ne-eqb}
 use Rattle.layout.specs.declared.Geometry.{Geometry}
 use Rattle.layout.specs.declared.Place.{Place}
-use Rattle.layout.specs.declared.Role.the-variants.{Data, Blank}
 use Rattle.layout.specs.declared.Role.{Role}
 use Rattle.layout.specs.declared.Stripe.{Stripe}
 use Rattle.layout.specs.Closed.{stripeOf, diskAt, source, taken}
 use Rattle.layout.specs.Blanks.{blanksBelow, blanks, newBlock}
 use Rattle.layout.specs.Runs.{settled}
 use Rattle.layout.specs.Layout.{disks, oldBlocks, openStripes, capacity, home, layout, carried, newPlace, grownPlace, newOwner, grownOwner}
+use Rattle.layout.specs.Coded.{code, roleOf}
 use Rattle.layout.specs.Limits.{Good}
 use Rattle.layout.proofs.Laws.Basics.{times}
 use Rattle.layout.proofs.Laws.Source.{says-taken}
-use Rattle.layout.proofs.Laws.Blanks.{blanks-le}
 use Rattle.layout.proofs.Laws.Settled.{same-taken, same-below}
 use Rattle.layout.proofs.Laws.Numbers.{open-le, open-settled}
-use Rattle.layout.proofs.Laws.Lawful.{Lawful, Full}
+use Rattle.layout.proofs.Laws.Bounds.{products}
+use Rattle.layout.proofs.Laws.Lawful.Held.{a-block, the-parity, nothing}
+use Rattle.layout.proofs.Laws.Lawful.{Lawful, Full, Held}
 use Rattle.layout.proofs.Laws.Home.{home-layout-full}
 use Rattle.layout.proofs.Laws.Grown.{low, owner-old, grown-lawful, positive}
 
@@ -75,19 +77,26 @@ module _ (g : Geometry) (good : Good g) where
   new-times S l = times {a = S} {b = g .new} 1048576 16 (omega (arith, good .stripes-high)) (good .disks .m-high)
 
   module _ (S e : ℕ) where
-    pub says-new : S < openStripes g → (old : ℕ) → old ≡ oldBlocks g → (j : ℕ) → j ≡ length (blanksBelow (g .old) (g .new) (settled (g .old) (g .new) S) S e) → Data (old + (S * g .new + j)) ≡ newOwner g S e
-    unfolding newOwner newBlock
-    says-new l old eo j ej = rw (lt-ltb _ _ l, eo, ej, same-below (g .old) (g .new) pn S (g .moves) (open-settled g good S l) e) refl
-
-    pub says-none : openStripes g ≤ S → Blank ≡ newOwner g S e
-    unfolding newOwner
-    says-none l = rw (le-ltb _ _ l) refl
-
-    pub new-count : (t j : ℕ) → j ≡ length (blanksBelow (g .old) (g .new) t S e) → j ≤ e
-    new-count t j q = omega (arith, blanks-le (g .old) (g .new) pn t S e)
-
-    pub free-settled : S < openStripes g → taken (g .old) (g .new) (g .moves) S e ≡ false → taken (g .old) (g .new) (settled (g .old) (g .new) S) S e ≡ false
+    free-settled : S < openStripes g → taken (g .old) (g .new) (g .moves) S e ≡ false → taken (g .old) (g .new) (settled (g .old) (g .new) S) S e ≡ false
     free-settled l f = sym (same-taken (g .old) (g .new) pn S (g .moves) (open-settled g good S l) e) ∙ f
+
+    pub code-new : S < openStripes g → (old : ℕ) → old ≡ oldBlocks g → (j : ℕ) → (taken (g .old) (g .new) (settled (g .old) (g .new) S) S e ≡ false → j ≡ length (blanksBelow (g .old) (g .new) (settled (g .old) (g .new) S) S e)) → taken (g .old) (g .new) (g .moves) S e ≡ false → old + (S * g .new + j) ≡ code (newOwner g S e)
+    unfolding code newOwner newBlock
+    code-new l old eo j ej f = rw (lt-ltb _ _ l, eo, ej (free-settled l f), same-below (g .old) (g .new) pn S (g .moves) (open-settled g good S l) e) refl
+
+    pub code-none : openStripes g ≤ S → 4294967297 ≡ code (newOwner g S e)
+    unfolding code newOwner
+    code-none l = rw (le-ltb _ _ l) refl
+
+    -- no block has the number of parity or of a blank
+    coded : S < g .stripes → e < disks g → roleOf (code (layout g .owner S e)) ≡ layout g .owner S e
+    unfolding code roleOf capacity
+    coded hS he = go (lawful .held S e hS he)
+      where
+        go : {o : Role} → Held (capacity g) (layout g) S e o → roleOf (code o) ≡ o
+        go (a-block b l es ed) = simp (lt-ltb b 4294967296 (omega (arith, l, products g good, open-room)))
+        go (the-parity p) = refl
+        go nothing = refl
 
     -- x is stripe S taken apart, d the old disk whose content can have come to disk e, y where that stands
     module _ (x : Stripe) (ex : x ≡ stripeOf (g .old) (g .new) S) (d : ℕ) (ed : d ≡ source (g .old) (g .new) (x .number) e) (y : ℕ) (ey : y ≡ diskAt (g .old) (g .new) (g .moves) (x .number) d) where
@@ -97,12 +106,21 @@ module _ (g : Geometry) (good : Good g) where
       says : eqb y e ≡ taken (g .old) (g .new) (g .moves) (x .number) e
       says = says-taken (g .old) (g .new) pn (g .moves) (x .number) e d y ed ey
 
-      pub is-free : y ≢ e → taken (g .old) (g .new) (g .moves) (x .number) e ≡ false
+      is-free : y ≢ e → taken (g .old) (g .new) (g .moves) (x .number) e ≡ false
       is-free q = sym says ∙ ne-eqb _ _ q
 
-      pub says-blank : y ≢ e → (o : Role) → o ≡ newOwner g (x .number) e → o ≡ layout g .owner S e
+      says-new : y ≢ e → newOwner g S e ≡ layout g .owner S e
       unfolding grownOwner
-      says-blank q o eo = rw (rw number at (is-free q)) (rw number at eo)
+      says-new q = rw (rw number at (is-free q)) refl
 
-      pub says-old : y ≡ e → home g .owner S d ≡ layout g .owner S e
+      says-old : y ≡ e → home g .owner S d ≡ layout g .owner S e
       says-old q = ap (home g .owner S) (rw number at ed) ∙ sym (owner-old (home g) g S e (rw number at (sym says ∙ eq-eqb _ _ q)))
+
+      -- what it picks: of what came to stand there and what is new
+      pub owner-picked : (old new c : ℕ) (o : Role) → S < g .stripes → e < disks g → old ≡ code (home g .owner S d) → (taken (g .old) (g .new) (g .moves) (x .number) e ≡ false → new ≡ code (newOwner g (x .number) e)) → c ≡ cond (eqb y e) old new → o ≡ roleOf c → o ≡ layout g .owner S e
+      owner-picked old new c o hS he eo en ec er =
+          let k : cond (eqb y e) old new ≡ code (layout g .owner S e) = elim (ℕ-discrete y e) [
+            | yes q ↦ simp (eq-eqb _ _ q) (eo ∙ ap code (says-old q))
+            | no q ↦ simp (ne-eqb _ _ q) (en (is-free q) ∙ ap (λ z. code (newOwner g z e)) number ∙ ap code (says-new q))
+          ] in
+          er ∙ ap roleOf (ec ∙ k) ∙ coded hS he

@@ -1,11 +1,13 @@
 -- The blanks of a stripe once all moves of its zone are made: four runs of consecutive disks, in order. Assumes nothing.
 use Prim.Native.Nat.{ℕ, zero, suc, _+_, _-_, _≤_, _<_}
 use mathlib.Core.Path.{_≡_, refl, sym, ap, _∙_}
-use mathlib.Core.Bool.{true, false, true≢false}
+use mathlib.Core.Bool.{true, false, true≢false, cond}
 use mathlib.Core.Logic.{inl, inr}
 use native.Mathlib.Decide.{ℕ-discrete}
 use native.Mathlib.Omega.{arith}
+use lib.Dec.{ltb, leb}
 use lib.ListN.{length, getD}
+use borrow.Author.Tests.{lt-ltb, le-ltb, le-leb, lt-leb}
 use Rattle.layout.specs.declared.Runs.{Runs}
 use Rattle.layout.specs.declared.Stripe.{Stripe}
 use Rattle.layout.specs.Moves.{withinZone}
@@ -13,7 +15,7 @@ use Rattle.layout.specs.Closed.{target, taken}
 use Rattle.layout.specs.Blanks.{blanksBelow, blanks}
 use Rattle.layout.specs.Runs.{settled, firstLag, endLag, runsOf}
 use Rattle.layout.specs.Limits.{Apart}
-use Rattle.layout.proofs.Laws.Basics.{le-or-lt}
+use Rattle.layout.proofs.Laws.Basics.{le-or-lt, picked-le}
 use Rattle.layout.proofs.Laws.Lag.{lag-le, lag-gt}
 use Rattle.layout.proofs.Laws.Source.{source-early, source-late}
 use Rattle.layout.proofs.Laws.NewBlocks.{below-taken, blank-more, blank-there}
@@ -158,6 +160,10 @@ module _ (n m : ℕ) (x : Stripe) (w : Apart n m x) (r : Runs) (er : r ≡ runsO
     all = early-all n m (x .within) (x .parity) first end the-lags;
   })
 
+  -- so many old disks are left that no shift to a run is below 0
+  pub left-le : r .left ≤ n
+  left-le = rw er (omega (arith, the-lags))
+
   -- ---- disk by disk
 
   low-target : (e : ℕ) → e ≤ x .parity → e < n → target n m S e ≡ x .within + (x .parity - e)
@@ -242,25 +248,39 @@ module _ (n m : ℕ) (x : Stripe) (w : Apart n m x) (r : Runs) (er : r ≡ runsO
   found j e h f z = sym (rw (← z) at (blank-there n m t S e h f))
 
   module _ (j : ℕ) where
-    pub nth-low : j < r .some → r .low + j ≡ getD (blanks n m t S) j 0
+    nth-low : j < r .some → r .low + j ≡ getD (blanks n m t S) j 0
     nth-low h =
         let e : ℕ = r .low + j in
         found j e (omega (arith, runs)) (low-left e (omega arith) (omega arith)) (omega arith ∙ in-low e (omega arith) (omega arith))
 
-    pub nth-high : r .some ≤ j → j < r .left → r .high + (j - r .some) ≡ getD (blanks n m t S) j 0
+    nth-high : r .some ≤ j → j < r .left → r .high + (j - r .some) ≡ getD (blanks n m t S) j 0
     nth-high l h =
         let e : ℕ = r .high + (j - r .some) in
         found j e (omega (arith, runs)) (high-left e (omega arith) (omega arith)) (omega arith ∙ in-high e (omega arith) (omega arith))
 
-    pub nth-early : r .left ≤ j → j < r .early → n + (j - r .left) ≡ getD (blanks n m t S) j 0
+    nth-early : r .left ≤ j → j < r .early → n + (j - r .left) ≡ getD (blanks n m t S) j 0
     nth-early l h =
         let e : ℕ = n + (j - r .left) in
         found j e (omega (arith, parts n m x w .within, counted)) (early-missed e (omega arith) (omega (arith, counted))) (omega arith ∙ in-early e (omega arith) (omega (arith, counted)))
 
-    pub nth-late : r .early ≤ j → j < m → x .within + n + (j - r .early) ≡ getD (blanks n m t S) j 0
+    nth-late : r .early ≤ j → j < m → x .within + n + (j - r .early) ≡ getD (blanks n m t S) j 0
     nth-late l h =
         let e : ℕ = x .within + n + (j - r .early) in
         found j e (omega (arith, counted .all)) (late-missed e (omega arith)) (omega arith ∙ in-late e (omega arith) (omega (arith, counted .all)))
+
+    -- how far it is above j: what the code picks for an old disk, for a new one, and of the two
+    module _ (new old up : ℕ) (ew : new ≡ cond (ltb j (r .early)) (n - r .left) (x .within + n - r .early)) (eo : old ≡ cond (ltb j (r .some)) (r .low) (r .high - r .some)) (eu : up ≡ cond (ltb j (r .left)) old new) where
+      pub up-le : up ≤ x .within + n
+      up-le =
+          let o : old ≤ x .within + n = picked-le (ltb j (r .some)) (r .low) (r .high - r .some) eo (omega (arith, runs)) (omega (arith, runs)) in
+          let w : new ≤ x .within + n = picked-le (ltb j (r .early)) (n - r .left) (x .within + n - r .early) ew (omega arith) (omega arith) in
+          picked-le (ltb j (r .left)) old new eu o w
+
+      pub nth-picked : j < m → j + up ≡ getD (blanks n m t S) j 0
+      nth-picked h = rw (eu, eo, ew) (elim (le-or-lt (r .left) j) [
+        | inr a ↦ elim (le-or-lt (r .some) j) [ inr b ↦ simp (lt-ltb _ _ a, lt-ltb _ _ b) (omega arith ∙ nth-low b) | inl b ↦ simp (lt-ltb _ _ a, le-ltb _ _ b) (omega (arith, runs) ∙ nth-high b a) ]
+        | inl a ↦ elim (le-or-lt (r .early) j) [ inr b ↦ simp (le-ltb _ _ a, lt-ltb _ _ b) (omega (arith, runs, counted) ∙ nth-early a b) | inl b ↦ simp (le-ltb _ _ a, le-ltb _ _ b) (omega (arith, counted, left-le) ∙ nth-late b h) ]
+      ])
 
   -- ---- the blanks below disk e, itself one
 
@@ -268,29 +288,36 @@ module _ (n m : ℕ) (x : Stripe) (w : Apart n m x) (r : Runs) (er : r ≡ runsO
     kept-not : taken n m t S e ≡ true → ⊥
     kept-not q = true≢false (sym q ∙ free)
 
-    pub low-in-run : e ≤ x .parity → (r .low ≤ e) × (e ≤ low-end r)
+    low-in-run : e ≤ x .parity → (r .low ≤ e) × (e ≤ low-end r)
     low-in-run l = (
       elim (le-or-lt (r .low) e) [ inl h ↦ h | inr h ↦ absurd (kept-not (low-kept e l (λ z. omega arith))) ],
       elim (le-or-lt (low-end r) e) [ inr h ↦ omega arith | inl h ↦ absurd (kept-not (low-kept e l (λ z. h))) ],
     )
 
-    pub high-in-run : x .parity < e → e < n → (r .high ≤ e) × (e ≤ high-end r)
+    high-in-run : x .parity < e → e < n → (r .high ≤ e) × (e ≤ high-end r)
     high-in-run k l = (
       elim (le-or-lt (r .high) e) [ inl h ↦ h | inr h ↦ absurd (kept-not (high-kept e k l (λ z. omega arith))) ],
       elim (le-or-lt (high-end r) e) [ inr h ↦ omega arith | inl h ↦ absurd (kept-not (high-kept e k l (λ z. h))) ],
     )
 
-    pub late-in-run : n ≤ e → e < n + m → x .within ≤ e → x .within + n ≤ e
+    late-in-run : n ≤ e → e < n + m → x .within ≤ e → x .within + n ≤ e
     late-in-run k l lo = elim (le-or-lt (x .within + n) e) [ inl h ↦ h | inr h ↦ absurd (kept-not (met e k l lo h)) ]
 
-    pub below-low : e ≤ x .parity → e - r .low ≡ below e
+    below-low : e ≤ x .parity → e - r .low ≡ below e
     below-low l = let i = low-in-run l in in-low e (i .0) (i .1)
 
-    pub below-high : x .parity < e → e < n → r .some + (e - r .high) ≡ below e
+    below-high : x .parity < e → e < n → r .some + (e - r .high) ≡ below e
     below-high k l = let i = high-in-run k l in in-high e (i .0) (i .1)
 
-    pub below-early : n ≤ e → e < x .within → r .left + (e - n) ≡ below e
+    below-early : n ≤ e → e < x .within → r .left + (e - n) ≡ below e
     below-early k l = in-early e k (omega arith)
 
-    pub below-late : n ≤ e → e < n + m → x .within ≤ e → r .early + (e - (x .within + n)) ≡ below e
+    below-late : n ≤ e → e < n + m → x .within ≤ e → r .early + (e - (x .within + n)) ≡ below e
     below-late k l lo = in-late e (late-in-run k l lo) (omega arith)
+
+  -- the way back, how far e is above their number: what the code picks for an old disk, for a new one, and of the two
+  pub below-picked : (e new old up k : ℕ) → new ≡ cond (ltb e (x .within)) (n - r .left) (x .within + n - r .early) → old ≡ cond (leb e (x .parity)) (r .low) (r .high - r .some) → up ≡ cond (ltb e n) old new → k ≡ e - up → e < n + m → taken n m t S e ≡ false → k ≡ below e
+  below-picked e new old up k ew eo eu ek h f = rw (ek, eu, eo, ew) (elim (le-or-lt n e) [
+    | inr a ↦ elim (le-or-lt e (x .parity)) [ inl b ↦ simp (lt-ltb _ _ a, le-leb _ _ b) (below-low e f b) | inr b ↦ simp (lt-ltb _ _ a, lt-leb _ _ b) (omega (arith, runs, high-in-run e f b a) ∙ below-high e f b a) ]
+    | inl a ↦ elim (le-or-lt (x .within) e) [ inr b ↦ simp (le-ltb _ _ a, lt-ltb _ _ b) (omega (arith, left-le) ∙ below-early e f a b) | inl b ↦ simp (le-ltb _ _ a, le-ltb _ _ b) (omega (arith, counted, left-le, late-in-run e f a h b) ∙ below-late e f a h b) ]
+  ])

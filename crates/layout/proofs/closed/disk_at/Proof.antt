@@ -1,7 +1,7 @@
 -- `disk_at` meets its contract. Assumes nothing.
 use native.Mathlib.Omega.{arith}
 use borrow.Author.Needs.{needs}
-use Rattle.layout.proofs.Laws.Apart.{early, late, waits, has-moved}
+use Rattle.layout.proofs.Laws.Apart.{picked}
 use Rattle.layout.proofs.Laws.Bounds.{turns}
 use Rattle.layout.proofs.closed.disk_at.Statement.{statement}
 use Rattle.layout.proofs.closed.disk_at.Tie as tie
@@ -10,34 +10,43 @@ lag-of-requires : tie.Need-lag-of-requires
 lag-of-requires c κs = search needs
 
 add-p : tie.Need-add-p
-add-p c = omega (arith, turns _ _ _ (c .before .pre .0) _ _ (c .lag-of .ensures))
+add-p c = omega (arith, turns _ _ _ (c .before .before .pre .0) _ _ (c .before .lag-of .ensures))
+
+mul-turn : tie.Need-mul-turn
+mul-turn c = omega (arith, turns _ _ _ (c .before .before .before .pre .0) _ _ (c .before .before .lag-of .ensures))
+
+excess-requires : tie.Need-excess-requires
+excess-requires c κs = search needs
+
+add-turn : tie.Need-add-turn
+add-turn c = let k = c .before .before .before in omega (arith, turns _ _ _ (k .before .pre .0) _ _ (k .lag-of .ensures))
+
+mul-turn-2 : tie.Need-mul-turn-2
+mul-turn-2 c = let k = c .before .before .before in omega (arith, turns _ _ _ (k .before .pre .0) _ _ (k .lag-of .ensures) .index _ (c .excess .ensures))
+
+add-turn-2 : tie.Need-add-turn-2
+add-turn-2 c =
+    let k = c .before .before .before in
+    let r = turns _ _ _ (k .before .pre .0) _ _ (k .lag-of .ensures) in
+    omega (arith, r .lag, r .index _ (c .excess .ensures))
+
+add-pick : tie.Need-add-pick
+add-pick c = search needs
+
+pick-requires : tie.Need-pick-requires
+pick-requires c κs = search needs
+
+pick-requires-2 : tie.Need-pick-requires-2
+pick-requires-2 c κs = search needs
+
+pick-requires-3 : tie.Need-pick-requires-3
+pick-requires-3 c κs = search needs
 
 returns : tie.Need-returns
-returns c = early _ _ _ (c .before .before .pre .0) _ _ _ (c .before .lag-of .ensures) (omega arith)
-
-add-if2 : tie.Need-add-if2
-add-if2 c = search needs
-
-returns-2 : tie.Need-returns-2
-returns-2 c = late _ _ _ (c .before .before .before .pre .0) _ _ _ (c .before .before .lag-of .ensures) (omega arith)
-
-mul-if3 : tie.Need-mul-if3
-mul-if3 c = omega (arith, turns _ _ _ (c .before .before .before .pre .0) _ _ (c .before .before .lag-of .ensures))
-
-add-if3 : tie.Need-add-if3
-add-if3 c = omega (arith, turns _ _ _ (c .before .before .before .pre .0) _ _ (c .before .before .lag-of .ensures))
-
-mul-if3-2 : tie.Need-mul-if3-2
-mul-if3-2 c = omega (arith, turns _ _ _ (c .before .before .before .pre .0) _ _ (c .before .before .lag-of .ensures) .index (omega arith))
-
-add-if3-2 : tie.Need-add-if3-2
-add-if3-2 c = let r = turns _ _ _ (c .before .before .before .pre .0) _ _ (c .before .before .lag-of .ensures) in omega (arith, r .lag, r .index (omega arith))
-
-returns-3 : tie.Need-returns-3
-returns-3 c = has-moved _ _ _ (c .before .before .before .before .pre .0) _ _ _ (c .before .before .before .lag-of .ensures) (omega arith) (omega arith) (omega arith)
-
-returns-4 : tie.Need-returns-4
-returns-4 c = waits _ _ _ (c .before .before .before .before .pre .0) _ _ _ (c .before .before .before .lag-of .ensures) (omega arith)
+returns c =
+    let x = c .before .before .before in
+    let k = x .before .before .before in
+    picked _ _ _ (k .before .pre .0) _ _ _ (k .lag-of .ensures) _ _ _ _ (x .excess .ensures) (c .before .before .pick .ensures) (c .before .pick2 .ensures) (c .pick3 .ensures)
 
 pub disk-at-spec : {M : Type 1} → statement M
 disk-at-spec =
@@ -45,12 +54,13 @@ disk-at-spec =
     (tie.spec
     lag-of-requires
     add-p
-    returns
-    add-if2
-    returns-2
-    mul-if3
-    add-if3
-    mul-if3-2
-    add-if3-2
-    returns-3
-    returns-4)
+    mul-turn
+    excess-requires
+    add-turn
+    mul-turn-2
+    add-turn-2
+    add-pick
+    pick-requires
+    pick-requires-2
+    pick-requires-3
+    returns)

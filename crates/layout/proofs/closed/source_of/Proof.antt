@@ -1,29 +1,28 @@
 -- `source_of` meets its contract. Assumes nothing.
-use mathlib.Core.Path.{_∙_}
 use native.Mathlib.Omega.{arith}
 use borrow.Author.Needs.{needs}
-use Rattle.layout.proofs.Laws.Source.{source-there, source-early, source-late}
-use Rattle.layout.proofs.Laws.Apart.{source-new}
+use Rattle.layout.proofs.Laws.Apart.{source-picked, clipped-lt}
 use Rattle.layout.proofs.closed.source_of.Statement.{statement}
 use Rattle.layout.proofs.closed.source_of.Tie as tie
 
-returns : tie.Need-returns
-returns c = source-there _ _ (omega arith) _ _ (omega arith)
+excess-requires : tie.Need-excess-requires
+excess-requires c κs = search needs
 
-returns-2 : tie.Need-returns-2
-returns-2 c = c .before .before .pre .parity ∙ source-early _ _ (omega arith) _ _ (omega arith) (omega arith)
-
-sub-i : tie.Need-sub-i
-sub-i c = search needs
-
-returns-3 : tie.Need-returns-3
-returns-3 c = c .before .before .before .pre .parity ∙ source-late _ _ (omega arith) _ _ (omega arith) (omega arith)
+pick-requires : tie.Need-pick-requires
+pick-requires c κs = search needs
 
 lag-of-requires : tie.Need-lag-of-requires
-lag-of-requires c κs = search needs
+lag-of-requires c κs = (c .before .before .pre, clipped-lt _ _ _ (omega arith) (c .pick .ensures))
 
-returns-4 : tie.Need-returns-4
-returns-4 c = c .lag-of .ensures ∙ source-new _ _ _ (c .before .before .before .before .pre) _ (omega arith)
+pick-requires-2 : tie.Need-pick-requires-2
+pick-requires-2 c κs = search needs
+
+returns : tie.Need-returns
+returns c =
+    let l = c .before in
+    let p = l .before in
+    source-picked _ _ _ (p .before .before .pre) _ _ _ _ _ (p .before .excess .ensures) (p .pick .ensures) (l .lag-of .ensures) (c .pick2 .ensures)
 
 pub source-of-spec : {M : Type 1} → statement M
-source-of-spec = tie.close (tie.spec returns returns-2 sub-i returns-3 lag-of-requires returns-4)
+source-of-spec =
+    tie.close (tie.spec excess-requires pick-requires lag-of-requires pick-requires-2 returns)

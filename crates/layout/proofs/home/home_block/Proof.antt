@@ -1,37 +1,35 @@
 -- `home_block` meets its contract. Assumes nothing.
 use Prim.Native.Nat.{_-_}
-use native.Mathlib.Nat.{mod-lt}
 use native.Mathlib.Omega.{arith}
+use lib.Dec.{ltb}
 use borrow.Author.Needs.{needs}
-use Rattle.layout.proofs.Laws.Basics.{times}
-use Rattle.layout.proofs.Laws.Home.{block-above, block-below}
+use Rattle.layout.proofs.Laws.Basics.{times, picked-le}
+use Rattle.layout.proofs.Laws.Home.{block-picked}
 use Rattle.layout.proofs.home.home_block.Statement.{statement}
 use Rattle.layout.proofs.home.home_block.Tie as tie
 
-sub-up : tie.Need-sub-up
-sub-up c = search needs
-
-mul-up : tie.Need-mul-up
-mul-up c = omega (arith, times {a = c .args .s} {b = c .args .n - 1} 1048576 16 (omega arith) (omega arith))
-
-sub-up-2 : tie.Need-sub-up-2
-sub-up-2 c = search needs
-
-sub-up-3 : tie.Need-sub-up-3
-sub-up-3 c = search needs
-
-add-up : tie.Need-add-up
-add-up c = omega (arith, times {a = c .args .s} {b = c .args .n - 1} 1048576 16 (omega arith) (omega arith))
-
 sub-result : tie.Need-sub-result
-sub-result c = omega (arith, mod-lt (c .before .args .s) {m = c .before .args .n} (omega arith))
+sub-result c = search needs
+
+mul-result : tie.Need-mul-result
+mul-result c = omega (arith, times {a = c .args .s} {b = c .args .n - 1} 1048576 16 (omega arith) (omega arith))
+
+pick-requires : tie.Need-pick-requires
+pick-requires c κs = search needs
+
+sub-excess : tie.Need-sub-excess
+sub-excess c = let a = c .before .args in omega (arith, picked-le {z = 2} (ltb (a .parity) (a .d)) 1 2 (c .pick .ensures) (omega arith) (omega arith))
+
+excess-requires : tie.Need-excess-requires
+excess-requires c κs = search needs
+
+add-result : tie.Need-add-result
+add-result c = let a = c .before .before .args in omega (arith, times {a = a .s} {b = a .n - 1} 1048576 16 (omega arith) (omega arith), c .excess .ensures)
 
 returns : tie.Need-returns
-returns c = let a = c .before .args in block-above (a .n) (a .s) (a .d) (a .parity) (omega arith) (omega arith) (omega arith)
-
-returns-2 : tie.Need-returns-2
-returns-2 c = let a = c .before .args in block-below (a .n) (a .s) (a .d) (a .parity) (omega arith) (omega arith) (omega arith)
+returns c = block-picked _ _ _ _ (c .before .before .pre .2) _ _ (c .before .pick .ensures) (c .excess .ensures)
 
 pub home-block-spec : {M : Type 1} → statement M
 home-block-spec =
-    tie.close (tie.spec sub-up mul-up sub-up-2 sub-up-3 add-up sub-result returns returns-2)
+    tie.close
+    (tie.spec sub-result mul-result pick-requires sub-excess excess-requires add-result returns)

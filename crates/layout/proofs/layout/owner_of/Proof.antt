@@ -1,11 +1,11 @@
 -- `owner_of` meets its contract. Assumes nothing.
-use mathlib.Core.Path.{_≡_, ap, _∙_}
+use mathlib.Core.Path.{_≡_, ap}
 use native.Mathlib.Omega.{arith}
 use borrow.Author.Needs.{needs}
 use Rattle.layout.proofs.Laws.Source.{source-lt}
 use Rattle.layout.proofs.Laws.Apart.{apart}
 use Rattle.layout.proofs.Laws.Bounds.{sizes-of}
-use Rattle.layout.proofs.Laws.Layout.{is-free, says-blank, says-old}
+use Rattle.layout.proofs.Laws.Layout.{owner-picked}
 use Rattle.layout.proofs.layout.owner_of.Statement.{statement}
 use Rattle.layout.proofs.layout.owner_of.Tie as tie
 
@@ -20,30 +20,34 @@ disk-at-requires c κs =
     let a = c .before .before .args in
     (apart _ _ _ _ (sizes-of _ (c .before .before .pre .0) _ (omega arith)) (c .before .stripe-of .ensures), omega (arith, c .source-of .ensures, source-lt (a .g .old) (a .g .new) (omega arith) (c .before .stripe-of .result .number) (a .e)))
 
-home-owner-requires : tie.Need-home-owner-requires
-home-owner-requires c κs =
-    let k = c .before .before .before .before in
+home-code-requires : tie.Need-home-code-requires
+home-code-requires c κs =
+    let k = c .before .before .before in
     let a = k .args in
     let w = sizes-of _ (k .pre .0) (a .s) (omega arith) in
-    (record { disks = search needs; stripe = w .stripe }, omega (arith, source-lt (a .g .old) (a .g .new) (omega arith) (c .before .before .before .stripe-of .result .number) (a .e)), ap (λ x. x .parity) (c .before .before .before .stripe-of .ensures))
+    (record { disks = search needs; stripe = w .stripe }, omega (arith, c .before .source-of .ensures, source-lt (a .g .old) (a .g .new) (omega arith) (c .before .before .stripe-of .result .number) (a .e)), ap (λ x. x .parity) (c .before .before .stripe-of .ensures))
 
-new-owner-requires : tie.Need-new-owner-requires
-new-owner-requires c κs =
+new-code-requires : tie.Need-new-code-requires
+new-code-requires c κs =
     let k = c .before .before .before .before in
     let x = c .before .before .before .stripe-of in
     let n : x .result .number ≡ k .args .s = ap (λ x. x .number) (x .ensures) in
-    (k .pre .0, apart _ _ _ _ (sizes-of _ (k .pre .0) _ (omega arith)) (c .before .before .before .stripe-of .ensures), omega arith, omega arith, is-free _ (k .pre .0) _ _ _ (x .ensures) _ (c .before .before .source-of .ensures) _ (c .before .disk-at .ensures) (c .if1 .left))
+    (k .pre .0, apart _ _ _ _ (sizes-of _ (k .pre .0) _ (omega arith)) (x .ensures), omega arith, omega arith)
+
+pick-requires : tie.Need-pick-requires
+pick-requires c κs = search needs
+
+role-of-requires : tie.Need-role-of-requires
+role-of-requires c κs = search needs
 
 returns : tie.Need-returns
 returns c =
-    let k = c .before .before .before .before .before in
-    c .home-owner .ensures
-    ∙ says-old _ (k .pre .0) _ _ _ (c .before .before .before .before .stripe-of .ensures) _ (c .before .before .before .source-of .ensures) _ (c .before .before .disk-at .ensures) (c .before .if1 .taken)
-
-returns-2 : tie.Need-returns-2
-returns-2 c =
-    let k = c .before .before .before .before .before in
-    says-blank _ (k .pre .0) _ _ _ (c .before .before .before .before .stripe-of .ensures) _ (c .before .before .before .source-of .ensures) _ (c .before .before .disk-at .ensures) (c .before .if1 .left) _ (c .new-owner .ensures)
+    let n = c .before .before in
+    let h = n .before in
+    let d = h .before in
+    let x = d .before .before in
+    let k = x .before in
+    owner-picked _ (k .pre .0) _ _ _ (x .stripe-of .ensures) _ (d .before .source-of .ensures) _ (d .disk-at .ensures) _ _ _ _ (k .pre .1) (k .pre .2) (h .home-code .ensures) (n .new-code .ensures) (c .before .pick .ensures) (c .role-of .ensures)
 
 pub owner-of-spec : {M : Type 1} → statement M
 owner-of-spec =
@@ -52,7 +56,8 @@ owner-of-spec =
     stripe-of-requires
     source-of-requires
     disk-at-requires
-    home-owner-requires
-    new-owner-requires
-    returns
-    returns-2)
+    home-code-requires
+    new-code-requires
+    pick-requires
+    role-of-requires
+    returns)
