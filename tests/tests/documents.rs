@@ -8,9 +8,6 @@ use yuzkamide_tests::pbm::{Answer, Bytes, Call};
 use yuzkamide_tests::program::target;
 use yuzkamide_tests::record::{Record, BENCH};
 
-/// Named already, and written elsewhere: these land with bench/.
-const PENDING: &[&str] = &["docs/SPEED.md", "bench/run"];
-
 fn root() -> PathBuf {
     target().join("..")
 }
@@ -40,7 +37,7 @@ fn is_there(path: &Path) -> bool {
         }
     }
     let path = parts.join("/");
-    PENDING.contains(&path.as_str()) || root().join(path).exists()
+    root().join(path).exists()
 }
 
 #[test]
