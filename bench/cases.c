@@ -129,8 +129,8 @@ static void growing(struct stage *s, struct settings set, struct report *report,
     struct series x = {name,
                        {grower("library", pbm_grow, pbm_advance, l),
                         held(grower("C", peer_grow, peer_advance, l), 0.95, 0.8),
-                        held((struct contestant){.name = "restripe", .turn = restripes_in_place, .list = l}, 3, 3),
-                        {.name = "restripe, out of place", .turn = restripes_apart, .list = l}},
+                        held((struct contestant){.name = "restripe", .turn = restripes, .list = l, .in_place = true}, 3, 3),
+                        {.name = "restripe, out of place", .turn = restripes, .list = l}},
                        4, s->total};
     series_run(&x, s, set, report);
     for (size_t i = 0; i < 2; i++) { /* one more growth of either, to look at */

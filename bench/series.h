@@ -31,6 +31,7 @@ struct contestant {
     advance_call *advance;
     locate_call *locate;
     owner_call *owner;
+    bool in_place; /* of a restripe: not into a second image */
     double target_out, target_in; /* least ratio at B = 4096, out of cache and in cache; 0: none is set */
 };
 

@@ -95,30 +95,18 @@ struct restripe restripe_of(const struct stage *s, bool in_place)
                              s->plan.n, s->plan.m, s->plan.block_len, s->stripes};
 }
 
-static uint64_t one_restripe(struct stage *s, bool in_place)
+/* From the images of before, which are put back first and not timed. */
+uint64_t restripes(struct stage *s, const struct contestant *c, const uint32_t *items, size_t count)
 {
-    struct restripe r = restripe_of(s, in_place);
-    memcpy(s->images, s->home, s->home_len);
-    uint64_t start = now_ns();
-    restripe(&r);
-    return since(start, 0, r.to[0]);
-}
-
-uint64_t restripes_in_place(struct stage *s, const struct contestant *c, const uint32_t *items, size_t count)
-{
-    (void)c, (void)items;
+    (void)items;
+    struct restripe r = restripe_of(s, c->in_place);
     uint64_t ns = 0;
-    while (count-- > 0)
-        ns += one_restripe(s, true);
-    return ns;
-}
-
-uint64_t restripes_apart(struct stage *s, const struct contestant *c, const uint32_t *items, size_t count)
-{
-    (void)c, (void)items;
-    uint64_t ns = 0;
-    while (count-- > 0)
-        ns += one_restripe(s, false);
+    for (size_t i = 0; i < count; i++) {
+        memcpy(s->images, s->home, s->home_len);
+        uint64_t start = now_ns();
+        restripe(&r);
+        ns += since(start, 0, r.to[0]);
+    }
     return ns;
 }
 

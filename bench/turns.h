@@ -7,8 +7,8 @@
 
 turn reads, views, writes, rebuilds, growths, locates, owners;
 
-/* memcpy alone, from the same places; xor_check of every stripe; the conventional restripe, in place and into a second image. */
-turn copies, checks, restripes_in_place, restripes_apart;
+/* memcpy alone, from the same places; xor_check of every stripe; the conventional restripe. */
+turn copies, checks, restripes;
 
 struct restripe restripe_of(const struct stage *s, bool in_place);
 
