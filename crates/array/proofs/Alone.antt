@@ -17,7 +17,7 @@ use Rattle.state.specs.declared.Health.{Health}
 use Rattle.state.specs.declared.Record.{Record}
 use Rattle.state.specs.Good.{geometry, good, OutBelow, Limits}
 use Rattle.state.proofs.Laws.Good.{limits}
-use Rattle.array.specs.Call.{Call, format, read, view, write, grow, advance, out, rebuild, status, locate, owner, Event, fed}
+use Rattle.array.specs.Call.{Call, format, read, view, write, grow, advance, out, rebuild, status, locate, owner, Event}
 use Rattle.array.specs.Health.{absent, formatted, grownBy, withHealth}
 use Rattle.array.specs.Images.{disksOf, size, sizeWith, placeIn, othersIn, Store, header, stored, fillDisk, zeroDisks}
 use Rattle.array.specs.Table.{table, word, refusal}
@@ -235,7 +235,7 @@ module _ (r : Record) (e : Event) where
 
 -- ---- every call
 
-pub alone : (e : Event) (r : Record) → refusal r (capacity (geometry r)) (fed e) ≡ 0 → Alone e r
+pub alone : Alone
 unfolding refusal
 alone e r z =
     record {

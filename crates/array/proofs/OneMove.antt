@@ -22,7 +22,7 @@ use Rattle.state.proofs.Laws.Good.{limits}
 use Rattle.array.specs.Images.{disksOf, size, placeIn, stored}
 use Rattle.array.specs.Table.{idle}
 use Rattle.array.specs.Effect.{moveStores}
-use Rattle.array.specs.Alone.{OneMove}
+use Rattle.array.specs.Alone.{Moves, OneMove}
 use Rattle.array.proofs.Laws.Carry.{carry}
 use Rattle.array.proofs.Laws.Holding.{cellIn}
 use Rattle.array.proofs.Laws.Advance as advance
@@ -78,8 +78,8 @@ module _ (r : Record) (img : List ℕ) (gd : good r ≡ true) (busy : idle (geom
   was : (S d : ℕ) → S < r .stripes → d < disksOf r → length (placeIn r img S d) ≡ r .block
   was S d lS ld = length-place (r .block) (r .stripes) img S d (disksOf r) lS ld (rw long (omega arith))
 
-  pub one-move : OneMove r img
-  one-move =
+  moves : Moves r img
+  moves =
       record {
         copied =
             is (nextStripe g) (nextTo g) (placeIn r img (nextStripe g) (nextFrom g)) (c .stripe-lt) (c .to-lt) (was (nextStripe g) (nextFrom g) (c .stripe-lt) (c .from-lt))
@@ -91,3 +91,6 @@ module _ (r : Record) (img : List ℕ) (gd : good r ≡ true) (busy : idle (geom
             is S d (placeIn r img S d) lS ld (was S d lS ld)
             (λ j lj. others (cellIn r img j) (nextStripe g) (nextFrom g) (nextTo g) S d ne ∙ sym (getD-place (r .block) (r .stripes) img S d j lj));
       }
+
+pub one-move : OneMove
+one-move = moves

@@ -10,7 +10,7 @@ use Rattle.state.specs.Bytes.{decode}
 use Rattle.array.specs.Call.{Event, fed, accepted, number, shown, beside}
 use Rattle.array.specs.Table.{rowsBytes, refusalBytes}
 use Rattle.array.specs.Effect.{Left, act, untouched, settle, sealed, calledBytes}
-use Rattle.array.specs.Theorem.{Given, Demand1, InOrder, OnBytes}
+use Rattle.array.specs.Theorem.{Given, Answered, Demand1, InOrder, OnBytes}
 use Rattle.array.proofs.Laws.Rows.{rises, given}
 use Rattle.array.proofs.Laws.Advance.{advance-split}
 use Rattle.array.proofs.Laws.OnBytes as bytes
@@ -28,7 +28,7 @@ module _ (e : Event) (b : List ℕ) where
       go zero = numbered (e .call) (decode b) e
       go (suc n) = refl
 
-  pub kept : accepted (calledBytes e b .answer) ≡ false → (calledBytes e b .state ≡ b) × (calledBytes e b .images ≡ e .images) × (calledBytes e b .room ≡ e .room)
+  kept : accepted (calledBytes e b .answer) ≡ false → (calledBytes e b .state ≡ b) × (calledBytes e b .images ≡ e .images) × (calledBytes e b .room ≡ e .room)
   unfolding calledBytes
   kept = go (refusalBytes b (fed e))
     where
@@ -56,8 +56,11 @@ module _ (e : Event) (b : List ℕ) where
   unfolding rowsBytes
   table-is = given (rowsBytes b (fed e)) (rises (e .call) _ _ _ _ (length (e .images)) (length (e .room)))
 
-  pub demand1 : Demand1 e b
-  demand1 = record { number-is = number-is; table-is = table-is; zeros = zeros; untouched = kept; refused = refused }
+  answered : Answered e b
+  answered = record { number-is = number-is; table-is = table-is; zeros = zeros; untouched = kept; refused = refused }
+
+pub demand1 : Demand1
+demand1 = answered
 
 pub in-order : InOrder
 in-order = advance-split

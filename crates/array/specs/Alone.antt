@@ -1,21 +1,22 @@
 -- What an accepted call leaves alone, and that its stores stay inside the images it was lent. Document 01, Calls, and demand 1: "every call
 -- .. stays inside what it was lent".
--- `alone : (e : Event) (r : Record) → refusal r (capacity (geometry r)) (fed e) ≡ 0 → Alone e r` of proofs/Alone.antt proves it of every call
--- that the table lets through, whatever bytes it is lent. (A refused call leaves everything alone: `Demand1.untouched` of Theorem.)
+-- The statements are `Alone` and `OneMove`; `alone` of proofs/Alone.antt and `one-move` of proofs/OneMove.antt prove them. (A refused call leaves
+-- everything alone: `Demand1` of Theorem.)
 use Prim.Native.Nat.{ℕ, _+_, _≤_, _<_}
 use mathlib.Core.Path.{_≡_}
 use mathlib.Core.Bool.{true, false}
 use mathlib.Core.Logic.{_≢_}
 use mathlib.Core.List.{List, [], _∷_}
 use lib.ListN.{length}
-use Rattle.layout.specs.Layout.{layout, nextStripe, nextFrom, nextTo}
+use Rattle.layout.specs.Layout.{capacity, layout, nextStripe, nextFrom, nextTo}
 use Rattle.blocks.specs.Block.{zeros}
 use Rattle.blocks.specs.Stripe.{offset}
 use Rattle.state.specs.declared.Record.{Record}
-use Rattle.state.specs.Good.{geometry}
-use Rattle.array.specs.Call.{format, read, view, write, grow, advance, rebuild, Event}
+use Rattle.state.specs.Good.{geometry, good}
+use Rattle.array.specs.Call.{format, read, view, write, grow, advance, rebuild, Event, fed}
 use Rattle.array.specs.Health.{absent}
-use Rattle.array.specs.Images.{disksOf, placeIn, Store, block, header, stored}
+use Rattle.array.specs.Images.{disksOf, size, placeIn, Store, block, header, stored}
+use Rattle.array.specs.Table.{idle, refusal}
 use Rattle.array.specs.Effect.{placeOf, moveStores, effect, act}
 
 -- every block of a list of stores is whole, B bytes, and its place lies within the first `len` bytes
@@ -28,7 +29,8 @@ Inside len B T (header x ∷ ps) = Inside len B T ps
 abbrev pub Stays : Event → Record → ℕ → ℕ → Type 0
 Stays e r S d = placeIn r (act e r .images) S d ≡ placeIn r (e .images) S d
 
-pub record Alone (e : Event) (r : Record) : Type 0 where
+-- what is claimed of one call e on a record r ..
+pub record LeavesAlone (e : Event) (r : Record) : Type 0 where
   -- "stays inside what it was lent": each of its stores; and images and room are as long as they were
   pub inside : Inside (length (e .images)) (effect (e .call) r e .shape .block) (effect (e .call) r e .shape .stripes) (effect (e .call) r e .stores)
   pub long : length (act e r .images) ≡ length (e .images)
@@ -50,12 +52,21 @@ pub record Alone (e : Event) (r : Record) : Type 0 where
   -- rebuild: "writes disk d of every stripe"
   pub rebuild-others : (d : ℕ) → e .call ≡ rebuild d → (S f : ℕ) → S < r .stripes → f < disksOf r → f ≢ d → Stays e r S f
 
--- ---- a single move of an advance, on a record that is good and has a move left, and images of its size: "A move copies the block to its new place, then
--- zeroes the place it left", and nothing else. (`one-move` of proofs/OneMove.antt; an advance makes one after the other, `InOrder` of Theorem)
+-- .. and it holds of every call that the table lets through, whatever bytes it is lent
+abbrev pub Alone : Type 0
+Alone = (e : Event) (r : Record) → refusal r (capacity (geometry r)) (fed e) ≡ 0 → LeavesAlone e r
 
-pub record OneMove (r : Record) (img : List ℕ) : Type 0 where
+-- ---- a single move of an advance: "A move copies the block to its new place, then zeroes the place it left", and nothing else. (An advance
+-- makes one after the other: `InOrder` of Theorem.)
+
+-- what is claimed of the next move of a record r on images img ..
+pub record Moves (r : Record) (img : List ℕ) : Type 0 where
   pub copied : let g = geometry r in placeIn r (stored (r .block) (r .stripes) (moveStores r img) img) (nextStripe g) (nextTo g) ≡ placeIn r img (nextStripe g) (nextFrom g)
   pub zeroed : let g = geometry r in placeIn r (stored (r .block) (r .stripes) (moveStores r img) img) (nextStripe g) (nextFrom g) ≡ zeros (r .block)
   pub others : let g = geometry r in
       (S d : ℕ) → S < r .stripes → d < disksOf r → (S ≡ nextStripe g → (d ≢ nextFrom g) × (d ≢ nextTo g))
       → placeIn r (stored (r .block) (r .stripes) (moveStores r img) img) S d ≡ placeIn r img S d
+
+-- .. and it holds of every good record that has a move left, whatever the images of its size hold
+abbrev pub OneMove : Type 0
+OneMove = (r : Record) (img : List ℕ) → good r ≡ true → idle (geometry r) ≡ false → length img ≡ size r → Moves r img

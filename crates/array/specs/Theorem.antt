@@ -1,6 +1,6 @@
 -- DEMAND 1, as far as the definitions go: "The lent images, record, block and scratch hold after a refused call the very bytes they
 -- held before it, nonsense records and lengths included; every call .. refuses exactly as the table says".
--- `demand1 : (e : Event) (b : List ℕ) → Demand1 e b` of proofs/Theorem.antt proves it of every call, whatever it is lent.
+-- The statement is `Demand1`; `demand1` of proofs/Theorem.antt proves it, `in-order` and `on-bytes` the two behind it.
 use Prim.Native.Nat.{ℕ, _+_, _<_}
 use mathlib.Core.Path.{_≡_}
 use mathlib.Core.Bool.{Bool, true, false}
@@ -26,7 +26,8 @@ pub record Given (rows : List Row) : Type 0 where
   -- what stands before a row has lower numbers, what stands behind it higher ones
   pub rising : (before middle after : List Row) (x y : Row) → rows ≡ before ++ x ∷ (middle ++ y ∷ after) → x .0 < y .0
 
-pub record Demand1 (e : Event) (b : List ℕ) : Type 0 where
+-- what is claimed of one call e, lent a record of the bytes b ..
+pub record Answered (e : Event) (b : List ℕ) : Type 0 where
   -- the number returned is the table's ..
   pub number-is : number (calledBytes e b .answer) ≡ refusalBytes b (fed e)
   pub table-is : Given (rowsBytes b (fed e))
@@ -35,6 +36,10 @@ pub record Demand1 (e : Event) (b : List ℕ) : Type 0 where
   -- .. and if it is not 0, record, images and block or scratch are as they were lent
   pub untouched : accepted (calledBytes e b .answer) ≡ false → (calledBytes e b .state ≡ b) × (calledBytes e b .images ≡ e .images) × (calledBytes e b .room ≡ e .room)
   pub refused : (accepted (calledBytes e b .answer) ≡ false) ↔ (refusalBytes b (fed e) ≢ 0)
+
+-- .. and it holds of every call, whatever it is lent: "nonsense records and lengths included"
+abbrev pub Demand1 : Type 0
+Demand1 = (e : Event) (b : List ℕ) → Answered e b
 
 -- "makes moves in order": the stores of i + k moves are those of i, and then those of k more on what the first leave. (`in-order`)
 abbrev pub InOrder : Type 0

@@ -1,255 +1,41 @@
 -- Demand 3, proved: `demand3`, `may-be-lent`, `flat-list`, `last-given`, `zero-at-first` and `second-out`. Assumes nothing.
-use Prim.Native.Nat.{ℕ, zero, suc, _+_, _≤_, _<_}
-use mathlib.Core.Path.{_≡_, refl, sym, ap, ap₂, _∙_, subst}
-use mathlib.Core.Bool.{Bool, true, false, not}
-use mathlib.Core.Logic.{_↔_, _≢_}
-use mathlib.Core.List.{List, [], _∷_, _++_, map}
-use native.Mathlib.Omega.{arith}
-use lib.Dec.{eqb}
-use lib.ListN.{length, length-append, List·getD-append}
-use lib.Seq.{ext-getD}
-use borrow.Author.Tests.{eqb-false}
-use Rattle.layout.specs.Layout.{totalOf, capacity, layout}
-use Rattle.layout.specs.Limits.{Good}
+use Prim.Native.Nat.{ℕ}
+use mathlib.Core.Path.{_≡_, refl}
+use mathlib.Core.List.{List, [], _∷_, map}
 use Rattle.blocks.specs.Block.{zeros}
-use Rattle.blocks.specs.Stripe.{offset}
-use Rattle.blocks.proofs.Laws.Stripe.{place-in, length-place, getD-place}
-use Rattle.state.specs.declared.Health.the-variants.{Out}
-use Rattle.state.specs.declared.Health.{Health}
-use Rattle.state.specs.declared.Record.{Record}
-use Rattle.state.specs.Good.{geometry}
-use Rattle.state.specs.Bytes.{decode, encode, goodBytes}
-use Rattle.state.proofs.Laws.Good.{within-limits}
-use Rattle.state.proofs.Laws.Bytes.{decode-encode}
-use Rattle.array.specs.Call.{Call, format, read, view, write, advance, out, Event, fed, Answer, bytes, accepted}
-use Rattle.array.specs.Health.{isLost, absent}
-use Rattle.array.specs.Images.{disksOf, size, placeIn}
-use Rattle.array.specs.Table.{idle, word, table, refusal, rowsBytes, refusalBytes}
-use Rattle.array.specs.Effect.{placeOf, parityAfter, Left, act, untouched, settle, sealed, calledBytes}
-use Rattle.array.specs.Sound.{Sound}
-use Rattle.array.proofs.Theorem.{demand1}
-use Rattle.array.proofs.Laws.Acting.{fills, shows, parity-first, parity-last}
-use Rattle.array.proofs.Laws.OnBytes.{good-encode}
-use Rattle.array.proofs.Laws.Table.{some-new}
-use Rattle.array.proofs.Laws.Passed.{moves}
-use Rattle.array.proofs.Laws.Holding.{Holding}
-use Rattle.array.proofs.Laws.Sound.{sound}
-use Rattle.array.proofs.Laws.Advance.{parity-kept}
-use Rattle.history.specs.Flat.{Flat, flatAct, flatSettle, flatStep}
-use Rattle.history.specs.Lent.{Cabinet, Takes, nothing, anything, those, takes, Keeps, Lent, Lends, leaves, imagesAfter, next}
-use Rattle.history.specs.Theorem.{tally, Claim, Claims, opening, Demand3, MayBeLent, Fair, outcomes, flatOutcomes, FlatList, LastGiven, ZeroAtFirst, SecondOut}
-use Rattle.history.proofs.Laws.Step.{Alike, Holds, alike, opens}
-use Rattle.history.proofs.Laws.Asked.{asked}
+use Rattle.array.specs.Call.{format, write, out, Event, fed, Answer}
+use Rattle.history.specs.Flat.{Flat, flatStep}
+use Rattle.history.specs.Lent.{Form, asBytes, asRecord, Cabinet, leaves, next}
+use Rattle.history.specs.Theorem.{tally, Claims, opening, Demand3On, Demand3, MayBeLent, Fair, outcomes, flatOutcomes, FlatListOn, FlatList, LastGiven, ZeroAtFirst, SecondOut}
+use Rattle.history.proofs.Laws.Claim.{on-bytes}
+use Rattle.history.proofs.Laws.Records.{on-records}
+use Rattle.history.proofs.Laws.Lending.{free-to-lend}
 use Rattle.history.proofs.Laws.Last.{gives, is-written, is-zero}
 use Rattle.history.proofs.Laws.Lost.{lost-then, lost-reads}
-use Rattle.history.proofs.Laws.Tally.{Counted, counted-step, over-is}
-
--- ---- what a call leaves, by its definition
-
-module _ (e : Event) (a : Cabinet) where
-  abbrev X : ℕ → Left (List ℕ)
-  X n = settle n (untouched e (a .rec)) (sealed (act e (decode (a .rec))))
-
-  -- an accepted call leaves what its effect leaves
-  done : accepted (leaves e a .answer) ≡ true → leaves e a ≡ sealed (act e (decode (a .rec)))
-  unfolding calledBytes
-  done = go (refusalBytes (a .rec) (fed e))
-    where
-      go : (n : ℕ) → accepted (X n .answer) ≡ true → X n ≡ sealed (act e (decode (a .rec)))
-      go zero u = refl
-      go (suc n) u = absurd (let w : _≡_ {A = ℕ} 0 1 = cc in omega arith)
-
-  filled : (b : ℕ) → e .call ≡ read b → accepted (leaves e a .answer) ≡ true → leaves e a .answer ≡ bytes (leaves e a .room)
-  filled b q u = rw (done u) (fills e (decode (a .rec)) b q)
-
-  shown : (b : ℕ) → e .call ≡ view b → accepted (leaves e a .answer) ≡ true →
-      (absent (decode (a .rec) .health) (placeOf (decode (a .rec)) b .stripe) (placeOf (decode (a .rec)) b .disk) ≡ true → leaves e a .answer ≡ bytes (leaves e a .room))
-      × (absent (decode (a .rec) .health) (placeOf (decode (a .rec)) b .stripe) (placeOf (decode (a .rec)) b .disk) ≡ false
-      → (leaves e a .answer ≡ bytes (placeIn (decode (a .rec)) (e .images) (placeOf (decode (a .rec)) b .stripe) (placeOf (decode (a .rec)) b .disk))) × (leaves e a .room ≡ e .room))
-  shown b q u = rw (done u) (shows e (decode (a .rec)) b q)
-
-  ends : (k S : ℕ) → e .call ≡ advance k → accepted (leaves e a .answer) ≡ true
-      → parityAfter k (decode (a .rec)) (e .images) S ≡ placeIn (decode (a .rec)) (leaves e a .images) S (layout (geometry (decode (leaves e a .state))) .parity S)
-  ends k S q u = rw (done u, decode-encode (act e (decode (a .rec)) .state)) (parity-last e (decode (a .rec)) k S q)
-
-  stays : accepted (leaves e a .answer) ≡ false → next e a ≡ a
-  unfolding next
-  stays u =
-      ap₂ (λ (b img : List ℕ). record { rec = b; img = img }) (demand1 e (a .rec) .untouched u .0)
-      (ap (λ (c : Bool). imagesAfter c (takes (e .call) (decode (a .rec))) (a .img) (leaves e a .images)) u)
-
-  -- an accepted call passed the table
-  passed : accepted (leaves e a .answer) ≡ true → word (rowsBytes (a .rec) (fed e)) ≡ 0
-  unfolding calledBytes refusalBytes
-  passed u = go (refusalBytes (a .rec) (fed e)) u
-    where
-      go : (n : ℕ) → accepted (X n .answer) ≡ true → n ≡ 0
-      go zero v = refl
-      go (suc n) v = absurd (let w : _≡_ {A = ℕ} 0 1 = cc in omega arith)
-
-  parities : Good (geometry (decode (a .rec))) → (k i S : ℕ) → e .call ≡ advance k → accepted (leaves e a .answer) ≡ true → S < decode (a .rec) .stripes
-      → parityAfter (suc i) (decode (a .rec)) (e .images) S ≡ parityAfter i (decode (a .rec)) (e .images) S
-  unfolding rowsBytes
-  parities gd k i S q u lS =
-      let r : Record = decode (a .rec) in
-      let short : Bool = not (eqb (length (a .rec)) 16) in
-      let bad : Bool = not (goodBytes (a .rec)) in
-      let z : word (table (advance k) short bad r (capacity (geometry r)) (length (e .images)) (length (e .room))) ≡ 0 =
-      subst (λ (c : Call). word (table c short bad r (capacity (geometry r)) (length (e .images)) (length (e .room))) ≡ 0) q (passed u) in
-      let w = moves short bad r (capacity (geometry r)) (length (e .images)) (length (e .room)) k z in
-      let nz : r .new ≢ 0 = some-new (geometry r) (w .busy) in
-      parity-kept (suc i) r (e .images) gd nz (w .long) S lS ∙ sym (parity-kept i r (e .images) gd nz (w .long) S lS)
-
--- ---- the record's bytes read back
-
-read-back : (b : List ℕ) (r : Record) → b ≡ encode r → decode b ≡ r
-read-back b r p = ap decode p ∙ decode-encode r
-
-over-bytes : (b : List ℕ) (r : Record) (sum : ℕ) → b ≡ encode r → (r .new ≢ 0 → r .moves ≡ sum) → decode b .new ≢ 0 → (idle (geometry (decode b)) ≡ true) ↔ (sum ≡ totalOf (geometry (decode b)))
-over-bytes b r sum p h = rw (read-back b r p) (over-is (geometry r) sum h)
-
-sound-bytes : (b : List ℕ) (r : Record) (img : List ℕ) (bs : List (List ℕ)) → b ≡ encode r → Holding r img bs → isLost (decode b .health) ≡ false → (S : ℕ) → S < decode b .stripes → Sound (decode b) img S
-sound-bytes b r img bs p h = rw (read-back b r p) (λ nl S lS. sound r img bs h nl S lS)
-
--- ---- one call
-
-claim : (e : Event) (a : Cabinet) (f : Flat) (sum : ℕ) → Alike e a (flatStep (fed e) f) → Counted (flatStep (fed e) f .1) sum
-    → ((k i S : ℕ) → e .call ≡ advance k → accepted (leaves e a .answer) ≡ true → S < decode (a .rec) .stripes
-    → parityAfter (suc i) (decode (a .rec)) (e .images) S ≡ parityAfter i (decode (a .rec)) (e .images) S)
-    → Claim e a f sum
-unfolding Counted
-claim e a f sum s h p =
-    let y : Answer × Flat = flatStep (fed e) f in
-    record {
-      answer = s .answer;
-      filled = filled e a;
-      shown = shown e a;
-      fields = s .fields;
-      good-left = rw (s .fields) (good-encode (y .1 .numbers) ∙ within-limits (y .1 .numbers) (s .holding .limits));
-      refused = demand1 e (a .rec) .untouched;
-      stays = stays e a;
-      parity = p;
-      parity-first = parity-first (decode (a .rec)) (e .images);
-      parity-last = ends e a;
-      over = over-bytes (leaves e a .state) (y .1 .numbers) sum (s .fields) h;
-      sound = sound-bytes (leaves e a .state) (y .1 .numbers) (next e a .img) (y .1 .blocks) (s .fields) (s .holding);
-    }
-
--- ---- every list
-
-holds-next : (e : Event) (a : Cabinet) (y : Answer × Flat) → Alike e a y → Holds (next e a) (y .1)
-unfolding next
-holds-next e a y s = record { fields = s .fields; holding = s .holding }
-
-counted-next : (e : Event) (a : Cabinet) (f : Flat) (sum : ℕ) → Counted f sum → Alike e a (flatStep (fed e) f) → Counted (flatStep (fed e) f .1) (tally (e .call) (leaves e a .answer) sum)
-counted-next e a f sum h s = rw (s .answer) (counted-step (fed e) f sum h)
-
-good-bytes : (b : List ℕ) (r : Record) → b ≡ encode r → Good (geometry r) → Good (geometry (decode b))
-good-bytes b r p g = rw (read-back b r p) g
-
-claims : (es : List Event) (a : Cabinet) (f : Flat) (sum : ℕ) → Holds a f → Counted f sum → Claims es a f sum
-unfolding Claims
-claims [] a f sum h c = tt
-claims (e ∷ es) a f sum h c =
-    λ l.
-    let s : Alike e a (flatStep (fed e) f) = alike e a f h l in
-    let after : ℕ = tally (e .call) (leaves e a .answer) sum in
-    let c′ : Counted (flatStep (fed e) f .1) after = counted-next e a f sum c s in (
-      claim e a f after s c′ (parities e a (good-bytes (a .rec) (f .numbers) (h .fields) (h .holding .limits .array))),
-      claims es (next e a) (flatStep (fed e) f .1) after (holds-next e a (flatStep (fed e) f) s) c′,
-    )
-
--- a format starts the count anew
-counted-format : (n B T : ℕ) (img room : List ℕ) (a : Cabinet) (f : Flat) (sum : ℕ) → accepted (leaves (opening n B T img room) a .answer) ≡ true → Alike (opening n B T img room) a (flatStep (fed (opening n B T img room)) f)
-    → Counted (flatStep (fed (opening n B T img room)) f .1) sum
-unfolding flatStep flatAct Counted
-counted-format n B T img room a f sum u s = go (refusal (f .numbers) (length (f .blocks)) (fed (opening n B T img room))) (ap accepted (sym (s .answer)) ∙ u)
-  where
-    Y : ℕ → Answer × Flat
-    Y k = flatSettle k f (flatAct (format n B T) (f .numbers) (f .blocks))
-
-    go : (k : ℕ) → accepted (Y k .0) ≡ true → Y k .1 .numbers .new ≢ 0 → Y k .1 .numbers .moves ≡ sum
-    go zero v = λ q. absurd (q refl)
-    go (suc k) v = absurd (let w : _≡_ {A = ℕ} 0 1 = cc in omega arith)
 
 pub demand3 : Demand3
-unfolding Claims
-demand3 a f sum n B T img room u es =
-    let e : Event = opening n B T img room in
-    let s : Alike e a (flatStep (fed e) f) = opens n B T img room a f u in
-    let after : ℕ = tally (e .call) (leaves e a .answer) sum in
-    let c : Counted (flatStep (fed e) f .1) after = counted-format n B T img room a f after u s in
-    λ l. (
-      claim e a f after s c (λ k i S q v lS. absurd (let w : _≡_ {A = ℕ} 0 1 = cc in omega arith)),
-      claims es (next e a) (flatStep (fed e) f .1) after (holds-next e a (flatStep (fed e) f) s) c,
-    )
+demand3 = (on-bytes, on-records on-bytes)
 
--- ---- what stands may be lent
-
-module _ (r : Record) (left behind : List ℕ) (long : length left ≡ size r) where
-  keeps : Keeps r left (left ++ behind)
-  unfolding Keeps
-  keeps S d lS ld q =
-      let more : size r ≤ length (left ++ behind) = rw (length-append left behind, long) (omega arith) in
-      let len : length (placeIn r (left ++ behind) S d) ≡ r .block = length-place (r .block) (r .stripes) (left ++ behind) S d (disksOf r) lS ld more in
-      let len′ : length (placeIn r left S d) ≡ r .block = length-place (r .block) (r .stripes) left S d (disksOf r) lS ld (rw long (omega arith)) in
-      ext-getD 0 (placeIn r (left ++ behind) S d) (placeIn r left S d) (len ∙ sym len′)
-      (λ j l.
-      let lj : j < r .block = rw len at l in
-      getD-place (r .block) (r .stripes) (left ++ behind) S d j lj
-      ∙ List·getD-append left behind 0 (offset (r .block) (r .stripes) S d + j) (omega (arith, place-in (r .block) (r .stripes) S d (disksOf r) lS ld))
-      ∙ sym (getD-place (r .block) (r .stripes) left S d j lj))
-
-module _ (e : Event) (r : Record) (left : List ℕ) where
-  -- images that keep what stands may be lent to any call, and so may any to one that asks for none or is lent another length
-  by-keeping : Keeps r left (e .images) → Lends e r left
-  unfolding Lends
-  by-keeping k = go (takes (e .call) r)
-    where
-      go : (t : Takes) → Lent t r left (e .images)
-      go nothing = tt
-      go anything = tt
-      go (those len) = λ z. k
-
-  by-length : ((len : ℕ) → takes (e .call) r ≡ those len → length (e .images) ≢ len) → Lends e r left
-  unfolding Lends
-  by-length ne = go (takes (e .call) r) refl
-    where
-      go : (t : Takes) → takes (e .call) r ≡ t → Lent t r left (e .images)
-      go nothing q = tt
-      go anything q = tt
-      go (those len) q = λ z. absurd (ne len q z)
-
-  -- a disk that is not out is another one
-  others : (o : ℕ) → r .health ≡ Out o → (S d : ℕ) → absent (r .health) S d ≡ false → d ≢ o
-  others o h S d u = eqb-false d o (ap (λ (x : Health). absent x S d) (sym h) ∙ u)
-
-  pub may-be-lent : MayBeLent e r left
-  unfolding Keeps Lends takes refusal
-  may-be-lent =
-      record {
-        what-stands = λ behind long q. by-keeping (subst (Keeps r left) (sym q) (keeps r left behind long));
-        any-format = λ n B T q. subst (λ (c : Call). Lent (takes c r) r left (e .images)) (sym q) tt;
-        any-length = λ c z. by-length (λ n q. asked r c (length (e .images)) (length (e .room)) n (e .call) q z);
-        any-out = λ o h k. by-keeping (λ S d lS ld u. k S d lS ld (others o h S d u));
-        any-lost = λ h. by-keeping (λ S d lS ld u. absurd (let w : _≡_ {A = ℕ} 0 1 = cc (ap (λ (x : Health). absent x S d) h) in omega arith));
-        no-images = λ q. subst (λ (t : Takes). Lent t r left (e .images)) (sym q) tt;
-      }
+pub may-be-lent : MayBeLent
+may-be-lent = free-to-lend
 
 -- ---- in short
 
-outcome : {x x′ : Answer} {r r′ : List ℕ} {l l′ : List (Answer × List ℕ)} → x ≡ x′ → r ≡ r′ → l ≡ l′ → _≡_ {A = List (Answer × List ℕ)} ((x, r) ∷ l) ((x′, r′) ∷ l′)
+outcome : {R : Type 0} {x x′ : Answer} {r r′ : R} {l l′ : List (Answer × R)} → x ≡ x′ → r ≡ r′ → l ≡ l′ → _≡_ {A = List (Answer × R)} ((x, r) ∷ l) ((x′, r′) ∷ l′)
 outcome p q t = λ i. (p i, q i) ∷ t i
 
-same-outcomes : (es : List Event) (a : Cabinet) (f : Flat) (sum : ℕ) → Claims es a f sum → Fair es a f → outcomes es a ≡ flatOutcomes (map fed es) f
+same-outcomes : {R : Type 0} (x : Form R) (es : List Event) (a : Cabinet R) (f : Flat) (sum : ℕ) → Claims x es a f sum → Fair x es a f → outcomes x es a ≡ flatOutcomes x (map fed es) f
 unfolding Claims Fair outcomes flatOutcomes
-same-outcomes [] a f sum h l = refl
-same-outcomes (e ∷ es) a f sum h l =
-    let after : ℕ = tally (e .call) (leaves e a .answer) sum in
-    outcome (h (l .0) .0 .answer) (h (l .0) .0 .fields) (same-outcomes es (next e a) (flatStep (fed e) f .1) after (h (l .0) .1) (l .1))
+same-outcomes x [] a f sum h l = refl
+same-outcomes x (e ∷ es) a f sum h l =
+    let after : ℕ = tally (e .call) (leaves x e a .answer) sum in
+    outcome (h (l .0) .0 .answer) (h (l .0) .0 .fields) (same-outcomes x es (next x e a) (flatStep (fed e) f .1) after (h (l .0) .1) (l .1))
+
+same-list : {R : Type 0} (x : Form R) → Demand3On x → FlatListOn x
+same-list x d a f n B T img room u es l = same-outcomes x (opening n B T img room ∷ es) a f 0 (d a f 0 n B T img room u es) l
 
 pub flat-list : FlatList
-flat-list a f n B T img room u es l = same-outcomes (opening n B T img room ∷ es) a f 0 (demand3 a f 0 n B T img room u es) l
+flat-list = (same-list asBytes (demand3 .0), same-list asRecord (demand3 .1))
 
 -- ---- what a block was last given
 

@@ -8,16 +8,35 @@ use mathlib.Core.Bool.{Bool, true, false}
 use mathlib.Core.List.{List}
 use lib.ListN.{length}
 use Rattle.state.specs.declared.Record.{Record}
-use Rattle.state.specs.Bytes.{decode}
+use Rattle.state.specs.Good.{good}
+use Rattle.state.specs.Bytes.{decode, goodBytes, encode}
 use Rattle.array.specs.Call.{Call, format, read, view, write, grow, advance, out, rebuild, status, locate, owner, Event, accepted}
 use Rattle.array.specs.Health.{absent}
 use Rattle.array.specs.Images.{disksOf, size, sizeWith, placeIn}
-use Rattle.array.specs.Effect.{Left, calledBytes}
+use Rattle.array.specs.Effect.{Left, called, calledBytes}
 
--- what the line controller keeps from call to call: the record's bytes and the images
-pub record Cabinet : Type 0 where
-  pub rec : List ℕ
+-- ---- the record in one of its two forms: what a call on it leaves, the record that it is, how a record is put into it, and when it is good
+
+pub record Form (R : Type 0) : Type 0 where
+  pub call : Event → R → Left R
+  pub decoded : R → Record
+  pub encoded : Record → R
+  pub isGood : R → Bool
+
+-- "exported .. with the record as 16 bytes"
+abbrev pub asBytes : Form (List ℕ)
+asBytes = record { call = calledBytes; decoded = decode; encoded = encode; isGood = goodBytes }
+
+-- "Inside the library the record is lent"
+abbrev pub asRecord : Form Record
+asRecord = record { call = called; decoded = λ r. r; encoded = λ r. r; isGood = good }
+
+-- what the line controller keeps from call to call: the record, in either form, and the images
+pub record Cabinet (R : Type 0) : Type 0 where
+  pub rec : R
   pub img : List ℕ
+
+-- ---- what may be lent
 
 -- the images that a call takes: none, any, or those that stand, of the length that refusal 7 asks for
 pub data Takes : Type 0 where
@@ -55,8 +74,8 @@ Lends e r left = Lent (takes (e .call) r) r left (e .images)
 
 -- ---- one call: it is lent the record of the cabinet; what it leaves, and what then stands in the cabinet
 
-abbrev pub leaves : Event → Cabinet → Left (List ℕ)
-leaves e a = calledBytes e (a .rec)
+abbrev pub leaves : {R : Type 0} → Form R → Event → Cabinet R → Left R
+leaves x e a = x .call e (a .rec)
 
 abbrev pub imagesAfter : Bool → Takes → List ℕ → List ℕ → List ℕ
 imagesAfter false t before left = before
@@ -64,5 +83,7 @@ imagesAfter true nothing before left = before
 imagesAfter true anything before left = left
 imagesAfter true (those len) before left = left
 
-unfoldable pub next : Event → Cabinet → Cabinet
-next e a = let x = leaves e a in record { rec = x .state; img = imagesAfter (accepted (x .answer)) (takes (e .call) (decode (a .rec))) (a .img) (x .images) }
+unfoldable pub next : {R : Type 0} → Form R → Event → Cabinet R → Cabinet R
+next x e a =
+    let y = leaves x e a in
+    record { rec = y .state; img = imagesAfter (accepted (y .answer)) (takes (e .call) (x .decoded (a .rec))) (a .img) (y .images) }

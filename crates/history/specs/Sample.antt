@@ -11,7 +11,7 @@ use Rattle.state.specs.declared.Health.the-variants.{Whole, Out, Lost}
 use Rattle.state.specs.Bytes.{decode}
 use Rattle.array.specs.Call.{Call, format, read, view, write, grow, advance, out, rebuild, status, locate, owner, Event, fed, Answer, refused, done, bytes, made, figures, placed, owned}
 use Rattle.history.specs.Flat.{Flat, flat}
-use Rattle.history.specs.Lent.{Cabinet, next}
+use Rattle.history.specs.Lent.{asBytes, Cabinet, next}
 use Rattle.history.specs.Theorem.{outcomes, flatOutcomes}
 
 -- ---- a script
@@ -56,9 +56,9 @@ abbrev pub lent : Step → List ℕ → Event
 lent s img = record { call = s .call; images = s .change img; room = s .room }
 
 -- the events of a script, each lent what the ones before left, changed as the script says
-unfoldable pub play : List Step → Cabinet → List Event
+unfoldable pub play : List Step → Cabinet (List ℕ) → List Event
 play [] a = []
-play (s ∷ ss) a = let e = lent s (a .img) in e ∷ play ss (next e a)
+play (s ∷ ss) a = let e = lent s (a .img) in e ∷ play ss (next asBytes e a)
 
 -- ---- the script
 
@@ -178,7 +178,7 @@ script = begun ++ growing ++ degraded ++ finished ++ turnedAway ++ lost ++ anew
 -- ---- both machines before the first format
 
 -- the array: nonsense, of the lengths that the format asks for
-abbrev pub cabinet : Cabinet
+abbrev pub cabinet : Cabinet (List ℕ)
 cabinet = record { rec = junk 91 16; img = junk 57 72 }
 
 -- the flat list: the same nonsense as numbers, and no blocks
@@ -279,6 +279,6 @@ expected =
 
 pub record Sample : Type 0 where
   -- the array, on its bytes
-  pub array : outcomes (play script cabinet) cabinet ≡ expected
+  pub array : outcomes asBytes (play script cabinet) cabinet ≡ expected
   -- the flat list, fed the calls and the lengths
-  pub flat-list : flatOutcomes (map fed (play script cabinet)) list ≡ expected
+  pub flat-list : flatOutcomes asBytes (map fed (play script cabinet)) list ≡ expected

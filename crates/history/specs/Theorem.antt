@@ -4,28 +4,27 @@
 -- refusal is exactly that of document 01's flat list, zero at first, of what each block was last given; each move keeps its
 -- stripe's parity value; and growth is over exactly when the moves reported since it began are T × n × m / (n + m) .. A second
 -- disk out while the first is not rebuilt refuses all reads until a new format."
--- `demand3`, `may-be-lent`, `flat-list`, `last-given`, `zero-at-first` and `second-out` of
--- proofs/Theorem.antt prove it, and assume nothing.
+-- The statement is `Demand3`; behind it stand `MayBeLent`, `FlatList`, `LastGiven`, `ZeroAtFirst` and `SecondOut`. `demand3`, `may-be-lent`, `flat-list`,
+-- `last-given`, `zero-at-first` and `second-out` of proofs/Theorem.antt prove them, and assume nothing.
 use Prim.Native.Nat.{ℕ, suc, _+_, _<_}
 use mathlib.Core.Path.{_≡_}
 use mathlib.Core.Bool.{true, false, cond}
 use mathlib.Core.Logic.{_⊎_, _↔_, _≢_}
 use mathlib.Core.List.{List, [], _∷_, _++_, map}
-use lib.ListN.{length}
-use Rattle.layout.specs.Layout.{totalOf, layout}
+use lib.ListN.{length, getD}
+use Rattle.layout.specs.Layout.{totalOf, capacity, layout}
 use Rattle.blocks.specs.Block.{zeros}
 use Rattle.state.specs.declared.Health.the-variants.{Out, Lost}
 use Rattle.state.specs.declared.Record.{Record}
 use Rattle.state.specs.Good.{geometry, good}
-use Rattle.state.specs.Bytes.{decode, goodBytes, encode}
 use Rattle.array.specs.Call.{Call, format, read, view, write, grow, advance, out, rebuild, status, locate, owner, Event, Fed, fed, Answer, refused, bytes, accepted, count}
 use Rattle.array.specs.Health.{isLost, absent}
-use Rattle.array.specs.Images.{disksOf, size, placeIn}
+use Rattle.array.specs.Images.{disksOf, size, placeIn, seen}
 use Rattle.array.specs.Table.{idle, refusal}
 use Rattle.array.specs.Effect.{placeOf, parityAfter}
 use Rattle.array.specs.Sound.{Sound}
 use Rattle.history.specs.Flat.{Flat, flatStep}
-use Rattle.history.specs.Lent.{Cabinet, nothing, takes, Lends, leaves, next}
+use Rattle.history.specs.Lent.{Form, asBytes, asRecord, Cabinet, nothing, takes, Lends, leaves, next}
 
 -- "The moves of a growth are the sum of the counts that advance reported since that grow was accepted, no format and no further
 -- grow accepted since": the sum after an accepted call that reported k, and after any call
@@ -45,61 +44,76 @@ tallied (owner S d) k sum = sum
 unfoldable pub tally : Call → Answer → ℕ → ℕ
 tally c a sum = cond (accepted a) (tallied c (count a) sum) sum
 
--- ---- what is claimed of one call e: a is the cabinet before it, f the flat list before it, sum the moves of the growth after it
+-- ---- what is claimed of one call e: x is the form of the record, a the cabinet before it, f the flat list before it, sum the moves of the growth after it
 
-pub record Claim (e : Event) (a : Cabinet) (f : Flat) (sum : ℕ) : Type 0 where
+pub record Claim {R : Type 0} (x : Form R) (e : Event) (a : Cabinet R) (f : Flat) (sum : ℕ) : Type 0 where
   -- "the number; the bytes that read fills in or view returns; the count of advance; the answers of status, locate and owner"
-  pub answer : leaves e a .answer ≡ flatStep (fed e) f .0
-  pub filled : (b : ℕ) → e .call ≡ read b → accepted (leaves e a .answer) ≡ true → leaves e a .answer ≡ bytes (leaves e a .room)
+  pub answer : leaves x e a .answer ≡ flatStep (fed e) f .0
+  pub filled : (b : ℕ) → e .call ≡ read b → accepted (leaves x e a .answer) ≡ true → leaves x e a .answer ≡ bytes (leaves x e a .room)
   -- "as a part of the images, or, if its disk is out, as the lent scratch filled with it. Scratch is else untouched."
-  pub shown : (b : ℕ) → e .call ≡ view b → accepted (leaves e a .answer) ≡ true →
-      let r = decode (a .rec) in
+  pub shown : (b : ℕ) → e .call ≡ view b → accepted (leaves x e a .answer) ≡ true →
+      let r = x .decoded (a .rec) in
       let q = placeOf r b in
-      (absent (r .health) (q .stripe) (q .disk) ≡ true → leaves e a .answer ≡ bytes (leaves e a .room))
-      × (absent (r .health) (q .stripe) (q .disk) ≡ false → (leaves e a .answer ≡ bytes (placeIn r (e .images) (q .stripe) (q .disk))) × (leaves e a .room ≡ e .room))
+      (absent (r .health) (q .stripe) (q .disk) ≡ true → leaves x e a .answer ≡ bytes (leaves x e a .room))
+      × (absent (r .health) (q .stripe) (q .disk) ≡ false
+      → (leaves x e a .answer ≡ bytes (placeIn r (e .images) (q .stripe) (q .disk))) × (leaves x e a .room ≡ e .room))
   -- "and the fields of the record left"
-  pub fields : leaves e a .state ≡ encode (flatStep (fed e) f .1 .numbers)
+  pub fields : leaves x e a .state ≡ x .encoded (flatStep (fed e) f .1 .numbers)
   -- which is good, so that refusal 1 is never given
-  pub good-left : goodBytes (leaves e a .state) ≡ true
+  pub good-left : x .isGood (leaves x e a .state) ≡ true
   -- a refused call leaves the record, the images and the block or scratch as they were lent (`Demand1` of crate `array`, said again)
-  pub refused : accepted (leaves e a .answer) ≡ false → (leaves e a .state ≡ a .rec) × (leaves e a .images ≡ e .images) × (leaves e a .room ≡ e .room)
+  pub refused : accepted (leaves x e a .answer) ≡ false
+      → (leaves x e a .state ≡ a .rec) × (leaves x e a .images ≡ e .images) × (leaves x e a .room ≡ e .room)
   -- "After a refused call the next is lent what stood before it"
-  pub stays : accepted (leaves e a .answer) ≡ false → next e a ≡ a
+  pub stays : accepted (leaves x e a .answer) ≡ false → next x e a ≡ a
   -- "Each move that an advance makes leaves them the same, wherever the parity then stands": the one behind the first i, in every stripe;
   -- behind none stand the images lent, behind the last of them those left
-  pub parity : let r = decode (a .rec) in
-      (k i S : ℕ) → e .call ≡ advance k → accepted (leaves e a .answer) ≡ true → S < r .stripes → parityAfter (suc i) r (e .images) S ≡ parityAfter i r (e .images) S
-  pub parity-first : let r = decode (a .rec) in
+  pub parity : let r = x .decoded (a .rec) in
+      (k i S : ℕ) → e .call ≡ advance k → accepted (leaves x e a .answer) ≡ true → S < r .stripes
+      → parityAfter (suc i) r (e .images) S ≡ parityAfter i r (e .images) S
+  pub parity-first : let r = x .decoded (a .rec) in
       (S : ℕ) → parityAfter 0 r (e .images) S ≡ placeIn r (e .images) S (layout (geometry r) .parity S)
-  pub parity-last : let r = decode (a .rec) in
-      (k S : ℕ) → e .call ≡ advance k → accepted (leaves e a .answer) ≡ true
-      → parityAfter k r (e .images) S ≡ placeIn r (leaves e a .images) S (layout (geometry (decode (leaves e a .state))) .parity S)
+  pub parity-last : let r = x .decoded (a .rec) in
+      (k S : ℕ) → e .call ≡ advance k → accepted (leaves x e a .answer) ≡ true
+      → parityAfter k r (e .images) S ≡ placeIn r (leaves x e a .images) S (layout (geometry (x .decoded (leaves x e a .state))) .parity S)
   -- "The growth is over, so that 5's condition holds, exactly when the sum is the total."
-  pub over : let r = decode (leaves e a .state) in r .new ≢ 0 → (idle (geometry r) ≡ true) ↔ (sum ≡ totalOf (geometry r))
+  pub over : let r = x .decoded (leaves x e a .state) in r .new ≢ 0 → (idle (geometry r) ≡ true) ↔ (sum ≡ totalOf (geometry r))
   -- "From a format on, unless health is lost, all stripes are sound, the out disk taken as the xor of the others."
-  pub sound : let r = decode (leaves e a .state) in isLost (r .health) ≡ false → (S : ℕ) → S < r .stripes → Sound r (next e a .img) S
+  pub sound : let r = x .decoded (leaves x e a .state) in
+      isLost (r .health) ≡ false → (S : ℕ) → S < r .stripes → Sound r (next x e a .img) S
+  -- "Our service bench reads drawers from a stopped line by the published layout": the place where Layout has block b, seen through a disk
+  -- that is out, holds the flat list's block b; and "capacity is that list's length"
+  pub capacity-is : capacity (geometry (x .decoded (leaves x e a .state))) ≡ length (flatStep (fed e) f .1 .blocks)
+  pub bench : let r = x .decoded (leaves x e a .state) in
+      isLost (r .health) ≡ false → (b : ℕ) → b < capacity (geometry r) →
+      let q = layout (geometry r) .place b in
+      seen r (next x e a .img) (q .stripe) (q .disk) ≡ getD (flatStep (fed e) f .1 .blocks) b []
 
 -- ---- and of every call of a list, as long as each is lent what it may be
 
-unfoldable pub Claims : List Event → Cabinet → Flat → ℕ → Type 0
-Claims [] a f sum = Unit
-Claims (e ∷ es) a f sum =
-    let after = tally (e .call) (leaves e a .answer) sum in
-    Lends e (f .numbers) (a .img) → Claim e a f after × Claims es (next e a) (flatStep (fed e) f .1) after
+unfoldable pub Claims : {R : Type 0} → Form R → List Event → Cabinet R → Flat → ℕ → Type 0
+Claims x [] a f sum = Unit
+Claims x (e ∷ es) a f sum =
+    let after = tally (e .call) (leaves x e a .answer) sum in
+    Lends e (f .numbers) (a .img) → Claim x e a f after × Claims x es (next x e a) (flatStep (fed e) f .1) after
 
 -- "The list opens with an accepted format, lent any record and images. Behind it come any of the eleven calls above, with any
 -- arguments, refused or not." (What the flat list and the sum were before it does not matter.)
 abbrev pub opening : ℕ → ℕ → ℕ → List ℕ → List ℕ → Event
 opening n B T img room = record { call = format n B T; images = img; room = room }
 
+abbrev pub Demand3On : {R : Type 0} → Form R → Type 0
+Demand3On {R} x =
+    (a : Cabinet R) (f : Flat) (sum n B T : ℕ) (img room : List ℕ) → accepted (leaves x (opening n B T img room) a .answer) ≡ true
+    → (es : List Event) → Claims x (opening n B T img room ∷ es) a f sum
+
+-- of calls on a record's bytes, as the line controller makes them, and of calls on a record
 abbrev pub Demand3 : Type 0
-Demand3 =
-    (a : Cabinet) (f : Flat) (sum n B T : ℕ) (img room : List ℕ) → accepted (leaves (opening n B T img room) a .answer) ≡ true
-    → (es : List Event) → Claims (opening n B T img room ∷ es) a f sum
+Demand3 = Demand3On asBytes × Demand3On asRecord
 
 -- ---- what the premise leaves a lender free to do: e is the call, r the numbers that it is lent images by, left the images that stand
 
-pub record MayBeLent (e : Event) (r : Record) (left : List ℕ) : Type 0 where
+pub record FreeToLend (e : Event) (r : Record) (left : List ℕ) : Type 0 where
   -- what stands, with or without bytes behind it
   pub what-stands : (behind : List ℕ) → length left ≡ size r → e .images ≡ left ++ behind → Lends e r left
   -- "Format may be lent any images instead"
@@ -107,31 +121,38 @@ pub record MayBeLent (e : Event) (r : Record) (left : List ℕ) : Type 0 where
   -- "any call that is lent images may be lent a length that refusal 7 turns away"
   pub any-length : (c : ℕ) → refusal r c (fed e) ≡ 7 → Lends e r left
   -- "disk d may hold any bytes"
-  pub any-out : (o : ℕ) → r .health ≡ Out o → ((S d : ℕ) → S < r .stripes → d < disksOf r → d ≢ o → placeIn r (e .images) S d ≡ placeIn r left S d) → Lends e r left
+  pub any-out : (o : ℕ) → r .health ≡ Out o
+      → ((S d : ℕ) → S < r .stripes → d < disksOf r → d ≢ o → placeIn r (e .images) S d ≡ placeIn r left S d) → Lends e r left
   -- and where two disks are out, any disk may
   pub any-lost : r .health ≡ Lost → Lends e r left
   -- calls that take no images do not look at any
   pub no-images : takes (e .call) r ≡ nothing → Lends e r left
 
--- ---- in short: the answers of a fair history, and the record's bytes after each call, are those of the flat list
+abbrev pub MayBeLent : Type 0
+MayBeLent = (e : Event) (r : Record) (left : List ℕ) → FreeToLend e r left
 
-unfoldable pub Fair : List Event → Cabinet → Flat → Type 0
-Fair [] a f = Unit
-Fair (e ∷ es) a f = Lends e (f .numbers) (a .img) × Fair es (next e a) (flatStep (fed e) f .1)
+-- ---- in short: the answers of a fair history, and the record after each call, are those of the flat list
 
-unfoldable pub outcomes : List Event → Cabinet → List (Answer × List ℕ)
-outcomes [] a = []
-outcomes (e ∷ es) a = (leaves e a .answer, leaves e a .state) ∷ outcomes es (next e a)
+unfoldable pub Fair : {R : Type 0} → Form R → List Event → Cabinet R → Flat → Type 0
+Fair x [] a f = Unit
+Fair x (e ∷ es) a f = Lends e (f .numbers) (a .img) × Fair x es (next x e a) (flatStep (fed e) f .1)
 
-unfoldable pub flatOutcomes : List Fed → Flat → List (Answer × List ℕ)
-flatOutcomes [] f = []
-flatOutcomes (e ∷ es) f = let y = flatStep e f in (y .0, encode (y .1 .numbers)) ∷ flatOutcomes es (y .1)
+unfoldable pub outcomes : {R : Type 0} → Form R → List Event → Cabinet R → List (Answer × R)
+outcomes x [] a = []
+outcomes x (e ∷ es) a = (leaves x e a .answer, leaves x e a .state) ∷ outcomes x es (next x e a)
+
+unfoldable pub flatOutcomes : {R : Type 0} → Form R → List Fed → Flat → List (Answer × R)
+flatOutcomes x [] f = []
+flatOutcomes x (e ∷ es) f = let y = flatStep e f in (y .0, x .encoded (y .1 .numbers)) ∷ flatOutcomes x es (y .1)
+
+abbrev pub FlatListOn : {R : Type 0} → Form R → Type 0
+FlatListOn {R} x =
+    (a : Cabinet R) (f : Flat) (n B T : ℕ) (img room : List ℕ) → accepted (leaves x (opening n B T img room) a .answer) ≡ true
+    → (es : List Event) → Fair x (opening n B T img room ∷ es) a f
+    → outcomes x (opening n B T img room ∷ es) a ≡ flatOutcomes x (map fed (opening n B T img room ∷ es)) f
 
 abbrev pub FlatList : Type 0
-FlatList =
-    (a : Cabinet) (f : Flat) (n B T : ℕ) (img room : List ℕ) → accepted (leaves (opening n B T img room) a .answer) ≡ true
-    → (es : List Event) → Fair (opening n B T img room ∷ es) a f
-    → outcomes (opening n B T img room ∷ es) a ≡ flatOutcomes (map fed (opening n B T img room ∷ es)) f
+FlatList = FlatListOn asBytes × FlatListOn asRecord
 
 -- ---- in the mills' words: the flat list is, "zero at first, of what each block was last given". (This and the rest is
 -- said of the flat list; by `FlatList` it holds of the array.)

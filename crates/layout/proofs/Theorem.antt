@@ -1,4 +1,4 @@
--- Demand 2, proved: `theorem`, for every array in the limits. Assumes nothing.
+-- Demand 2, proved: `demand2`. Assumes nothing.
 use Prim.Native.Nat.{ℕ, _+_, _*_, _≤_, _<_}
 use mathlib.Core.Path.{_≡_, refl, sym, ap, ap₂, _∙_}
 use mathlib.Core.Bool.{Bool, true, false, true≢false}
@@ -14,7 +14,7 @@ use Rattle.layout.specs.Closed.{diskAt, source, taken}
 use Rattle.layout.specs.Blanks.{blanksBelow, newBlock}
 use Rattle.layout.specs.Layout.{disks, totalOf, oldBlocks, capacity, home, layout, grownParity}
 use Rattle.layout.specs.Limits.{Good}
-use Rattle.layout.specs.Theorem.{Ranks, Order, Replay, Numbers, Placed, Blanked, NextMove, Theorem, blank}
+use Rattle.layout.specs.Theorem.{Ranks, Order, Replay, Numbers, Placed, Blanked, NextMove, Laid, Demand2, blank}
 use Rattle.layout.proofs.Laws.Basics.{le-or-lt}
 use Rattle.layout.proofs.Laws.Lag as moves
 use Rattle.layout.proofs.Laws.Order as orders
@@ -61,6 +61,7 @@ module _ (n m : ℕ) (pn : 0 < n) (pm : 0 < m) where
     from-rule = orders.from-rule n m pn pm;
     parity-first = orders.parity-first n m pn pm;
     parity-only = orders.parity-only n m pn pm;
+    next-group = orders.next-group n m pn pm;
   }
 
   replayed : (t : ℕ) → Replay n m t
@@ -82,6 +83,7 @@ module _ (g : Geometry) (good : Good g) where
     counted = counts.counted g good;
     no-more = counts.no-more g good;
     whole-zones = counts.whole-zones g good;
+    whole-groups = counts.whole-groups g good;
     total-is = counts.total-is g good;
     inside = counts.inside g good;
     capacity-before = counts.capacity-before g;
@@ -212,8 +214,8 @@ module _ (g : Geometry) (good : Good g) where
 
   -- ---- all of it
 
-  pub theorem : Theorem g
-  theorem = record {
+  laid : Laid g
+  laid = record {
     ranks = ranked (g .old) pn;
     order = λ pm. ordered (g .old) (g .new) (omega (arith, pn)) pm;
     replay = λ pm. replayed (g .old) (g .new) (omega (arith, pn)) pm (g .moves);
@@ -222,3 +224,6 @@ module _ (g : Geometry) (good : Good g) where
     blanked = blanked;
     next-move = next-move;
   }
+
+pub demand2 : Demand2
+demand2 = laid

@@ -52,9 +52,12 @@ moveFrom n m k = ruleFrom n m (moveZone n m k) (moveTo n m k) (moveLag n k)
 abbrev pub moveOf : ℕ → ℕ → ℕ → Move
 moveOf n m k = record { zone = moveZone n m k; within = moveWithin n m k; stripe = moveStripe n m k; from = moveFrom n m k; to = moveTo n m k }
 
--- the zones of T stripes, and the moves of them all: "Total T × n × m / (n + m)"
+-- the zones of T stripes; "A group is n zones"; and the moves of them all: "Total T × n × m / (n + m)"
 abbrev pub zones : ℕ → ℕ → ℕ → ℕ
 zones n m T = T / (n + m)
+
+abbrev pub groups : ℕ → ℕ → ℕ → ℕ
+groups n m T = zones n m T / n
 
 unfoldable pub total : ℕ → ℕ → ℕ → ℕ
 total n m T = T * n * m / (n + m)

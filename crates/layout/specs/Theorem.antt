@@ -1,7 +1,6 @@
 -- DEMAND 2: "Every data and parity block stands, after each count of moves from none to all, where the parity-based
 -- migration paper puts it, moves taken in document 01's order, from number to place and from place to number."
--- `theorem : (g : Geometry) → Good g → Theorem g` of proofs/Theorem.antt proves all of it, for every n, m, T and t in the
--- limits together, and assumes nothing.
+-- The statement is `Demand2`, at the end; `demand2` of proofs/Theorem.antt proves it, and assumes nothing.
 use Prim.Native.Nat.{ℕ, suc, _+_, _-_, _*_, _%_, _≤_, _<_}
 use mathlib.Core.Path.{_≡_}
 use mathlib.Core.Logic.{_≢_}
@@ -9,10 +8,11 @@ use lib.ListN.{length, getD}
 use Rattle.layout.specs.declared.Geometry.{Geometry}
 use Rattle.layout.specs.declared.Role.the-variants.{Data, Parity, Blank}
 use Rattle.layout.specs.Home.{placeAt, homeStripe, homeDisk, dataDisk, rankOf, parityDisk}
-use Rattle.layout.specs.Moves.{zoneOf, withinZone, zones, moveIndex, moveZone, moveTo, moveLag, moveStripe, moveFrom, carry, stands}
+use Rattle.layout.specs.Moves.{zoneOf, withinZone, zones, groups, moveIndex, moveZone, moveTo, moveLag, moveStripe, moveFrom, carry, stands}
 use Rattle.layout.specs.Closed.{diskAt}
 use Rattle.layout.specs.Blanks.{blanks}
 use Rattle.layout.specs.Layout.{disks, totalOf, oldBlocks, capacity, layout, nextStripe, nextFrom, nextTo, after}
+use Rattle.layout.specs.Limits.{Good}
 
 -- ---- before growth: ranks count the data disks of a stripe from the highest down, skipping parity
 
@@ -47,6 +47,9 @@ pub record Order (n m : ℕ) : Type 0 where
   -- "i = 0 is the parity block", and no other i
   pub parity-first : (k : ℕ) → moveLag n k ≡ 0 → moveFrom n m k ≡ parityDisk n (moveStripe n m k)
   pub parity-only : (k : ℕ) → moveFrom n m k ≡ parityDisk n (moveStripe n m k) → moveLag n k ≡ 0
+  -- "A group is n zones": from one to the next the moves are the same, n zones further on
+  pub next-group : (k : ℕ) → let j = k + n * m * n in
+      (moveZone n m j ≡ moveZone n m k + n) × (moveTo n m j ≡ moveTo n m k) × (moveLag n j ≡ moveLag n k) × (moveFrom n m j ≡ moveFrom n m k)
 
 -- ---- the replay of t moves, one by one, is the closed form; a move is done exactly if its index is below t
 
@@ -64,6 +67,7 @@ pub record Numbers (g : Geometry) : Type 0 where
   pub counted : 0 < g .new → (Z p i : ℕ) → Z < zones (g .old) (g .new) (g .stripes) → p < disks g → i < g .old → moveIndex (g .old) (g .new) Z p i < totalOf g
   pub no-more : 0 < g .new → (k : ℕ) → k < totalOf g → moveZone (g .old) (g .new) k < zones (g .old) (g .new) (g .stripes)
   pub whole-zones : 0 < g .new → zones (g .old) (g .new) (g .stripes) * disks g ≡ g .stripes
+  pub whole-groups : 0 < g .new → groups (g .old) (g .new) (g .stripes) * g .old ≡ zones (g .old) (g .new) (g .stripes)
   pub total-is : totalOf g ≡ zones (g .old) (g .new) (g .stripes) * g .new * g .old
   pub inside : 0 < g .new → (k : ℕ) → k < totalOf g → moveStripe (g .old) (g .new) k < g .stripes
   -- "Capacity becomes T × (n + m − 1); before, it stays the old one"
@@ -124,9 +128,9 @@ pub record NextMove (g : Geometry) : Type 0 where
   pub leaves-blank : suc (g .moves) < totalOf g → layout (after g) .owner (nextStripe g) (nextFrom g) ≡ Blank
   pub others : suc (g .moves) < totalOf g → (S e : ℕ) → S < g .stripes → e < disks g → (nextStripe g ≡ S → (e ≢ nextFrom g) × (e ≢ nextTo g)) → layout (after g) .owner S e ≡ layout g .owner S e
 
--- ---- all of it
+-- ---- all of it, of one array ..
 
-pub record Theorem (g : Geometry) : Type 0 where
+pub record Laid (g : Geometry) : Type 0 where
   pub ranks : Ranks (g .old)
   pub order : 0 < g .new → Order (g .old) (g .new)
   pub replay : 0 < g .new → Replay (g .old) (g .new) (g .moves)
@@ -134,3 +138,7 @@ pub record Theorem (g : Geometry) : Type 0 where
   pub placed : Placed g
   pub blanked : Blanked g
   pub next-move : g .moves < totalOf g → NextMove g
+
+-- .. and of every array in document 01's limits: every n, m, T and t together
+abbrev pub Demand2 : Type 0
+Demand2 = (g : Geometry) → Good g → Laid g

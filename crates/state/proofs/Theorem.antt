@@ -51,5 +51,5 @@ module _ (r : Record) (l : Limits r) where
         moves-fits = omega (arith, l .array .moves, total-small);
       }
 
-pub good-is : (r : Record) → GoodIs r
-good-is r = record { exactly = (limits r, within-limits r); fits = λ l. bytes-encode r (fits r l) }
+pub good-is : GoodIs
+good-is = record { exactly = λ r. (limits r, within-limits r); fits = λ r l. bytes-encode r (fits r l) }

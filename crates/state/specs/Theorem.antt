@@ -1,4 +1,4 @@
--- What is proved of the record, of every record and of every 16 bytes; `round-trip` and `good-is` of proofs/Theorem.antt prove it.
+-- What is proved of the record: `RoundTrip` and `GoodIs`; `round-trip` and `good-is` of proofs/Theorem.antt prove them.
 use Prim.Native.Nat.{ℕ}
 use mathlib.Core.Path.{_≡_}
 use mathlib.Core.Bool.{true}
@@ -21,7 +21,7 @@ pub record RoundTrip : Type 0 where
   pub whole-and-lost : (healthByte Whole ≡ 0) × (diskByte Whole ≡ 0) × (healthByte Lost ≡ 2) × (diskByte Lost ≡ 0)
 
 -- "A record is good exactly if each field is in its limits .."
-pub record GoodIs (r : Record) : Type 0 where
-  pub exactly : (good r ≡ true) ↔ Limits r
+pub record GoodIs : Type 0 where
+  pub exactly : (r : Record) → (good r ≡ true) ↔ Limits r
   -- its bytes are bytes
-  pub fits : Limits r → AreBytes (encode r)
+  pub fits : (r : Record) → Limits r → AreBytes (encode r)

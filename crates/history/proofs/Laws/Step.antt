@@ -29,7 +29,7 @@ use Rattle.array.proofs.Laws.Advance.{advances}
 use Rattle.array.proofs.Laws.Out.{outs}
 use Rattle.array.proofs.Laws.Rebuild.{rebuilds}
 use Rattle.history.specs.Flat.{Flat, flat, fallen, flatAct, flatSettle, flatStep}
-use Rattle.history.specs.Lent.{Cabinet, takes, Keeps, Lends, leaves, imagesAfter, next}
+use Rattle.history.specs.Lent.{asBytes, Cabinet, takes, Keeps, Lends, leaves, imagesAfter, next}
 
 -- ---- an accepted call
 
@@ -86,12 +86,12 @@ module _ (r : Record) (left : List ℕ) (bs : List (List ℕ)) (h : Holding r le
 
 -- ---- a call, refused or not
 
-pub record Alike (e : Event) (a : Cabinet) (y : Answer × Flat) : Type 0 where
-  pub answer : leaves e a .answer ≡ y .0
-  pub fields : leaves e a .state ≡ encode (y .1 .numbers)
-  pub holding : Holding (y .1 .numbers) (next e a .img) (y .1 .blocks)
+pub record Alike (e : Event) (a : Cabinet (List ℕ)) (y : Answer × Flat) : Type 0 where
+  pub answer : leaves asBytes e a .answer ≡ y .0
+  pub fields : leaves asBytes e a .state ≡ encode (y .1 .numbers)
+  pub holding : Holding (y .1 .numbers) (next asBytes e a .img) (y .1 .blocks)
 
-abbrev cabinet : Record → List ℕ → Cabinet
+abbrev cabinet : Record → List ℕ → Cabinet (List ℕ)
 cabinet r left = record { rec = encode r; img = left }
 
 -- the same by what the call leaves
@@ -124,17 +124,17 @@ module _ (r : Record) (left : List ℕ) (bs : List (List ℕ)) (h : Holding r le
       record { answer = x .answer; fields = x .fields; holding = x .holding }
 
 -- from a cabinet that holds the flat list
-pub record Holds (a : Cabinet) (f : Flat) : Type 0 where
+pub record Holds (a : Cabinet (List ℕ)) (f : Flat) : Type 0 where
   pub fields : a .rec ≡ encode (f .numbers)
   pub holding : Holding (f .numbers) (a .img) (f .blocks)
 
-pub alike : (e : Event) (a : Cabinet) (f : Flat) → Holds a f → Lends e (f .numbers) (a .img) → Alike e a (flatStep (fed e) f)
+pub alike : (e : Event) (a : Cabinet (List ℕ)) (f : Flat) → Holds a f → Lends e (f .numbers) (a .img) → Alike e a (flatStep (fed e) f)
 alike e a f h l =
     subst (λ (b : List ℕ). Alike e (record { rec = b; img = a .img }) (flatStep (fed e) f)) (sym (h .fields)) (alike-here (f .numbers) (a .img) (f .blocks) (h .holding) e l)
 
 -- ---- the opening: an accepted format, whatever it is lent and whatever the flat list held
 
-module _ (n B T : ℕ) (img room : List ℕ) (a : Cabinet) (f : Flat) where
+module _ (n B T : ℕ) (img room : List ℕ) (a : Cabinet (List ℕ)) (f : Flat) where
   abbrev e : Event
   e = event (format n B T) img room
 
@@ -155,7 +155,7 @@ module _ (n B T : ℕ) (img room : List ℕ) (a : Cabinet) (f : Flat) where
       record { answer = x .answer; fields = ap encode (x .state); holding = x .holding }
   opened (suc k) z u = absurd (let w : _≡_ {A = ℕ} 0 1 = cc in omega arith)
 
-  pub opens : accepted (leaves e a .answer) ≡ true → Alike e a (flatStep (fed e) f)
+  pub opens : accepted (leaves asBytes e a .answer) ≡ true → Alike e a (flatStep (fed e) f)
   unfolding calledBytes refusalBytes rowsBytes refusal flatStep table next
   opens u = let x = go short refl u in record { answer = x .answer; fields = x .fields; holding = x .holding }
     where

@@ -8,12 +8,12 @@ use native.Mathlib.Omega.{arith}
 use lib.Dec.{eqb}
 use borrow.Author.Tests.{eq-eqb, ne-eqb}
 use Rattle.layout.specs.declared.Geometry.{Geometry}
-use Rattle.layout.specs.Moves.{zoneOf, total, zones, moveIndex, moveZone, moveStripe}
+use Rattle.layout.specs.Moves.{zoneOf, total, zones, groups, moveIndex, moveZone, moveStripe}
 use Rattle.layout.specs.Runs.{settled}
 use Rattle.layout.specs.Layout.{totalOf, disks, oldBlocks, openStripes, capacity}
 use Rattle.layout.specs.Limits.{Good}
 use Rattle.layout.proofs.Laws.Basics.{le-or-lt}
-use Rattle.layout.proofs.Laws.Zones.{zone-in, stripe-in, index-in, zones-all, total-zones, total-none}
+use Rattle.layout.proofs.Laws.Zones.{zone-in, stripe-in, index-in, zones-all, groups-all, total-zones, total-none}
 
 module _ (g : Geometry) where
   pub open-all : g .moves ≡ totalOf g → g .stripes ≡ openStripes g
@@ -40,6 +40,9 @@ module _ (g : Geometry) where
 module _ (g : Geometry) (good : Good g) where
   pub whole-zones : 0 < g .new → zones (g .old) (g .new) (g .stripes) * disks g ≡ g .stripes
   whole-zones pm = zones-all (g .old) (g .new) (g .stripes) (omega (arith, good .disks .n-low)) (good .groups pm)
+
+  pub whole-groups : 0 < g .new → groups (g .old) (g .new) (g .stripes) * g .old ≡ zones (g .old) (g .new) (g .stripes)
+  whole-groups pm = groups-all (g .old) (g .new) (g .stripes) (omega (arith, good .disks .n-low)) (good .groups pm)
 
   pub total-is : totalOf g ≡ zones (g .old) (g .new) (g .stripes) * g .new * g .old
   total-is = elim (le-or-lt (g .new) 0) [

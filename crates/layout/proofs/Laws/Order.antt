@@ -1,7 +1,7 @@
 -- The moves, in order: an index and its zone, p and i, both ways; rising; the old disk's remainder. Assumes nothing.
 use Prim.Native.Nat.{ℕ, _+_, _-_, _*_, _/_, _%_, _≤_, _<_}
 use mathlib.Core.Path.{_≡_, sym, ap, _∙_}
-use native.Mathlib.Nat.{mod-add-mod, add-mul-mod-self-right, mod-lt}
+use native.Mathlib.Nat.{mod-add-mod, add-mul-mod-self-right, div-add-mod', mod-lt}
 use native.Mathlib.Omega.{arith}
 use lib.Arith.{digits-div, digits-mod, digits-lt}
 use Rattle.layout.specs.Home.{parityDisk}
@@ -56,3 +56,38 @@ module _ (n m : ℕ) (pn : 0 < n) (pm : 0 < m) where
     parity-only e =
         let l : parityDisk n (moveStripe n m k) < n = mod-lt (moveStripe n m k) pn in
         sym (lag-of-move n m pn pm k) ∙ ap (lag n (moveStripe n m k)) e ∙ lag-le n (moveStripe n m k) _ l (omega arith) ∙ omega arith
+
+-- ---- a group further on
+
+past-div : (k x n : ℕ) → 0 < n → (k + x * n) / n ≡ k / n + x
+past-div k x n p =
+    let e : k + x * n ≡ (k / n + x) * n + k % n = omega (arith, div-add-mod' k n) in
+    ap (λ y. y / n) e ∙ digits-div (k / n + x) (mod-lt k p)
+
+module _ (n m : ℕ) (pn : 0 < n) (pm : 0 < m) (k : ℕ) where
+  abbrev j : ℕ
+  j = k + n * m * n
+
+  quotient-on : j / n ≡ k / n + n * m
+  quotient-on = past-div k (n * m) n pn
+
+  zone-on : moveZone n m j ≡ moveZone n m k + n
+  unfolding moveZone
+  zone-on = rw quotient-on (past-div (k / n) n m pm)
+
+  to-on : moveTo n m j ≡ moveTo n m k
+  unfolding moveTo
+  to-on = rw quotient-on (ap (λ x. n + x) (add-mul-mod-self-right (k / n) n m))
+
+  lag-on : moveLag n j ≡ moveLag n k
+  unfolding moveLag
+  lag-on = add-mul-mod-self-right k (n * m) n
+
+  from-on : moveFrom n m j ≡ moveFrom n m k
+  unfolding moveFrom
+  from-on =
+      let e : moveTo n m k + (moveZone n m k + n) * m + 2 * n - 2 * moveLag n k ≡ moveTo n m k + moveZone n m k * m + 2 * n - 2 * moveLag n k + m * n = omega (arith, lag-below n m pn pm k) in
+      rw (zone-on, to-on, lag-on) (ap (λ x. x % n) e ∙ add-mul-mod-self-right _ m n)
+
+  pub next-group : (moveZone n m j ≡ moveZone n m k + n) × (moveTo n m j ≡ moveTo n m k) × (moveLag n j ≡ moveLag n k) × (moveFrom n m j ≡ moveFrom n m k)
+  next-group = (zone-on, to-on, lag-on, from-on)

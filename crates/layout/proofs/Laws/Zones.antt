@@ -7,7 +7,7 @@ use native.Mathlib.Omega.{arith}
 use lib.Arith.{digits-lt}
 use lib.Dec.{leb}
 use borrow.Author.Tests.{le-leb, lt-leb}
-use Rattle.layout.specs.Moves.{moveIndex, moveZone, moveWithin, moveStripe, zones, total}
+use Rattle.layout.specs.Moves.{moveIndex, moveZone, moveWithin, moveStripe, zones, groups, total}
 use Rattle.layout.proofs.Laws.Basics.{le-or-lt}
 use Rattle.layout.proofs.Laws.Lag.{to-above, to-below, lag-below}
 
@@ -29,14 +29,19 @@ module _ (n m : ℕ) (pn : 0 < n) (pm : 0 < m) (z : ℕ) where
 
 -- with whole groups the zones are all stripes, and their moves are the total
 module _ (n m T : ℕ) (pn : 0 < n) (whole : T % (n * (n + m)) ≡ 0) where
-  groups : T / (n * (n + m)) * n * (n + m) ≡ T
-  groups = omega (arith, div-add-mod' T (n * (n + m)))
+  whole-all : T / (n * (n + m)) * n * (n + m) ≡ T
+  whole-all = omega (arith, div-add-mod' T (n * (n + m)))
 
   zones-are : zones n m T ≡ T / (n * (n + m)) * n
-  zones-are = ap (λ x. x / (n + m)) (sym groups) ∙ mul-div-cancel (T / (n * (n + m)) * n) (omega arith)
+  zones-are = ap (λ x. x / (n + m)) (sym whole-all) ∙ mul-div-cancel (T / (n * (n + m)) * n) (omega arith)
+
+  pub groups-all : groups n m T * n ≡ zones n m T
+  groups-all =
+      let e : groups n m T ≡ T / (n * (n + m)) = ap (λ x. x / n) zones-are ∙ mul-div-cancel (T / (n * (n + m))) pn in
+      ap (λ x. x * n) e ∙ sym zones-are
 
   pub zones-all : zones n m T * (n + m) ≡ T
-  zones-all = rw zones-are groups
+  zones-all = rw zones-are whole-all
 
   pub total-zones : total n m T ≡ zones n m T * m * n
   unfolding total

@@ -1,0 +1,74 @@
+-- What may be lent: `free-to-lend`. Assumes nothing.
+use Prim.Native.Nat.{ℕ, _+_, _≤_, _<_}
+use mathlib.Core.Path.{_≡_, refl, sym, ap, _∙_, subst}
+use mathlib.Core.Bool.{false}
+use mathlib.Core.Logic.{_≢_}
+use mathlib.Core.List.{List, _++_}
+use native.Mathlib.Omega.{arith}
+use lib.ListN.{length, length-append, List·getD-append}
+use lib.Seq.{ext-getD}
+use borrow.Author.Tests.{eqb-false}
+use Rattle.blocks.specs.Stripe.{offset}
+use Rattle.blocks.proofs.Laws.Stripe.{place-in, length-place, getD-place}
+use Rattle.state.specs.declared.Health.the-variants.{Out}
+use Rattle.state.specs.declared.Health.{Health}
+use Rattle.state.specs.declared.Record.{Record}
+use Rattle.array.specs.Call.{Call, Event}
+use Rattle.array.specs.Health.{absent}
+use Rattle.array.specs.Images.{disksOf, size, placeIn}
+use Rattle.array.specs.Table.{refusal}
+use Rattle.history.specs.Lent.{Takes, nothing, anything, those, takes, Keeps, Lent, Lends}
+use Rattle.history.specs.Theorem.{FreeToLend}
+use Rattle.history.proofs.Laws.Asked.{asked}
+
+-- ---- what stands may be lent
+
+module _ (r : Record) (left behind : List ℕ) (long : length left ≡ size r) where
+  keeps : Keeps r left (left ++ behind)
+  unfolding Keeps
+  keeps S d lS ld q =
+      let more : size r ≤ length (left ++ behind) = rw (length-append left behind, long) (omega arith) in
+      let len : length (placeIn r (left ++ behind) S d) ≡ r .block = length-place (r .block) (r .stripes) (left ++ behind) S d (disksOf r) lS ld more in
+      let len′ : length (placeIn r left S d) ≡ r .block = length-place (r .block) (r .stripes) left S d (disksOf r) lS ld (rw long (omega arith)) in
+      ext-getD 0 (placeIn r (left ++ behind) S d) (placeIn r left S d) (len ∙ sym len′)
+      (λ j l.
+      let lj : j < r .block = rw len at l in
+      getD-place (r .block) (r .stripes) (left ++ behind) S d j lj
+      ∙ List·getD-append left behind 0 (offset (r .block) (r .stripes) S d + j) (omega (arith, place-in (r .block) (r .stripes) S d (disksOf r) lS ld))
+      ∙ sym (getD-place (r .block) (r .stripes) left S d j lj))
+
+module _ (e : Event) (r : Record) (left : List ℕ) where
+  -- images that keep what stands may be lent to any call, and so may any to one that asks for none or is lent another length
+  by-keeping : Keeps r left (e .images) → Lends e r left
+  unfolding Lends
+  by-keeping k = go (takes (e .call) r)
+    where
+      go : (t : Takes) → Lent t r left (e .images)
+      go nothing = tt
+      go anything = tt
+      go (those len) = λ z. k
+
+  by-length : ((len : ℕ) → takes (e .call) r ≡ those len → length (e .images) ≢ len) → Lends e r left
+  unfolding Lends
+  by-length ne = go (takes (e .call) r) refl
+    where
+      go : (t : Takes) → takes (e .call) r ≡ t → Lent t r left (e .images)
+      go nothing q = tt
+      go anything q = tt
+      go (those len) q = λ z. absurd (ne len q z)
+
+  -- a disk that is not out is another one
+  others : (o : ℕ) → r .health ≡ Out o → (S d : ℕ) → absent (r .health) S d ≡ false → d ≢ o
+  others o h S d u = eqb-false d o (ap (λ (x : Health). absent x S d) (sym h) ∙ u)
+
+  pub free-to-lend : FreeToLend e r left
+  unfolding Keeps Lends takes refusal
+  free-to-lend =
+      record {
+        what-stands = λ behind long q. by-keeping (subst (Keeps r left) (sym q) (keeps r left behind long));
+        any-format = λ n B T q. subst (λ (c : Call). Lent (takes c r) r left (e .images)) (sym q) tt;
+        any-length = λ c z. by-length (λ n q. asked r c (length (e .images)) (length (e .room)) n (e .call) q z);
+        any-out = λ o h k. by-keeping (λ S d lS ld u. k S d lS ld (others o h S d u));
+        any-lost = λ h. by-keeping (λ S d lS ld u. absurd (let w : _≡_ {A = ℕ} 0 1 = cc (ap (λ (x : Health). absent x S d) h) in omega arith));
+        no-images = λ q. subst (λ (t : Takes). Lent t r left (e .images)) (sym q) tt;
+      }
