@@ -1,5 +1,5 @@
--- What an accepted call leaves alone: `alone`. Assumes nothing.
-use Prim.Native.Nat.{ℕ, _+_, _<_}
+-- What an accepted call leaves alone, and the calls that look at the record alone: `alone` and `record-only`. Assumes nothing.
+use Prim.Native.Nat.{ℕ, zero, suc, _+_, _<_}
 use mathlib.Core.Path.{_≡_, refl, sym, _∙_, subst}
 use mathlib.Core.Bool.{Bool, true, false, cond, not}
 use mathlib.Core.Logic.{_≢_}
@@ -17,12 +17,12 @@ use Rattle.state.specs.declared.Health.{Health}
 use Rattle.state.specs.declared.Record.{Record}
 use Rattle.state.specs.Good.{geometry, good, OutBelow, Limits}
 use Rattle.state.proofs.Laws.Good.{limits}
-use Rattle.array.specs.Call.{Call, format, read, view, write, grow, advance, out, rebuild, status, locate, owner, Event}
+use Rattle.array.specs.Call.{Call, format, read, view, write, grow, advance, out, rebuild, status, locate, owner, Event, on, fed}
 use Rattle.array.specs.Health.{absent, formatted, grownBy, withHealth}
 use Rattle.array.specs.Images.{disksOf, size, sizeWith, placeIn, othersIn, Store, header, stored, fillDisk, zeroDisks}
 use Rattle.array.specs.Table.{table, word, refusal}
-use Rattle.array.specs.Effect.{placeOf, scratchLeft, writeStores, advanceStores, effect}
-use Rattle.array.specs.Alone.{Inside, Stays, Alone}
+use Rattle.array.specs.Effect.{placeOf, scratchLeft, writeStores, advanceStores, effect, act, untouched, settle, called}
+use Rattle.array.specs.Alone.{Inside, Stays, Alone, RecordOnly}
 use Rattle.array.proofs.Laws.Column.{storeIf}
 use Rattle.array.proofs.Laws.Stores.{Within, length-stored, cell-stored, stored-last, within-append, within-fill, within-zero, column-fill, column-below}
 use Rattle.array.proofs.Laws.Holding.{cellIn, length-seen}
@@ -254,3 +254,23 @@ alone e r z =
     -- what holds of the call that this is
     kept : (S d : ℕ) (c : Call) → e .call ≡ c → (Passed r e c → placeIn r (left r e c) S d ≡ placeIn r (e .images) S d) → Stays e r S d
     kept S d c q f = subst (λ (x : Call). Passed r e x → placeIn r (left r e x) S d ≡ placeIn r (e .images) S d) (sym q) f z
+
+-- ---- calls that look at the record alone
+
+-- where two calls have the same number, and answer alike if they are let through, they answer alike
+alike : (e e′ : Event) (r : Record) (n : ℕ) → act e r .answer ≡ act e′ r .answer → settle n (untouched e r) (act e r) .answer ≡ settle n (untouched e′ r) (act e′ r) .answer
+alike e e′ r zero q = q
+alike e e′ r (suc n) q = refl
+
+-- the number of a call that is lent nothing
+abbrev number : Record → Call → ℕ
+number r c = refusal r (capacity (geometry r)) (fed (on c [] []))
+
+pub record-only : RecordOnly
+unfolding called refusal table effect
+record-only =
+    record {
+      of-status = λ r img img′ room room′. alike (on status img room) (on status img′ room′) r (number r status) refl;
+      of-locate = λ r b img img′ room room′. alike (on (locate b) img room) (on (locate b) img′ room′) r (number r (locate b)) refl;
+      of-owner = λ r S d img img′ room room′. alike (on (owner S d) img room) (on (owner S d) img′ room′) r (number r (owner S d)) refl;
+    }

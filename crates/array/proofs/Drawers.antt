@@ -14,6 +14,7 @@ pub drawers : Drawers
 unfolding dataDisk homeStripe homeDisk moveZone moveTo moveLag moveWithin moveStripe moveFrom total lag target turn isMoved diskAt openStripes capacity grownPlace grownParity newGood movesGood good seen stored recorded fillDisk zeroDisks idle formable table refusal viewOf scratchLeft writeStores moveStores advanceStores effect called
 drawers = record {
   move = refl;
+  no-move = refl;
   move-unsound = refl;
   written = refl;
   written-degraded = refl;

@@ -1,7 +1,7 @@
 -- What an accepted call leaves alone, and that its stores stay inside the images it was lent. Document 01, Calls, and demand 1: "every call
 -- .. stays inside what it was lent".
--- The statements are `Alone` and `OneMove`; `alone` of proofs/Alone.antt and `one-move` of proofs/OneMove.antt prove them. (A refused call leaves
--- everything alone: `Demand1` of Theorem.)
+-- The statements are `Alone`, `OneMove` and `RecordOnly`; `alone` and `record-only` of proofs/Alone.antt and `one-move` of
+-- proofs/OneMove.antt prove them. (A refused call leaves everything alone: `Demand1` of Theorem.)
 use Prim.Native.Nat.{ℕ, _+_, _≤_, _<_}
 use mathlib.Core.Path.{_≡_}
 use mathlib.Core.Bool.{true, false}
@@ -13,11 +13,11 @@ use Rattle.blocks.specs.Block.{zeros}
 use Rattle.blocks.specs.Stripe.{offset}
 use Rattle.state.specs.declared.Record.{Record}
 use Rattle.state.specs.Good.{geometry, good}
-use Rattle.array.specs.Call.{format, read, view, write, grow, advance, rebuild, Event, fed}
+use Rattle.array.specs.Call.{format, read, view, write, grow, advance, rebuild, status, locate, owner, Event, on, fed}
 use Rattle.array.specs.Health.{absent}
 use Rattle.array.specs.Images.{disksOf, size, placeIn, Store, block, header, stored}
 use Rattle.array.specs.Table.{idle, refusal}
-use Rattle.array.specs.Effect.{placeOf, moveStores, effect, act}
+use Rattle.array.specs.Effect.{placeOf, moveStores, effect, act, called}
 
 -- every block of a list of stores is whole, B bytes, and its place lies within the first `len` bytes
 unfoldable pub Inside : ℕ → ℕ → ℕ → List Store → Type 0
@@ -32,7 +32,7 @@ Stays e r S d = placeIn r (act e r .images) S d ≡ placeIn r (e .images) S d
 -- what is claimed of one call e on a record r ..
 pub record LeavesAlone (e : Event) (r : Record) : Type 0 where
   -- "stays inside what it was lent": each of its stores; and images and room are as long as they were
-  pub inside : Inside (length (e .images)) (effect (e .call) r e .shape .block) (effect (e .call) r e .shape .stripes) (effect (e .call) r e .stores)
+  pub inside : let x = effect (e .call) r e in Inside (length (e .images)) (x .shape .block) (x .shape .stripes) (x .stores)
   pub long : length (act e r .images) ≡ length (e .images)
   pub room-long : length (act e r .room) ≡ length (e .room)
   -- read "fills a lent block", view the scratch; no other call has one ..
@@ -46,7 +46,8 @@ pub record LeavesAlone (e : Event) (r : Record) : Type 0 where
   pub write-others : (b : ℕ) (v : List ℕ) → e .call ≡ write b v → (S d : ℕ) → S < r .stripes → d < disksOf r
       → (S ≡ placeOf r b .stripe → (d ≢ placeOf r b .disk) × (d ≢ layout (geometry r) .parity S)) → Stays e r S d
   -- ".. either is skipped if its disk is out"
-  pub write-absent : (b : ℕ) (v : List ℕ) → e .call ≡ write b v → (S d : ℕ) → S < r .stripes → d < disksOf r → absent (r .health) S d ≡ true → Stays e r S d
+  pub write-absent : (b : ℕ) (v : List ℕ) → e .call ≡ write b v → (S d : ℕ) → S < r .stripes → d < disksOf r
+      → absent (r .health) S d ≡ true → Stays e r S d
   -- grow: "given images of n + m disks, zeroes those behind the first n"
   pub grow-old : (m : ℕ) → e .call ≡ grow m → (S d : ℕ) → S < r .stripes → d < r .old → Stays e r S d
   -- rebuild: "writes disk d of every stripe"
@@ -56,17 +57,30 @@ pub record LeavesAlone (e : Event) (r : Record) : Type 0 where
 abbrev pub Alone : Type 0
 Alone = (e : Event) (r : Record) → refusal r (capacity (geometry r)) (fed e) ≡ 0 → LeavesAlone e r
 
--- ---- a single move of an advance: "A move copies the block to its new place, then zeroes the place it left", and nothing else. (An advance
--- makes one after the other: `InOrder` of Theorem.)
+-- ---- a single move of an advance: "A move copies the block to its new place, then zeroes the place it left", and nothing else. (An
+-- advance makes one after the other: `InOrder` of Theorem.)
+
+-- the images behind the next move
+abbrev pub movedOn : Record → List ℕ → List ℕ
+movedOn r img = stored (r .block) (r .stripes) (moveStores r img) img
 
 -- what is claimed of the next move of a record r on images img ..
 pub record Moves (r : Record) (img : List ℕ) : Type 0 where
-  pub copied : let g = geometry r in placeIn r (stored (r .block) (r .stripes) (moveStores r img) img) (nextStripe g) (nextTo g) ≡ placeIn r img (nextStripe g) (nextFrom g)
-  pub zeroed : let g = geometry r in placeIn r (stored (r .block) (r .stripes) (moveStores r img) img) (nextStripe g) (nextFrom g) ≡ zeros (r .block)
+  pub copied : let g = geometry r in placeIn r (movedOn r img) (nextStripe g) (nextTo g) ≡ placeIn r img (nextStripe g) (nextFrom g)
+  pub zeroed : let g = geometry r in placeIn r (movedOn r img) (nextStripe g) (nextFrom g) ≡ zeros (r .block)
   pub others : let g = geometry r in
       (S d : ℕ) → S < r .stripes → d < disksOf r → (S ≡ nextStripe g → (d ≢ nextFrom g) × (d ≢ nextTo g))
-      → placeIn r (stored (r .block) (r .stripes) (moveStores r img) img) S d ≡ placeIn r img S d
+      → placeIn r (movedOn r img) S d ≡ placeIn r img S d
 
 -- .. and it holds of every good record that has a move left, whatever the images of its size hold
 abbrev pub OneMove : Type 0
 OneMove = (r : Record) (img : List ℕ) → good r ≡ true → idle (geometry r) ≡ false → length img ≡ size r → Moves r img
+
+-- ---- locate and owner: "Both read the record only." So does status: whatever else a call of these were lent, it answers the same
+
+pub record RecordOnly : Type 0 where
+  pub of-status : (r : Record) (img img′ room room′ : List ℕ) → called (on status img room) r .answer ≡ called (on status img′ room′) r .answer
+  pub of-locate : (r : Record) (b : ℕ) (img img′ room room′ : List ℕ)
+      → called (on (locate b) img room) r .answer ≡ called (on (locate b) img′ room′) r .answer
+  pub of-owner : (r : Record) (S d : ℕ) (img img′ room room′ : List ℕ)
+      → called (on (owner S d) img room) r .answer ≡ called (on (owner S d) img′ room′) r .answer

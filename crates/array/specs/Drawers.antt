@@ -52,6 +52,8 @@ pub record Drawers : Type 0 where
   -- move 4: block 12, stripe 6, disk 2 to 3; the place left is zeroed
   pub move : on standing (cabinet Whole 4) (advance 1)
       ≡ left (cabinet Whole 5) (disk0 ++ disk1 ++ (1 ∷ 0 ∷ 3 ∷ 7 ∷ 9 ∷ 7 ∷ 0 ∷ 15 ∷ 3 ∷ 19 ∷ 21 ∷ 15 ∷ []) ++ (0 ∷ 3 ∷ 5 ∷ 15 ∷ 0 ∷ 0 ∷ 13 ∷ 31 ∷ 0 ∷ 0 ∷ 0 ∷ 0 ∷ [])) (9 ∷ []) (made 1)
+  -- "k = 0 makes none."
+  pub no-move : on standing (cabinet Whole 4) (advance 0) ≡ left (cabinet Whole 4) standing (9 ∷ []) (made 0)
   -- it copies what is there, sound or not
   pub move-unsound : on degraded (cabinet Whole 4) (advance 1)
       ≡ left (cabinet Whole 5) (disk0 ++ disk1 ++ (77 ∷ 77 ∷ 77 ∷ 77 ∷ 77 ∷ 77 ∷ 0 ∷ 77 ∷ 77 ∷ 77 ∷ 77 ∷ 77 ∷ []) ++ (0 ∷ 3 ∷ 5 ∷ 15 ∷ 0 ∷ 0 ∷ 77 ∷ 31 ∷ 0 ∷ 0 ∷ 0 ∷ 0 ∷ [])) (9 ∷ []) (made 1)

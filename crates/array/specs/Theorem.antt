@@ -21,7 +21,8 @@ NoneHolds (x ∷ rows) = (x .1 ≡ false) × NoneHolds rows
 
 -- "A number is given if its condition holds and no lower one's does, and else never. 0 is done."
 pub record Given (rows : List Row) : Type 0 where
-  pub given : (before after : List Row) (k : ℕ) (holds : Bool) → rows ≡ before ++ (k, holds) ∷ after → (word rows ≡ k) ↔ ((holds ≡ true) × NoneHolds before)
+  pub given : (before after : List Row) (k : ℕ) (holds : Bool) → rows ≡ before ++ (k, holds) ∷ after
+      → (word rows ≡ k) ↔ ((holds ≡ true) × NoneHolds before)
   pub zero : (word rows ≡ 0) ↔ NoneHolds rows
   -- what stands before a row has lower numbers, what stands behind it higher ones
   pub rising : (before middle after : List Row) (x y : Row) → rows ≡ before ++ x ∷ (middle ++ y ∷ after) → x .0 < y .0
@@ -32,9 +33,11 @@ pub record Answered (e : Event) (b : List ℕ) : Type 0 where
   pub number-is : number (calledBytes e b .answer) ≡ refusalBytes b (fed e)
   pub table-is : Given (rowsBytes b (fed e))
   -- .. with "zeros beside its number, an empty view" ..
-  pub zeros : (w : ℕ) → accepted (calledBytes e b .answer) ≡ false → (beside w (calledBytes e b .answer) ≡ replicate w 0) × (shown (calledBytes e b .answer) ≡ [])
+  pub zeros : (w : ℕ) → accepted (calledBytes e b .answer) ≡ false
+      → (beside w (calledBytes e b .answer) ≡ replicate w 0) × (shown (calledBytes e b .answer) ≡ [])
   -- .. and if it is not 0, record, images and block or scratch are as they were lent
-  pub untouched : accepted (calledBytes e b .answer) ≡ false → (calledBytes e b .state ≡ b) × (calledBytes e b .images ≡ e .images) × (calledBytes e b .room ≡ e .room)
+  pub untouched : accepted (calledBytes e b .answer) ≡ false
+      → (calledBytes e b .state ≡ b) × (calledBytes e b .images ≡ e .images) × (calledBytes e b .room ≡ e .room)
   pub refused : (accepted (calledBytes e b .answer) ≡ false) ↔ (refusalBytes b (fed e) ≢ 0)
 
 -- .. and it holds of every call, whatever it is lent: "nonsense records and lengths included"

@@ -15,7 +15,7 @@ use Rattle.array.specs.Health.{absent}
 use Rattle.array.specs.Images.{disksOf, size, sizeWith, placeIn}
 use Rattle.array.specs.Effect.{Left, called, calledBytes}
 
--- ---- the record in one of its two forms: what a call on it leaves, the record that it is, how a record is put into it, and when it is good
+-- ---- the record in one of its two forms: what a call on it leaves, which record it is, how a record is written in it, when it is good
 
 pub record Form (R : Type 0) : Type 0 where
   pub call : Event → R → Left R

@@ -4,8 +4,8 @@
 -- refusal is exactly that of document 01's flat list, zero at first, of what each block was last given; each move keeps its
 -- stripe's parity value; and growth is over exactly when the moves reported since it began are T × n × m / (n + m) .. A second
 -- disk out while the first is not rebuilt refuses all reads until a new format."
--- The statement is `Demand3`; behind it stand `MayBeLent`, `FlatList`, `LastGiven`, `ZeroAtFirst` and `SecondOut`. `demand3`, `may-be-lent`, `flat-list`,
--- `last-given`, `zero-at-first` and `second-out` of proofs/Theorem.antt prove them, and assume nothing.
+-- The statement is `Demand3`; behind it stand `MayBeLent`, `FlatList`, `LastGiven`, `ZeroAtFirst` and `SecondOut`. `demand3`,
+-- `may-be-lent`, `flat-list`, `last-given`, `zero-at-first` and `second-out` of proofs/Theorem.antt prove them, and assume nothing.
 use Prim.Native.Nat.{ℕ, suc, _+_, _<_}
 use mathlib.Core.Path.{_≡_}
 use mathlib.Core.Bool.{true, false, cond}
@@ -44,7 +44,8 @@ tallied (owner S d) k sum = sum
 unfoldable pub tally : Call → Answer → ℕ → ℕ
 tally c a sum = cond (accepted a) (tallied c (count a) sum) sum
 
--- ---- what is claimed of one call e: x is the form of the record, a the cabinet before it, f the flat list before it, sum the moves of the growth after it
+-- ---- what is claimed of one call e: x is the form of the record, a the cabinet before the call, f the flat list before it, sum the moves
+-- of the growth after it
 
 pub record Claim {R : Type 0} (x : Form R) (e : Event) (a : Cabinet R) (f : Flat) (sum : ℕ) : Type 0 where
   -- "the number; the bytes that read fills in or view returns; the count of advance; the answers of status, locate and owner"

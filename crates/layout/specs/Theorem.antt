@@ -49,7 +49,8 @@ pub record Order (n m : ℕ) : Type 0 where
   pub parity-only : (k : ℕ) → moveFrom n m k ≡ parityDisk n (moveStripe n m k) → moveLag n k ≡ 0
   -- "A group is n zones": from one to the next the moves are the same, n zones further on
   pub next-group : (k : ℕ) → let j = k + n * m * n in
-      (moveZone n m j ≡ moveZone n m k + n) × (moveTo n m j ≡ moveTo n m k) × (moveLag n j ≡ moveLag n k) × (moveFrom n m j ≡ moveFrom n m k)
+      (moveZone n m j ≡ moveZone n m k + n) × (moveTo n m j ≡ moveTo n m k)
+      × (moveLag n j ≡ moveLag n k) × (moveFrom n m j ≡ moveFrom n m k)
 
 -- ---- the replay of t moves, one by one, is the closed form; a move is done exactly if its index is below t
 
@@ -64,7 +65,8 @@ pub record Replay (n m t : ℕ) : Type 0 where
 
 pub record Numbers (g : Geometry) : Type 0 where
   -- the moves below the total are those of the array's zones, n × m each, and stay inside its stripes
-  pub counted : 0 < g .new → (Z p i : ℕ) → Z < zones (g .old) (g .new) (g .stripes) → p < disks g → i < g .old → moveIndex (g .old) (g .new) Z p i < totalOf g
+  pub counted : 0 < g .new → (Z p i : ℕ) → Z < zones (g .old) (g .new) (g .stripes) → p < disks g → i < g .old
+      → moveIndex (g .old) (g .new) Z p i < totalOf g
   pub no-more : 0 < g .new → (k : ℕ) → k < totalOf g → moveZone (g .old) (g .new) k < zones (g .old) (g .new) (g .stripes)
   pub whole-zones : 0 < g .new → zones (g .old) (g .new) (g .stripes) * disks g ≡ g .stripes
   pub whole-groups : 0 < g .new → groups (g .old) (g .new) (g .stripes) * g .old ≡ zones (g .old) (g .new) (g .stripes)
@@ -78,7 +80,9 @@ pub record Numbers (g : Geometry) : Type 0 where
 
 pub record Placed (g : Geometry) : Type 0 where
   -- a block of before the growth, and each stripe's parity, stand where the replay of the moves puts them
-  pub replayed : (b : ℕ) → b < oldBlocks g → layout g .place b ≡ placeAt (homeStripe (g .old) b) (stands (g .old) (g .new) (g .moves) (homeStripe (g .old) b) (homeDisk (g .old) b))
+  pub replayed : (b : ℕ) → b < oldBlocks g →
+      let S = homeStripe (g .old) b in
+      layout g .place b ≡ placeAt S (stands (g .old) (g .new) (g .moves) S (homeDisk (g .old) b))
   pub parity-replayed : (S : ℕ) → S < g .stripes → layout g .parity S ≡ stands (g .old) (g .new) (g .moves) S (parityDisk (g .old) S)
   -- every block has its place ..
   pub stripe-lt : (b : ℕ) → b < capacity g → layout g .place b .stripe < g .stripes
@@ -105,28 +109,35 @@ pub record Blanked (g : Geometry) : Type 0 where
   pub rising : (S i j : ℕ) → i < j → j < g .new → blank g S i < blank g S j
   -- "A place with no block is blank": nothing of before the growth stands on them, and on every other disk something does
   pub empty : (S j d : ℕ) → j < g .new → d < g .old → stands (g .old) (g .new) (g .moves) S d ≢ blank g S j
-  pub filled : (S e : ℕ) → e < disks g → ((j : ℕ) → j < g .new → blank g S j ≢ e) → (d : ℕ) × (d < g .old) × (stands (g .old) (g .new) (g .moves) S d ≡ e)
+  pub filled : (S e : ℕ) → e < disks g → ((j : ℕ) → j < g .new → blank g S j ≢ e)
+      → (d : ℕ) × (d < g .old) × (stands (g .old) (g .new) (g .moves) S d ≡ e)
   -- while moves are left their owner is nobody, and no other place has that owner
   pub are-blank : g .moves < totalOf g → (S j : ℕ) → j < g .new → layout g .owner S (blank g S j) ≡ Blank
-  pub no-other : g .moves < totalOf g → (S e : ℕ) → S < g .stripes → e < disks g → layout g .owner S e ≡ Blank → (j : ℕ) × (j < g .new) × (blank g S j ≡ e)
+  pub no-other : g .moves < totalOf g → (S e : ℕ) → S < g .stripes → e < disks g → layout g .owner S e ≡ Blank
+      → (j : ℕ) × (j < g .new) × (blank g S j ≡ e)
   -- at the total they are the new blocks, in order, and no place is blank
-  pub new-block : g .moves ≡ totalOf g → (S j : ℕ) → S < g .stripes → j < g .new → layout g .owner S (blank g S j) ≡ Data (g .stripes * (g .old - 1) + (S * g .new + j))
+  pub new-block : g .moves ≡ totalOf g → (S j : ℕ) → S < g .stripes → j < g .new
+      → layout g .owner S (blank g S j) ≡ Data (g .stripes * (g .old - 1) + (S * g .new + j))
   pub none-left : g .moves ≡ totalOf g → (S e : ℕ) → S < g .stripes → e < disks g → layout g .owner S e ≢ Blank
 
 -- ---- one move: a block or parity, never a blank, to a place that was blank, in its stripe; no other owner changes
 
 pub record NextMove (g : Geometry) : Type 0 where
   -- a block stays in its stripe; it and the parity go just as the move carries them
-  pub block-goes : (b : ℕ) → b < capacity g → layout (after g) .place b ≡ placeAt (layout g .place b .stripe) (carry (g .old) (g .new) (g .moves) (layout g .place b .stripe) (layout g .place b .disk))
+  pub block-goes : (b : ℕ) → b < capacity g →
+      let q = layout g .place b in
+      layout (after g) .place b ≡ placeAt (q .stripe) (carry (g .old) (g .new) (g .moves) (q .stripe) (q .disk))
   pub parity-goes : (S : ℕ) → S < g .stripes → layout (after g) .parity S ≡ carry (g .old) (g .new) (g .moves) S (layout g .parity S)
   pub takes : layout g .owner (nextStripe g) (nextFrom g) ≢ Blank
   pub onto-blank : layout g .owner (nextStripe g) (nextTo g) ≡ Blank
   pub arrives : layout (after g) .owner (nextStripe g) (nextTo g) ≡ layout g .owner (nextStripe g) (nextFrom g)
   -- every other place that is not blank keeps its owner, at the last move too
-  pub kept : (S e : ℕ) → S < g .stripes → e < disks g → (nextStripe g ≡ S → (e ≢ nextFrom g) × (e ≢ nextTo g)) → layout g .owner S e ≢ Blank → layout (after g) .owner S e ≡ layout g .owner S e
+  pub kept : (S e : ℕ) → S < g .stripes → e < disks g → (nextStripe g ≡ S → (e ≢ nextFrom g) × (e ≢ nextTo g))
+      → layout g .owner S e ≢ Blank → layout (after g) .owner S e ≡ layout g .owner S e
   -- and unless it is the last one (then the blanks are the new blocks) the place left is blank, and so is what was
   pub leaves-blank : suc (g .moves) < totalOf g → layout (after g) .owner (nextStripe g) (nextFrom g) ≡ Blank
-  pub others : suc (g .moves) < totalOf g → (S e : ℕ) → S < g .stripes → e < disks g → (nextStripe g ≡ S → (e ≢ nextFrom g) × (e ≢ nextTo g)) → layout (after g) .owner S e ≡ layout g .owner S e
+  pub others : suc (g .moves) < totalOf g → (S e : ℕ) → S < g .stripes → e < disks g
+      → (nextStripe g ≡ S → (e ≢ nextFrom g) × (e ≢ nextTo g)) → layout (after g) .owner S e ≡ layout g .owner S e
 
 -- ---- all of it, of one array ..
 

@@ -17,7 +17,8 @@ pub record RoundTrip : Type 0 where
   -- and 16 bytes that are not `plain` are those of no record
   pub plain-only : (b : List ℕ) (r : Record) → encode r ≡ b → (length b ≡ 16) × (plain b ≡ true)
   -- worked out by hand: n = 5, m = 7, disk 11 out, B = 515, T = 67,305,985, t = 134,678,021; and the health bytes of the others
-  pub example : encode (record { old = 5; new = 7; health = Out 11; block = 515; stripes = 67305985; moves = 134678021 }) ≡ 5 ∷ 7 ∷ 1 ∷ 11 ∷ 3 ∷ 2 ∷ 0 ∷ 0 ∷ 1 ∷ 2 ∷ 3 ∷ 4 ∷ 5 ∷ 6 ∷ 7 ∷ 8 ∷ []
+  pub example : encode (record { old = 5; new = 7; health = Out 11; block = 515; stripes = 67305985; moves = 134678021 })
+      ≡ 5 ∷ 7 ∷ 1 ∷ 11 ∷ 3 ∷ 2 ∷ 0 ∷ 0 ∷ 1 ∷ 2 ∷ 3 ∷ 4 ∷ 5 ∷ 6 ∷ 7 ∷ 8 ∷ []
   pub whole-and-lost : (healthByte Whole ≡ 0) × (diskByte Whole ≡ 0) × (healthByte Lost ≡ 2) × (diskByte Lost ≡ 0)
 
 -- "A record is good exactly if each field is in its limits .."
