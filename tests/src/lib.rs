@@ -2,6 +2,7 @@
 //! formula with them, and the little that the tests need to run a program, to lend memory and to draw random numbers.
 
 pub mod array;
+pub mod bytewise;
 pub mod caller;
 pub mod compile;
 pub mod flat;

@@ -1,9 +1,9 @@
-//! Any bytes in a record, any lengths and any numbers: the answer is the table's, and what is refused is not touched.
+//! Any bytes in a record, any lengths, any numbers and any bytes in the images: the answer, and every byte of record, images and
+//! block left, are those of a model that goes by the table and by the bytes. What is refused is not touched.
 
-use yuzkamide_tests::flat::owned;
-use yuzkamide_tests::layout::Layout;
+use yuzkamide_tests::bytewise::Bytewise;
 use yuzkamide_tests::memory::{Guarded, Memory, Side};
-use yuzkamide_tests::pbm::{Answer, Bytes, Call, Loan};
+use yuzkamide_tests::pbm::{Answer, Bytes, Call, Loan, NAMES};
 use yuzkamide_tests::random::Random;
 use yuzkamide_tests::record::{good, Health, Record, BENCH, GROWING};
 use yuzkamide_tests::table::{refusal, Lent};
@@ -103,60 +103,53 @@ fn wanted(call: Call, lent: &Bytes) -> u8 {
     refusal(&Record::of(sixteen), call, &lengths)
 }
 
-/// Memory on either side of a protected page, to make calls in.
-struct Desk([Loan<Guarded>; 2]);
+/// Memory on either side of a protected page, to make calls in, and the model.
+struct Desk {
+    loans: [Loan<Guarded>; 2],
+    model: Bytewise,
+    /// How many calls of each kind were accepted, all of them compared.
+    accepted: [u64; 10],
+}
 
 impl Desk {
     fn new() -> Desk {
-        Desk([Loan::guarded(Side::Start), Loan::guarded(Side::End)])
+        Desk {
+            loans: [Loan::guarded(Side::Start), Loan::guarded(Side::End)],
+            model: Bytewise::default(),
+            accepted: [0; 10],
+        }
     }
 
-    /// Makes the call; the number that it gave, which is the table's. A refusal touched nothing; an accepted call left a good
-    /// record, and answered from it if that is all it reads.
+    /// Makes the call; the number that it gave, which is the table's. All that it answers and leaves is the model's.
     fn check(&mut self, call: Call, lent: &Bytes) -> u8 {
         let number = wanted(call, lent);
-        let wanted = match number {
-            0 => answer_from_record(call, &lent.record),
-            _ => Some(Answer::refused(number)),
+        let mut left = lent.clone();
+        let answer = match number {
+            0 => self.model.accept(call, &mut left),
+            _ => Answer::refused(number),
         };
-        for loan in &mut self.0 {
+        for loan in &mut self.loans {
             loan.lend(lent);
-            let answer = loan.call(call);
             let what = || format!("{call:?} on record {:?}", lent.record);
-            assert_eq!(answer.number, number, "{}", what());
-            assert_eq!(answer, wanted.unwrap_or(answer), "{}", what());
-            let left = loan.left();
-            let untouched = left == *lent;
-            assert!(number == 0 || untouched, "{} changed a byte", what());
-            let good = || good(left.record[..].try_into().unwrap());
-            assert!(number != 0 || good(), "{} left {:?}", what(), left.record);
+            assert_eq!(loan.call(call), answer, "{}", what());
+            let found = loan.left();
+            assert_eq!(found.record, left.record, "the record of {}", what());
+            assert!(found.images == left.images, "the images of {}", what());
+            assert_eq!(found.block, left.block, "the block of {}", what());
+        }
+        if number == 0 {
+            self.accepted[call.kind()] += 1;
         }
         number
     }
-}
 
-/// The answer of a call that reads the record alone; places of arrays that take long to lay out are left to places.rs.
-fn answer_from_record(call: Call, record: &[u8]) -> Option<Answer> {
-    let record = Record::of(record.try_into().unwrap());
-    let answer = match call {
-        Call::Locate { .. } | Call::Owner { .. } if record.stripes > 10_000 => return None,
-        Call::Status => {
-            let (health, out) = match record.health {
-                Health::Whole => (0, 0),
-                Health::Out(disk) => (1, disk),
-                Health::Lost => (2, 0),
-            };
-            let numbers = [record.capacity(), record.moves, record.total(), health, out];
-            Answer::done(&numbers)
+    /// Each call was accepted so often, in the order of `NAMES`.
+    fn assert_accepted(&self, least: [u64; 10]) {
+        println!("accepted, in the order {NAMES:?}: {:?}", self.accepted);
+        for ((name, count), least) in NAMES.iter().zip(self.accepted).zip(least) {
+            assert!(count >= least, "{name} was accepted {count} times");
         }
-        Call::Locate { block } => {
-            let (stripe, disk) = Layout::of(&record).place(block);
-            Answer::done(&[stripe, disk])
-        }
-        Call::Owner { stripe, disk } => owned(Layout::of(&record).owner(stripe, disk)),
-        _ => return None,
-    };
-    Some(answer)
+    }
 }
 
 #[test]
@@ -177,6 +170,7 @@ fn good_records_with_one_bit_off() {
     }
     println!("{still_good} calls on good records, {bad} on others");
     assert!(still_good > 1000 && bad > 5000);
+    desk.assert_accepted([1280, 53, 53, 1, 19, 206, 22, 260, 244, 248]);
 }
 
 #[test]
@@ -219,6 +213,7 @@ fn random_records() {
     }
     println!("{accepted} accepted, {refused} refused");
     assert!(accepted > 10_000 && refused > 10_000);
+    desk.assert_accepted([2000, 300, 300, 0, 100, 500, 10, 1000, 1000, 1000]);
 }
 
 fn random_record(random: &mut Random) -> [u8; 16] {
@@ -327,6 +322,81 @@ fn every_number_off() {
                 desk.check(call, &bytes(Call::Grow { m }, &record));
             }
         }
+    }
+}
+
+/// Good records of every kind with any bytes in the images, so that no stripe is sound, and calls that are accepted.
+#[test]
+fn accepted_calls_on_any_bytes() {
+    let mut random = Random::new("accepted_calls_on_any_bytes");
+    let mut desk = Desk::new();
+    for _ in 0..4_000 {
+        let record = random_array(&mut random);
+        for call in random_calls(&mut random, &record) {
+            let lent = Bytes {
+                record: record.bytes().to_vec(),
+                images: random.bytes(images_len(call, &record)),
+                block: random.bytes(record.block_len as usize),
+            };
+            desk.check(call, &lent);
+        }
+    }
+    desk.assert_accepted([4000, 3000, 3000, 100, 500, 2000, 1000, 4000, 4000, 4000]);
+}
+
+/// A good record of an array before, during or after a growth, of whatever health.
+fn random_array(random: &mut Random) -> Record {
+    let n = 3 + random.below(6);
+    let m = random.below(6);
+    let mut record = Record {
+        n,
+        m,
+        health: Health::Whole,
+        block_len: 1 + random.below(9),
+        stripes: n * (n + m) * (1 + random.below(3)),
+        moves: 0,
+    };
+    record.moves = match random.below(4) {
+        0 => 0,
+        1 => record.total(),
+        _ => random.below(record.total() + 1),
+    };
+    record.health = match random.below(8) {
+        0 => Health::Lost,
+        1..=3 => Health::Out(random.below(record.disks())),
+        _ => Health::Whole,
+    };
+    record
+}
+
+/// A call of each kind with numbers in their limits, so that health and growth alone can refuse it.
+fn random_calls(random: &mut Random, record: &Record) -> [Call; 10] {
+    let mut calls = calls(record);
+    for call in &mut calls {
+        match call {
+            Call::Read { block } | Call::Write { block } | Call::Locate { block } => {
+                *block = random.below(record.capacity())
+            }
+            Call::Grow { m } => *m = *random.pick(&fitting(record)),
+            Call::Advance { k } => *k = random.below(40),
+            Call::Out { disk } => *disk = random.below(record.disks()),
+            Call::Owner { stripe, disk } => {
+                (*stripe, *disk) = (random.below(record.stripes), random.below(record.disks()))
+            }
+            Call::Format { .. } | Call::Rebuild { .. } | Call::Status => {}
+        }
+    }
+    calls
+}
+
+/// The numbers of new disks that the stripes let it grow by; 1 if there is none.
+fn fitting(record: &Record) -> Vec<u64> {
+    let fits = |m: &u64| record.stripes.is_multiple_of(record.n * (record.n + m));
+    let all: Vec<u64> = (1..=16).filter(fits).collect();
+    if all.is_empty() {
+        vec![1]
+    } else {
+        all
     }
 }
 

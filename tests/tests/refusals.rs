@@ -1,7 +1,9 @@
 //! Every row of document 01's table of refusals, for every call that it names: alone, and with a lower row's condition holding
-//! as well, which then wins. A refused call changes no byte and sets every number beside its answer to 0.
+//! as well, which then wins. A refused call changes no byte and sets every number beside its answer to 0. What an accepted one
+//! answers and leaves is held to a model that goes by the bytes.
 
 use std::collections::HashSet;
+use yuzkamide_tests::bytewise::Bytewise;
 use yuzkamide_tests::memory::Side;
 use yuzkamide_tests::pbm::{Answer, Bytes, Call, Loan, NAMES};
 use yuzkamide_tests::random::Random;
@@ -300,21 +302,22 @@ impl Case {
     }
 
     /// Makes the call, its slices once behind a protected page and once before one, and sees that it gives this number; that a
-    /// refusal sets the numbers beside it to 0 and changes no byte.
+    /// refusal sets the numbers beside it to 0 and changes no byte, and that what is accepted answers and leaves what it should.
     fn gives(&self, number: u8, how: &str) {
         let lent = self.bytes();
+        let mut wanted = lent.clone();
+        let answer = match number {
+            0 => Bytewise::default().accept(self.call, &mut wanted),
+            _ => Answer::refused(number),
+        };
         for side in [Side::Start, Side::End] {
             let mut loan = Loan::guarded(side);
             loan.lend(&lent);
-            let answer = loan.call(self.call);
-            assert_eq!(answer.number, number, "{how}: {self:?}");
-            if number != 0 {
-                assert_eq!(answer, Answer::refused(number), "{how}: {self:?}");
-                let left = loan.left();
-                assert_eq!(left.record, lent.record, "record, {how}: {self:?}");
-                assert!(left.images == lent.images, "images, {how}: {self:?}");
-                assert_eq!(left.block, lent.block, "block, {how}: {self:?}");
-            }
+            assert_eq!(loan.call(self.call), answer, "{how}: {self:?}");
+            let left = loan.left();
+            assert_eq!(left.record, wanted.record, "record, {how}: {self:?}");
+            assert!(left.images == wanted.images, "images, {how}: {self:?}");
+            assert_eq!(left.block, wanted.block, "block, {how}: {self:?}");
         }
     }
 }

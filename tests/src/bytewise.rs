@@ -1,0 +1,141 @@
+//! What an accepted call answers and leaves, byte for byte as "Calls" of document 01 says it, on any bytes: here nothing rests
+//! on stripes that are sound.
+
+use crate::flat::owned;
+use crate::images::{disk, place, xor};
+use crate::layout::Layout;
+use crate::moves::moves;
+use crate::pbm::{Answer, Bytes, Call};
+use crate::record::{Health, Record};
+
+/// Makes accepted calls on bytes. Keeps the layout that it replayed last.
+#[derive(Default)]
+pub struct Bytewise {
+    last: Option<(Record, Layout)>,
+}
+
+impl Bytewise {
+    /// The answer; what is lent becomes what is left.
+    pub fn accept(&mut self, call: Call, lent: &mut Bytes) -> Answer {
+        let record = Record::of(lent.record[..].try_into().unwrap());
+        let Bytes { images, block, .. } = &mut *lent;
+        let mut left = record;
+        let mut answer = Answer::done(&[]);
+        match call {
+            Call::Format {
+                n,
+                block_len,
+                stripes,
+            } => {
+                images.fill(0);
+                left = Record::new(n, block_len, stripes);
+            }
+            Call::Read { block: number } => {
+                let (stripe, disk) = self.layout(&record).place(number);
+                block.copy_from_slice(&seen(images, &record, stripe, disk));
+            }
+            Call::Write { block: number } => {
+                write(images, &record, self.layout(&record), number, block)
+            }
+            Call::Grow { m } => {
+                images[disk(&record, record.n).start..].fill(0);
+                left.m = m;
+            }
+            Call::Advance { k } => {
+                let made = make_moves(images, &record, k);
+                left.moves += made;
+                answer = Answer::done(&[made]);
+            }
+            Call::Out { disk } => {
+                left.health = match record.health {
+                    Health::Whole => Health::Out(disk),
+                    _ => Health::Lost,
+                }
+            }
+            Call::Rebuild { disk } => {
+                for stripe in 0..record.stripes {
+                    let sum = others(images, &record, stripe, disk);
+                    images[place(&record, stripe, disk)].copy_from_slice(&sum);
+                }
+                left.health = Health::Whole;
+            }
+            Call::Status => answer = status(&record),
+            Call::Locate { block } => {
+                let (stripe, disk) = self.layout(&record).place(block);
+                answer = Answer::done(&[stripe, disk]);
+            }
+            Call::Owner { stripe, disk } => {
+                answer = owned(self.layout(&record).owner(stripe, disk));
+            }
+        }
+        // the other calls leave the record's bytes, which are good, as they are
+        lent.record.copy_from_slice(&left.bytes());
+        answer
+    }
+
+    fn layout(&mut self, record: &Record) -> &Layout {
+        let shape = Record {
+            health: Health::Whole,
+            ..*record
+        };
+        if !matches!(&self.last, Some((last, _)) if *last == shape) {
+            self.last = Some((shape, Layout::of(&shape)));
+        }
+        &self.last.as_ref().unwrap().1
+    }
+}
+
+/// The xor of the stripe's other places.
+fn others(images: &[u8], record: &Record, stripe: u64, disk: u64) -> Vec<u8> {
+    let mut sum = vec![0; record.block_len as usize];
+    for other in (0..record.disks()).filter(|&other| other != disk) {
+        xor(&mut sum, &images[place(record, stripe, other)]);
+    }
+    sum
+}
+
+/// "An out disk is never read: its place counts as the xor of the stripe's other places."
+fn seen(images: &[u8], record: &Record, stripe: u64, disk: u64) -> Vec<u8> {
+    match record.health {
+        Health::Out(out) if out == disk => others(images, record, stripe, disk),
+        _ => images[place(record, stripe, disk)].to_vec(),
+    }
+}
+
+/// "the data place takes the data, the parity place its old value xor old block xor data; either is skipped if its disk is
+/// out"
+fn write(images: &mut [u8], record: &Record, layout: &Layout, number: u64, data: &[u8]) {
+    let (stripe, disk) = layout.place(number);
+    let parity_disk = layout.parity(stripe);
+    let mut parity = seen(images, record, stripe, parity_disk);
+    xor(&mut parity, &seen(images, record, stripe, disk));
+    xor(&mut parity, data);
+    for (disk, bytes) in [(disk, data), (parity_disk, &parity)] {
+        if record.health != Health::Out(disk) {
+            images[place(record, stripe, disk)].copy_from_slice(bytes);
+        }
+    }
+}
+
+/// "makes moves in order until k are made or none is left": how many. "A move copies the block to its new place, then zeroes the
+/// place it left."
+fn make_moves(images: &mut [u8], record: &Record, k: u64) -> u64 {
+    let zones = record.stripes / record.disks();
+    let all = moves(record.n as i64, record.m as i64, zones as i64 - 1);
+    let next = &all[record.moves as usize..];
+    let made = k.min(next.len() as u64);
+    for x in &next[..made as usize] {
+        let stripe = x.zone as u64 * record.disks() + x.within as u64;
+        let from = place(record, stripe, x.from as u64);
+        let to = place(record, stripe, x.to as u64);
+        images.copy_within(from.clone(), to.start);
+        images[from].fill(0);
+    }
+    made
+}
+
+/// "capacity, t, total, health", and the disk that is out, as the record has it.
+fn status(record: &Record) -> Answer {
+    let [_, _, health, out, ..] = record.bytes().map(u64::from);
+    Answer::done(&[record.capacity(), record.moves, record.total(), health, out])
+}
