@@ -4,6 +4,7 @@
 use std::cell::Cell;
 use std::ffi::{c_int, c_void};
 use std::io::Write;
+use std::ops::Range;
 use std::ptr::null_mut;
 use std::slice::{from_raw_parts, from_raw_parts_mut};
 
@@ -52,6 +53,8 @@ pub struct Guarded {
     len: usize,
     access: Access,
     sealed: bool,
+    /// A part of it, of whole pages, that may not be touched.
+    closed: Range<usize>,
 }
 
 #[derive(Clone, Copy, PartialEq, Eq)]
@@ -104,7 +107,30 @@ impl Guarded {
             len: 0,
             access: Access::None,
             sealed: false,
+            closed: 0..0,
         }
+    }
+
+    /// From now on no byte of this part may be read or written, until `open`. It keeps what it holds.
+    pub fn close(&mut self, part: Range<usize>) {
+        let start = self.start() as usize + part.start;
+        assert!(part.end <= self.len, "a part of it");
+        assert_eq!((start % PAGE, part.len() % PAGE), (0, 0), "whole pages");
+        self.closed = part;
+        self.protect_closed();
+    }
+
+    pub fn open(&mut self) {
+        self.closed = 0..0;
+        self.access = Access::None;
+        self.allow(Access::Write);
+    }
+
+    fn protect_closed(&self) {
+        let start = self.start().wrapping_add(self.closed.start);
+        // SAFETY: the room's own pages; who touches them ends the run.
+        let changed = unsafe { mprotect(start.cast(), self.closed.len(), PROT_NONE) };
+        assert_eq!(changed, 0, "mprotect");
     }
 
     fn allow(&mut self, access: Access) {
@@ -113,6 +139,9 @@ impl Guarded {
             let changed = unsafe { mprotect(self.room.cast(), self.room_len, access as c_int) };
             assert_eq!(changed, 0, "mprotect");
             self.access = access;
+            if !self.closed.is_empty() {
+                self.protect_closed();
+            }
         }
     }
 

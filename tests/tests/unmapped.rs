@@ -1,0 +1,316 @@
+//! The memory of a disk that is out may be gone: no call but format and rebuild reads or writes a byte of it, not even to refuse.
+//! Here its pages are closed, so that a call that touches one ends the run; every call answers as the flat list does. Then they
+//! are opened again, with other bytes in them, and rebuild makes the disk right.
+
+use yuzkamide_tests::flat::Flat;
+use yuzkamide_tests::images;
+use yuzkamide_tests::memory::{on_fault_tell, Guarded, Memory, Side};
+use yuzkamide_tests::pbm::{Answer, Bytes, Call, Loan};
+use yuzkamide_tests::random::Random;
+use yuzkamide_tests::record::Record;
+use yuzkamide_tests::table::Lent;
+
+/// n, m, B and T: arrays whose disks are whole pages.
+const SHAPES: &[(u64, u64, u64, u64)] = &[
+    (3, 0, 4096, 1),
+    (3, 0, 256, 16),
+    (5, 0, 4096, 7),
+    (16, 0, 64, 64),
+    (3, 1, 1024, 12),
+    (3, 2, 4096, 15),
+    (4, 1, 1024, 20),
+    (4, 4, 128, 32),
+    (5, 3, 512, 40),
+    (3, 13, 256, 48),
+    (16, 16, 8, 512),
+];
+
+struct Array {
+    loan: Loan<Guarded>,
+    flat: Flat,
+    random: Random,
+    /// How many calls were made while pages were closed.
+    calls: u64,
+}
+
+impl Array {
+    /// An array after so many moves, with any blocks in it.
+    fn new(seed: u64, shape: (u64, u64, u64, u64), moves: u64) -> Array {
+        let (n, m, block_len, stripes) = shape;
+        let mut array = Array {
+            loan: Loan::guarded(Side::Start),
+            flat: Flat::format(n, block_len, stripes),
+            random: Random::seeded(seed),
+            calls: 0,
+        };
+        if m > 0 {
+            array.step(Call::Grow { m }, &mut []);
+            array.step(Call::Advance { k: moves }, &mut []);
+        }
+        for block in 0..array.flat.capacity() {
+            let mut data = array.random.bytes(block_len as usize);
+            array.step(Call::Write { block }, &mut data);
+        }
+        array.loan.lend(&Bytes {
+            record: array.flat.numbers.bytes().to_vec(),
+            images: images::of(&array.flat),
+            block: vec![0; block_len as usize],
+        });
+        array
+    }
+
+    /// What the flat list answers to a call that is lent what it asks for.
+    fn step(&mut self, call: Call, block: &mut [u8]) -> Answer {
+        let Record {
+            n,
+            stripes,
+            block_len,
+            ..
+        } = self.flat.numbers;
+        let images_len = match call {
+            Call::Grow { m } => (n + m) * stripes * block_len,
+            _ => self.flat.numbers.images_len(),
+        };
+        let lent = Lent {
+            record_len: 16,
+            good: true,
+            images_len: images_len as usize,
+            block_len: self.flat.numbers.block_len as usize,
+        };
+        self.flat.step(call, &lent, block)
+    }
+
+    /// Makes the call and holds its answer, the block and the record to the flat list's.
+    fn call(&mut self, call: Call) -> Answer {
+        let mut block = self.loan.block.bytes().to_vec();
+        let wanted = self.step(call, &mut block);
+        let numbers = &self.flat.numbers;
+        assert_eq!(self.loan.call(call), wanted, "{call:?} on {numbers:?}");
+        assert_eq!(self.loan.block.bytes(), block, "{call:?} on {numbers:?}");
+        let record = self.flat.numbers.bytes();
+        assert_eq!(self.loan.record.bytes(), record, "{call:?}");
+        self.calls += 1;
+        wanted
+    }
+
+    fn accepted(&mut self, call: Call) {
+        assert_eq!(self.call(call).number, 0, "{call:?}");
+    }
+
+    fn refused(&mut self, number: u8, call: Call) {
+        assert_eq!(self.call(call), Answer::refused(number), "{call:?}");
+    }
+
+    /// The disk goes out, and its pages with it.
+    fn lose(&mut self, disk: u64) {
+        let range = images::disk(&self.flat.numbers, disk);
+        let garbage = self.random.bytes(range.len());
+        self.loan.images.exclusive()[range.clone()].copy_from_slice(&garbage);
+        self.loan.images.close(range);
+        self.accepted(Call::Out { disk });
+    }
+
+    fn read_all(&mut self) {
+        for block in 0..self.flat.capacity() {
+            self.loan.block.exclusive().fill(0x5a);
+            self.accepted(Call::Read { block });
+        }
+    }
+
+    fn write_all(&mut self) {
+        for block in 0..self.flat.capacity() {
+            self.random.fill(self.loan.block.exclusive());
+            self.accepted(Call::Write { block });
+        }
+    }
+
+    fn ask_all(&mut self) {
+        let numbers = self.flat.numbers;
+        self.accepted(Call::Status);
+        for block in 0..self.flat.capacity() {
+            self.accepted(Call::Locate { block });
+        }
+        for stripe in 0..numbers.stripes {
+            for disk in 0..numbers.disks() {
+                self.accepted(Call::Owner { stripe, disk });
+            }
+        }
+    }
+
+    /// Calls that an array with this disk out refuses.
+    fn refuse_all(&mut self, disk: u64) {
+        let Record {
+            n,
+            stripes,
+            block_len,
+            ..
+        } = self.flat.numbers;
+        let disks = self.flat.numbers.disks();
+        let capacity = self.flat.capacity();
+        self.refused(3, Call::Grow { m: 1 });
+        self.refused(3, Call::Grow { m: 0 });
+        self.refused(3, Call::Advance { k: 1 });
+        self.refused(3, Call::Advance { k: u64::MAX });
+        self.refused(8, Call::Read { block: capacity });
+        self.refused(8, Call::Write { block: capacity });
+        self.refused(10, Call::Out { disk });
+        self.refused(10, Call::Out { disk: disks });
+        for other in (0..=disks).filter(|&other| other != disk) {
+            self.refused(10, Call::Rebuild { disk: other });
+        }
+        let format = |n, block_len, stripes| Call::Format {
+            n,
+            block_len,
+            stripes,
+        };
+        self.refused(6, format(2, block_len, stripes));
+        self.refused(6, format(n, 0, stripes));
+        self.refused(6, format(n, block_len, 1_048_577));
+        self.refused(7, format(n, block_len, stripes + 1));
+    }
+
+    /// A block that is a byte short is refused for its length.
+    fn refuse_short_block(&mut self) {
+        let right = self.loan.block.bytes().to_vec();
+        self.loan.block.hold(&right[1..]);
+        for call in [Call::Read { block: 0 }, Call::Write { block: 0 }] {
+            assert_eq!(self.loan.call(call), Answer::refused(9), "{call:?}");
+            assert_eq!(self.loan.block.bytes(), &right[1..]);
+            self.calls += 1;
+        }
+        self.loan.block.hold(&right);
+    }
+
+    /// By a record of shorter blocks the images are too long.
+    fn refuse_length(&mut self, disk: u64) {
+        let right = self.flat.numbers;
+        let shorter = Record {
+            block_len: right.block_len - 1,
+            ..right
+        };
+        self.loan.record.hold(&shorter.bytes());
+        for call in [
+            Call::Read { block: 0 },
+            Call::Write { block: 0 },
+            Call::Rebuild { disk },
+        ] {
+            assert_eq!(self.loan.call(call), Answer::refused(7), "{call:?}");
+            self.calls += 1;
+        }
+        self.loan.record.hold(&right.bytes());
+    }
+
+    /// With a second disk out all is lost, and refused; then it is as if that had not been.
+    fn lose_another(&mut self, disk: u64) {
+        let before = self.flat.numbers;
+        self.accepted(Call::Out { disk });
+        for call in [
+            Call::Read { block: 0 },
+            Call::Write { block: 0 },
+            Call::Grow { m: 1 },
+            Call::Advance { k: 1 },
+            Call::Out { disk: 0 },
+            Call::Rebuild { disk },
+        ] {
+            self.refused(2, call);
+        }
+        self.accepted(Call::Status);
+        self.accepted(Call::Locate { block: 0 });
+        self.accepted(Call::Owner { stripe: 0, disk });
+        self.flat.numbers = before;
+        self.loan.record.hold(&before.bytes());
+    }
+
+    /// Every disk but this one holds what the flat list stands for.
+    fn look_at_others(&self, out: u64) {
+        let numbers = &self.flat.numbers;
+        let wanted = images::of(&self.flat);
+        for disk in (0..numbers.disks()).filter(|&disk| disk != out) {
+            let range = images::disk(numbers, disk);
+            let left = &self.loan.images.bytes()[range.clone()];
+            assert!(left == &wanted[range], "disk {disk} of {numbers:?}");
+        }
+    }
+
+    fn rebuild(&mut self, disk: u64) {
+        self.loan.images.open();
+        let range = images::disk(&self.flat.numbers, disk);
+        self.random.fill(&mut self.loan.images.exclusive()[range]);
+        self.accepted(Call::Rebuild { disk });
+        let whole = images::of(&self.flat);
+        let numbers = &self.flat.numbers;
+        assert!(
+            self.loan.images.bytes() == whole,
+            "disk {disk} of {numbers:?}"
+        );
+    }
+}
+
+/// One array with each of its disks out in turn.
+fn each_disk_out(seed: u64, shape: (u64, u64, u64, u64), moves: u64) -> u64 {
+    let mut array = Array::new(seed, shape, moves);
+    let disks = array.flat.numbers.disks();
+    for disk in 0..disks {
+        array.lose(disk);
+        array.ask_all();
+        array.read_all();
+        array.refuse_all(disk);
+        array.refuse_short_block();
+        array.refuse_length(disk);
+        array.lose_another((disk + 1) % disks);
+        array.look_at_others(disk);
+        array.write_all();
+        array.look_at_others(disk);
+        array.read_all();
+        array.rebuild(disk);
+    }
+    array.calls
+}
+
+#[test]
+fn a_disk_that_is_out_is_not_touched() {
+    let seed = Random::seed("a_disk_that_is_out_is_not_touched");
+    on_fault_tell(seed);
+    let mut calls = 0;
+    for &shape in SHAPES {
+        let (n, m, _, stripes) = shape;
+        let total = stripes * n * m / (n + m);
+        let mut moves = vec![0, 1, total / 2, total.saturating_sub(1), total];
+        moves.retain(|&t| t <= total);
+        moves.dedup();
+        for t in moves {
+            calls += each_disk_out(seed, shape, t);
+        }
+    }
+    println!("{calls} calls");
+    assert!(calls > 1_000_000);
+}
+
+/// The pages are closed indeed: a program that reads one byte of them ends.
+#[test]
+fn a_closed_page_cannot_be_read() {
+    const TOUCH: &str = "TOUCH_A_CLOSED_PAGE";
+    let mut pages = Guarded::zeros(Side::Start, 3 * 4096);
+    pages.exclusive().fill(7);
+    pages.close(4096..2 * 4096);
+    assert_eq!(pages.shared()[4095], 7);
+    if std::env::var_os(TOUCH).is_some() {
+        on_fault_tell(0);
+        println!("{}", pages.bytes()[4096]);
+        return;
+    }
+    assert_eq!(pages.exclusive()[2 * 4096], 7);
+    let touched = std::process::Command::new(std::env::current_exe().unwrap())
+        .args(["--exact", "a_closed_page_cannot_be_read"])
+        .env(TOUCH, "")
+        .output()
+        .unwrap();
+    assert_eq!(touched.status.code(), Some(1), "ended by the fault");
+    let said = String::from_utf8_lossy(&touched.stderr);
+    assert!(
+        said.contains("a byte outside of what was lent was touched"),
+        "{said}"
+    );
+    pages.open();
+    assert_eq!(pages.exclusive()[4096], 7);
+}
