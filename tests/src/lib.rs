@@ -5,6 +5,7 @@ pub mod array;
 pub mod bytewise;
 pub mod caller;
 pub mod compile;
+pub mod contracts;
 pub mod flat;
 pub mod history;
 pub mod images;

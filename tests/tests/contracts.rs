@@ -1,39 +1,52 @@
-//! Every function that another module can call says what it answers and what it leaves of everything that it is lent to write,
-//! and entry points require nothing: they refuse.
+//! Every function that another module can call says what it answers and what it leaves of everything that it is lent to write;
+//! entry points require nothing: they refuse; and the clauses of those that another crate can call have names.
 
 use std::fs;
 use std::path::{Path, PathBuf};
+use yuzkamide_tests::contracts::{
+    equations, functions, handed_on, structs, Function, Structs, Visibility, RECORDS,
+};
+use yuzkamide_tests::pbm::NAMES;
 use yuzkamide_tests::program::target;
 
 /// The crates whose public functions are handed anything by anyone, and the program's function that is handed what was typed.
 const ENTRY_CRATES: &[&str] = &["array", "lent", "pbm"];
 const ENTRY_POINT: &str = "answer_to";
 
-/// A slice of which a part may be returned cannot be named at exit; `view_choice` says what is left of it.
-const SPENT: &[(&str, &str)] = &[("view<'a>", "scratch")];
+/// Functions inside a crate whose answer is left open where no caller looks at it, and limited there: the blanks below a disk
+/// are counted only if it is blank itself.
+const LIMITED: &[(&str, &str)] = &[("layout", "count_below")];
 
-struct Function {
-    name: String,
+/// A function where it stands.
+struct Found {
+    function: Function,
+    in_crate: String,
+    file: PathBuf,
     /// Another crate can call it.
     exported: bool,
-    file: PathBuf,
-    /// From the name to the body.
-    signature: String,
-    clauses: Vec<String>,
 }
 
-impl Function {
-    /// The parameters that it is lent to write.
-    fn written(&self) -> Vec<&str> {
-        let parameters = self.signature.split(") ->").next().unwrap();
-        let parameters = parameters.split("ensures").next().unwrap();
-        parameters
-            .split(['(', ','])
-            .filter_map(|p| p.split_once(": &"))
-            .filter(|(_, kind)| kind.split_whitespace().any(|word| word == "mut"))
-            .map(|(name, _)| name.trim())
-            .collect()
+impl Found {
+    fn is_limited(&self) -> bool {
+        LIMITED.contains(&(self.in_crate.as_str(), self.function.name.as_str()))
     }
+
+    fn is_entry_point(&self) -> bool {
+        let public = self.function.visibility == Visibility::Public;
+        self.function.name == ENTRY_POINT || (public && self.in_entry_crate())
+    }
+
+    fn in_entry_crate(&self) -> bool {
+        ENTRY_CRATES.contains(&self.in_crate.as_str())
+    }
+
+    fn place(&self) -> String {
+        format!("{} in {}", self.function.name, self.file.display())
+    }
+}
+
+fn crates() -> PathBuf {
+    target().join("../crates")
 }
 
 fn sources(folder: &Path, found: &mut Vec<PathBuf>) {
@@ -47,112 +60,321 @@ fn sources(folder: &Path, found: &mut Vec<PathBuf>) {
     }
 }
 
-/// The functions that are `pub` in some way, with the lines between signature and body, as `rt fmt` lays them out.
-fn public_functions() -> Vec<Function> {
-    let mut files = Vec::new();
-    for name in fs::read_dir(target().join("../crates")).unwrap() {
-        sources(&name.unwrap().path().join("src"), &mut files);
-    }
+/// The functions that are `pub` in some way, and all structs.
+fn public_functions() -> (Vec<Found>, Structs) {
     let mut all = Vec::new();
-    for file in files {
-        let text = fs::read_to_string(&file).unwrap();
-        let mut lines = text.lines();
-        while let Some(line) = lines.next() {
-            let Some((head, rest)) = line.trim_start().split_once("fn ") else {
-                continue;
-            };
-            if !head.starts_with("pub") {
-                continue;
+    let mut all_structs = Structs::new();
+    for name in fs::read_dir(crates()).unwrap() {
+        let folder = name.unwrap().path();
+        let mut files = Vec::new();
+        sources(&folder.join("src"), &mut files);
+        let lib = fs::read_to_string(folder.join("src/lib.rt")).unwrap_or_default();
+        let handed_on = handed_on(&lib);
+        for file in files {
+            let text = fs::read_to_string(&file).unwrap();
+            for (name, fields) in structs(&text) {
+                let other = all_structs.insert(name.clone(), fields);
+                assert!(other.is_none(), "two structs have the name {name}");
             }
-            let name = rest.split('(').next().unwrap().to_string();
-            let mut clauses = Vec::new();
-            if !line.ends_with('{') {
-                clauses.extend(
-                    lines
-                        .by_ref()
-                        .take_while(|l| l.trim() != "{")
-                        .map(|l| l.trim().to_string()),
-                );
+            let in_lib = file.ends_with("lib.rt");
+            for function in functions(&text) {
+                if function.visibility != Visibility::Private {
+                    all.push(Found {
+                        exported: function.visibility == Visibility::Public
+                            && (in_lib || handed_on.contains(&function.name)),
+                        in_crate: folder.file_name().unwrap().to_str().unwrap().to_string(),
+                        file: file.clone(),
+                        function,
+                    });
+                }
             }
-            let signature = format!("{rest} {}", clauses.join(" "));
-            all.push(Function {
-                name,
-                signature,
-                exported: !head.starts_with("pub(crate)"),
-                file: file.clone(),
-                clauses,
-            });
         }
     }
-    all
+    (all, all_structs)
+}
+
+#[test]
+fn the_search_finds_the_functions() {
+    let (all, structs) = public_functions();
+    let exported = |in_crate: &str, name: &str| {
+        let is = |f: &Found| f.exported && f.in_crate == in_crate && f.function.name == name;
+        all.iter().any(is)
+    };
+    for name in NAMES {
+        assert!(exported("array", name) && exported("lent", name), "{name}");
+        assert!(exported("pbm", &format!("pbm_{name}")), "pbm_{name}");
+    }
+    assert!(exported("array", "view") && exported("lent", "view"));
+    assert!(!exported("array", "is_absent"), "its module is private");
+    let lent: usize = all.iter().map(|f| written(&f.function)).sum();
+    assert!(lent > 40, "lent to write: {lent}");
+    let fields =
+        |name: &str| -> Vec<&str> { structs[name].iter().map(|f| f.name.as_str()).collect() };
+    assert_eq!(fields("Count"), ["number", "made"]);
+    assert_eq!(fields("Place"), ["stripe", "disk"]);
+}
+
+fn written(f: &Function) -> usize {
+    f.parameters.iter().filter(|p| p.is_written()).count()
 }
 
 #[test]
 fn every_public_function_says_what_it_answers() {
-    let functions = public_functions();
-    assert!(
-        functions.iter().any(|f| f.name == "place_of"),
-        "the search finds the public functions"
-    );
-    for f in functions {
-        // `Stored` is the record of two equations: the buffer left, and the position answered
-        let says = f
-            .clauses
-            .iter()
-            .any(|c| c.starts_with("ensures ") && (c.contains('≡') || c.contains("Stored")));
-        assert!(
-            says,
-            "{} in {} has no ensures clause that gives its answer",
-            f.name,
-            f.file.display()
+    let (all, structs) = public_functions();
+    for f in all {
+        assert_ne!(
+            f.function.says_answer(&structs),
+            f.is_limited(),
+            "{} gives its answer in an ensures clause",
+            f.place()
         );
+        assert!(!f.is_limited() || !f.exported, "{}", f.place());
     }
 }
 
 #[test]
 fn every_public_function_says_what_it_leaves() {
-    let mut seen = 0;
-    for f in public_functions() {
-        for name in f.written() {
-            let exit = format!("{name} .exit");
-            let says = f
-                .clauses
-                .iter()
-                .any(|c| c.starts_with("ensures ") && c.contains(&exit));
-            assert_ne!(
-                says,
-                SPENT.contains(&(f.name.as_str(), name)),
-                "{} in {}: what is left of {name}",
-                f.name,
-                f.file.display()
-            );
-            seen += 1;
-        }
-    }
-    assert!(seen > 40, "the search finds what is lent: {seen}");
+    let open: Vec<String> = public_functions()
+        .0
+        .iter()
+        .flat_map(|f| {
+            let names = f.function.leaves_open();
+            names
+                .into_iter()
+                .map(|name| format!("{name} of {}", f.place()))
+                .collect::<Vec<_>>()
+        })
+        .collect();
+    assert!(open.is_empty(), "not said what is left of {open:?}");
 }
 
 #[test]
 fn entry_points_require_nothing() {
-    let functions = public_functions();
-    let entries: Vec<&Function> = functions.iter().filter(|f| is_entry_point(f)).collect();
+    let (all, _) = public_functions();
+    let entries: Vec<&Found> = all.iter().filter(|f| f.is_entry_point()).collect();
     for name in ["answer_to", "view", "pbm_write"] {
-        assert!(
-            entries.iter().any(|f| f.name.starts_with(name)),
-            "the search finds {name}"
-        );
+        let is = |f: &&&Found| f.function.name == name;
+        assert!(entries.iter().any(|f| is(&f)), "the search finds {name}");
     }
     for f in entries {
         assert!(
-            f.clauses.iter().all(|c| !c.starts_with("requires")),
-            "{} in {} requires something",
-            f.name,
-            f.file.display()
+            f.function.requires.is_empty(),
+            "{} requires something",
+            f.place()
         );
     }
 }
 
-fn is_entry_point(f: &Function) -> bool {
-    let in_crate = |name: &&str| f.file.iter().any(|part| part == *name);
-    f.name == ENTRY_POINT || (f.exported && ENTRY_CRATES.iter().any(in_crate))
+#[test]
+fn clauses_of_exported_functions_have_names() {
+    let (all, _) = public_functions();
+    for f in all.iter().filter(|f| f.exported && f.in_entry_crate()) {
+        assert!(
+            f.function.names_all(),
+            "{} has a clause without a name",
+            f.place()
+        );
+    }
+}
+
+/// The records that stand for equations hold them.
+#[test]
+fn records_of_equations() {
+    let text = fs::read_to_string(crates().join("zone_moves/specs/Listing.antt")).unwrap();
+    let record =
+        "pub record Stored (out : List ℕ) (at : ℕ) (text after : List ℕ) (next : ℕ) : Type 0 where
+  pub is : after ≡ written out at text
+  pub place : next ≡ at + length text
+";
+    assert!(text.contains(record));
+    assert_eq!(RECORDS, [("Stored", &[3, 4][..])]);
+}
+
+// ---- the rule itself, on functions that it must refuse or accept
+
+fn only(text: &str) -> Function {
+    let mut all = functions(text);
+    assert_eq!(all.len(), 1);
+    all.remove(0)
+}
+
+fn says_answer(text: &str) -> bool {
+    only(text).says_answer(&structs("pub struct Pair { pub a: u64, pub b: Count, }\npub struct Count { pub number: u8, pub made: u64 }"))
+}
+
+/// A function that returns this type, with this clause.
+fn answering(kind: &str, clause: &str) -> bool {
+    says_answer(&format!(
+        "pub fn f(x: u64, y: Record) -> {kind}\n    {clause}\n{{\n    0\n}}\n"
+    ))
+}
+
+#[test]
+fn an_answer_is_set_equal_to_something() {
+    for (kind, clause) in [
+        ("u64", "ensures { λ r. ⌜ r ≡ x + 1 ⌝ }"),
+        ("u64", "ensures { λ r. ⌜ x + 1 ≡ r ⌝ }"),
+        ("u64", "ensures answer { λ r. ⌜ (r ≤ 3) × (r ≡ f x) ⌝ }"),
+        ("u64", "ensures answer { λ k. ⌜ ((r : Record) → k ≡ f r) ⌝ }"),
+        ("u64", "ensures answer { λ r. ⌜ r\n        ≡ f x\n            (g x) ⌝ }"),
+        ("u64", "requires { ⌜ x ≡ 1 ⌝ }\n    ensures { λ r. ⌜ r ≡ x ⌝ }"),
+        ("u64", "ensures { λ r. ⌜ r ≡ f (record { a = 1; b = x }) ⌝ }"),
+        ("usize", "ensures { λ r. ⌜ Stored (now (out .entry)) at (g x) (now (out .exit)) r ⌝ }"),
+        ("&'a [u8]", "ensures view { λ v. ⌜ now v ≡ f x ⌝ }"),
+        ("Count", "ensures { λ c. ⌜ (c .number ≡ 0) × (c .made ≡ x) ⌝ }"),
+        ("Count", "ensures { λ c. ⌜ c ≡ f x ⌝ }"),
+        ("Pair", "ensures { λ p. ⌜ p .a ≡ x ⌝ }\n    ensures { λ p. ⌜ (p .b .number ≡ 0) × (p .b .made ≡ 1) ⌝ }"),
+        ("Report", "ensures { λ x. ⌜ reportAnswer x ≡ called (on status [] []) y .answer ⌝ }"),
+        ("Changed", "ensures { λ x. ⌜ changedAnswer x ≡ a ⌝ }\n    ensures { λ x. ⌜ changedRecord y x ≡ b ⌝ }"),
+    ] {
+        assert!(answering(kind, clause), "{clause}");
+    }
+    assert!(says_answer("pub fn f(x: u64) {\n}\n"), "it answers nothing");
+}
+
+#[test]
+fn less_is_no_answer() {
+    for (kind, clause) in [
+        ("u64", ""),
+        ("u64", "ensures { λ r. ⌜ r ≤ 3 ⌝ }"),
+        ("u64", "ensures { λ x. ⌜ x .len ≤ 3 ⌝ }"),
+        ("u64", "ensures { λ _. ⌜ 1 ≡ 1 ⌝ }"),
+        ("u64", "ensures { λ r. ⌜ 1 ≡ 1 ⌝ }"),
+        ("u64", "ensures { λ r. ⌜ r ≡ r ⌝ }"),
+        ("u64", "ensures { λ r. ⌜ r ≡ r + 0 ⌝ }"),
+        ("u64", "ensures { λ r. ⌜ r + 0 ≡ 3 ⌝ }"),
+        ("u64", "ensures { λ r. ⌜ now (images .exit) ≡ r ⌝ }"),
+        ("u64", "ensures { λ r. ⌜ x ≡ 1 → r ≡ 2 ⌝ }"),
+        ("u64", "ensures { λ r. ⌜ ((e : Empty) → r ≡ 2) ⌝ }"),
+        ("u64", "ensures { λ r. ⌜ ((r : Record) → r ≡ y) ⌝ }"),
+        ("u64", "ensures { λ k. ⌜ r ≡ y ⌝ }"),
+        ("u64", "ensures { λ r. ⌜ Listed r (r ≡ x) ⌝ }"),
+        ("u64", "requires { ⌜ r ≡ 1 ⌝ }"),
+        (
+            "u64",
+            "requires { ⌜ r ≡ 1 ⌝ }\n    ensures { λ r. ⌜ r < 2 ⌝ }",
+        ),
+        ("[u8; 9]", "ensures { λ r. ⌜ 9 ≡ length r ⌝ }"),
+        ("&'a [u8]", "ensures place { λ v. ⌜ v .ptr ≡ f x ⌝ }"),
+        ("Count", "ensures { λ c. ⌜ c .number ≡ 0 ⌝ }"),
+        ("Pair", "ensures { λ p. ⌜ (p .a ≡ 0) × (p .b .made ≡ 1) ⌝ }"),
+        ("Changed", "ensures { λ x. ⌜ changedAnswer x ≡ a ⌝ }"),
+        ("Changed", "ensures { λ x. ⌜ changedRecord y x ≡ b ⌝ }"),
+        ("Report", "ensures { λ x. ⌜ changedAnswer x ≡ a ⌝ }"),
+        ("u64", "// ensures { λ r. ⌜ r ≡ 2 ⌝ }"),
+    ] {
+        assert!(!answering(kind, clause), "{clause}");
+    }
+}
+
+/// What a function leaves open that is lent these, with this clause.
+fn open(parameters: &str, clause: &str) -> Vec<String> {
+    let f = only(&format!(
+        "pub(crate) fn f<'a>(\n    {parameters},\n) -> &'a [u8]\n    {clause}\n{{\n}}\n"
+    ));
+    f.leaves_open().into_iter().map(str::to_string).collect()
+}
+
+#[test]
+fn what_is_lent_to_write_is_named_at_exit() {
+    let two = "a: &mut [u8], b: &mut u64, c: &[u8], d: u8";
+    let none: [&str; 0] = [];
+    for clause in [
+        "ensures { λ _. ⌜ (now (a .exit) ≡ f c) × (3 ≡ now (b .exit)) ⌝ }",
+        "ensures { λ _. ⌜ now (a .exit) ≡ f c ⌝ }\n    ensures x { λ _. ⌜ now (b .exit) ≡ 3 ⌝ }",
+        "ensures { λ _. ⌜ ((r : Record) → now (a .exit) ≡ f r) × (now (b .exit) ≡ 3) ⌝ }",
+        "ensures { λ _. ⌜\n        (now (a .exit)\n            ≡ f c)\n        × (now (b .exit) ≡ 3) ⌝ }",
+        "ensures { λ r. ⌜ Stored (now (a .entry)) 0 c (now (a .exit)) r × ((now (b .exit) ∷ []) ≡ f c) ⌝ }",
+    ] {
+        assert_eq!(open(two, clause), none, "{clause}");
+    }
+    for (clause, left) in [
+        ("ensures { λ _. ⌜ now (b .exit) ≡ 3 ⌝ }", vec!["a"]),
+        ("ensures { λ _. ⌜ now (a .exit) ≡ f c ⌝ }", vec!["b"]),
+        (
+            "ensures { λ _. ⌜ length (now (a .exit)) ≡ now (b .exit) ⌝ }",
+            vec!["a", "b"],
+        ),
+        (
+            "ensures { λ _. ⌜ now (a .exit) ≡ now (a .exit) ⌝ }",
+            vec!["a", "b"],
+        ),
+        (
+            "ensures { λ _. ⌜ (length (now (a .exit)) ≡ 3) × (now (b .exit) ≤ 3) ⌝ }",
+            vec!["a", "b"],
+        ),
+        (
+            "ensures { λ _. ⌜ d ≡ 1 → (now (a .exit) ≡ f c) × (now (b .exit) ≡ 3) ⌝ }",
+            vec!["a", "b"],
+        ),
+        (
+            "ensures { λ _. ⌜ (now (a .entry) ≡ f c) × (now (b .entry) ≡ 3) ⌝ }",
+            vec!["a", "b"],
+        ),
+        (
+            "requires { ⌜ (now (a .exit) ≡ f c) × (now (b .exit) ≡ 3) ⌝ }",
+            vec!["a", "b"],
+        ),
+    ] {
+        assert_eq!(open(two, clause), left, "{clause}");
+    }
+}
+
+#[test]
+fn what_is_returned_is_handed_back() {
+    let lent = "scratch: &'a mut [u8], left: &mut &'a [u8]";
+    let bytes = "ensures scratch { λ _. ⌜ now (now (left .exit)) ≡ called (f x) r .room ⌝ }";
+    let start = "ensures whole { λ _. ⌜ now (left .exit) .ptr ≡ scratch .entry .ptr ⌝ }";
+    let elsewhere = "ensures whole { λ _. ⌜ now (left .exit) .ptr ≡ images .entry .ptr ⌝ }";
+    let none: [&str; 0] = [];
+    assert_eq!(open(lent, &format!("{bytes}\n    {start}")), none);
+    assert_eq!(open(lent, bytes), ["scratch", "left"]);
+    assert_eq!(open(lent, start), ["scratch", "left"]);
+    assert_eq!(
+        open(lent, &format!("{bytes}\n    {elsewhere}")),
+        ["scratch"]
+    );
+    let none_back = "scratch: &'a mut [u8]";
+    assert_eq!(
+        open(none_back, &format!("{bytes}\n    {start}")),
+        ["scratch"]
+    );
+}
+
+#[test]
+fn clauses_are_read_over_lines() {
+    let f = only(
+        "#[no_mangle]
+pub extern \"C\" fn pbm_f(
+    rec: &mut [u8], // the record
+    k: u64,
+) -> u8
+    requires { ⌜ k < 3 ⌝ }
+    ensures answer { λ r. ⌜ r ≡ number
+            (called (on (f k)) .answer) ⌝ }
+    ensures { λ _. ⌜ now (rec .exit)
+            ≡ g (record { a = k }) ⌝ }
+{
+    if k == 0 { return 1; }
+    0
+}
+",
+    );
+    assert_eq!(
+        (f.name.as_str(), f.visibility),
+        ("pbm_f", Visibility::Public)
+    );
+    assert_eq!(f.returns.as_deref(), Some("u8"));
+    assert_eq!(f.requires.len(), 1);
+    let names: Vec<_> = f.ensures.iter().map(|c| c.name.as_deref()).collect();
+    assert_eq!(names, [Some("answer"), None]);
+    assert!(!f.names_all());
+    let sides = |at: usize| equations(&f.ensures[at]);
+    assert_eq!(
+        sides(0),
+        [["@", "number ( called ( on ( f k ) ) .answer )"]]
+    );
+    assert_eq!(sides(1), [["now ( rec .exit )", "g ( record { a = k } )"]]);
+    assert_eq!(f.leaves_open(), [""; 0]);
+    assert!(f.says_answer(&Structs::new()));
 }
