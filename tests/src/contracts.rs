@@ -147,6 +147,21 @@ pub fn structs(source: &str) -> Structs {
         .collect()
 }
 
+/// The enums of a source file, with the names of their variants.
+pub fn enums(source: &str) -> BTreeMap<String, Vec<String>> {
+    let text = without_comments(source);
+    text.match_indices("enum ")
+        .map(|(at, word)| {
+            let (name, rest) = text[at + word.len()..].split_once('{').expect("variants");
+            let (variants, _) = bracketed(rest, '{', '}');
+            let variants = split(variants, ',')
+                .map(|v| v.split(['(', '{']).next().unwrap().trim().to_string())
+                .filter(|v| !v.is_empty());
+            (name.trim().to_string(), variants.collect())
+        })
+        .collect()
+}
+
 /// What a crate's lib.rt hands on from its modules: `pub use module::name;`.
 pub fn handed_on(lib: &str) -> Vec<String> {
     lib.lines()
@@ -178,7 +193,7 @@ fn bracketed(text: &str, open: char, close: char) -> (&str, &str) {
 fn split(text: &str, at: char) -> impl Iterator<Item = &str> {
     let mut depth = 0;
     text.split(move |c: char| {
-        depth += i32::from("([<".contains(c)) - i32::from(")]>".contains(c));
+        depth += i32::from("([<{".contains(c)) - i32::from(")]>}".contains(c));
         c == at && depth == 0
     })
 }

@@ -1,73 +1,508 @@
-//! docs/READING.md and docs/TRUST.md name only what is there: every path, crate and must-fail edit, and every definition, theorem,
-//! field and function that they set in backquotes.
+//! docs/READING.md, docs/TRUST.md and docs/DECISIONS.md name only what is there, and where it is; and what READING.md says is proved
+//! is a closed statement with a term.
 
-use std::collections::HashSet;
+use std::collections::BTreeSet;
 use std::fs;
-use std::path::{Path, PathBuf};
+use std::path::PathBuf;
+use yuzkamide_tests::definitions::{
+    definitions, of_header, of_proof_language, of_rattle, Definition, Found, Kind,
+};
+use yuzkamide_tests::mentions::{blocks, faults, Sources};
 use yuzkamide_tests::program::target;
+use yuzkamide_tests::statements::{closed, fault, rows, Row};
 
 fn root() -> PathBuf {
     target().join("..")
 }
 
-/// Every word of the sources below a folder: what stands between blanks, brackets, commas, semicolons, colons, dots and stars.
-fn words(folder: &Path, found: &mut HashSet<String>) {
-    for entry in fs::read_dir(folder).unwrap() {
-        let path = entry.unwrap().path();
-        if path.is_dir() {
-            words(&path, found);
-        } else if path
-            .extension()
-            .is_some_and(|e| e == "rt" || e == "antt" || e == "h")
-        {
-            let text = fs::read_to_string(&path).unwrap();
-            let breaks = |c: char| c.is_whitespace() || "(){}[];,.:*⌜⌝".contains(c);
-            found.extend(text.split(breaks).map(str::to_string));
-        }
-    }
+fn document(name: &str) -> String {
+    fs::read_to_string(root().join("docs").join(name)).unwrap()
 }
 
-/// What the text sets in backquotes, outside of quotations of other documents.
-fn quoted(text: &str) -> Vec<String> {
-    text.lines()
-        .filter(|line| !line.starts_with('>'))
-        .flat_map(|line| line.split('`').skip(1).step_by(2).map(str::to_string))
-        .collect()
-}
-
-fn exists(name: &str, words: &HashSet<String>) -> bool {
-    if name.contains('/') {
-        let (folder, edit) = name.rsplit_once('/').unwrap();
-        return root().join(name).exists()
-            || root().join("crates").join(name).exists()
-            || root()
-                .join("crates")
-                .join(folder)
-                .join("must-fail")
-                .join(format!("{edit}.edit"))
-                .exists();
-    }
-    if root().join("crates").join(name).is_dir() {
-        return true;
-    }
-    name.split(|c: char| c.is_whitespace() || "(),.".contains(c))
-        .filter(|part| !part.is_empty())
-        .all(|part| words.contains(part))
+/// A file of a crate.
+fn source(path: &str) -> String {
+    fs::read_to_string(root().join("crates").join(path)).unwrap_or_default()
 }
 
 #[test]
 fn names_only_what_is_there() {
-    let mut sources = HashSet::new();
-    words(&root().join("crates"), &mut sources);
-    words(&root().join("include"), &mut sources);
-    assert!(!exists("noSuchDefinition", &sources));
-    for (document, least) in [("docs/READING.md", 200), ("docs/TRUST.md", 30)] {
-        let names = quoted(&fs::read_to_string(root().join(document)).unwrap());
-        assert!(names.len() > least, "the search finds the names");
-        let missing: Vec<_> = names.iter().filter(|n| !exists(n, &sources)).collect();
-        assert!(
-            missing.is_empty(),
-            "{document}: not in the sources: {missing:?}"
+    let root = root();
+    let definitions = definitions(&root);
+    let sources = Sources {
+        root: &root,
+        definitions: &definitions,
+    };
+    for (name, least) in [("READING.md", 400), ("TRUST.md", 30), ("DECISIONS.md", 100)] {
+        let (seen, faults) = faults(&document(name), &sources);
+        println!("{name}: {seen} things in backquotes");
+        assert!(seen > least, "the search finds the names: {seen}");
+        assert!(faults.is_empty(), "{name}: not in the sources: {faults:#?}");
+    }
+}
+
+// ---- what is proved
+
+/// What must be in the table, whatever else is.
+const STATEMENTS: &[&str] = &[
+    "Demand1",
+    "InOrder",
+    "OnBytes",
+    "Alone",
+    "OneMove",
+    "Demand2",
+    "RoundTrip",
+    "GoodIs",
+    "Demand3",
+    "MayBeLent",
+    "FlatList",
+    "LastGiven",
+    "ZeroAtFirst",
+    "SecondOut",
+    "Exact",
+    "Paper",
+    "Bench",
+    "Unmarked",
+    "Values",
+    "Rowwise",
+    "Refusals",
+    "Drawers",
+    "Sample",
+];
+
+/// Closed types of the same files that state nothing.
+const DATA: &[(&str, &str)] = &[
+    ("history/specs/Sample.antt", "Step"), // a call of the sample's script, with what it is lent
+];
+
+/// Why a table is not what is proved: rows that do not hold, and statements without a row.
+fn table_faults(table: &[Row], source: impl Fn(&str) -> String) -> Vec<String> {
+    let has = |name: &str, file: &str| table.iter().any(|r| r.statement == name && r.specs == file);
+    let mut all: Vec<String> = table
+        .iter()
+        .filter_map(|row| fault(row, &source(&row.specs), &source(&row.proofs)))
+        .collect();
+    let files: BTreeSet<&str> = table.iter().map(|row| row.specs.as_str()).collect();
+    for file in files {
+        for name in closed(&source(file)) {
+            if !has(&name, file) && !DATA.contains(&(file, name.as_str())) {
+                all.push(format!("{name} of {file} is not in the table"));
+            }
+        }
+    }
+    all
+}
+
+#[test]
+fn what_is_proved() {
+    let table = rows(&document("READING.md"));
+    let mut faults = table_faults(&table, source);
+    for name in STATEMENTS {
+        if !table.iter().any(|row| row.statement == *name) {
+            faults.push(format!("{name} has no row"));
+        }
+    }
+    // and the files belong to their crates
+    for file in table.iter().flat_map(|row| [&row.specs, &row.proofs]) {
+        let (folder, name) = file.rsplit_once('/').unwrap();
+        let declaration = format!("pub mod {}\n", name.trim_end_matches(".antt"));
+        if !source(&format!("{folder}/Lib.antt")).contains(&declaration) {
+            faults.push(format!("{folder}/Lib.antt does not have {name}"));
+        }
+    }
+    assert!(faults.is_empty(), "{faults:#?}");
+}
+
+/// "proved by `x`": a term of the table.
+#[test]
+fn proved_by_a_term_of_the_table() {
+    let table = rows(&document("READING.md"));
+    let mut seen = 0;
+    for name in ["READING.md", "TRUST.md"] {
+        for block in blocks(&document(name)) {
+            for said in block.split("proved by `").skip(1) {
+                let term = said.split('`').next().unwrap();
+                seen += 1;
+                assert!(
+                    table.iter().any(|row| row.term == term),
+                    "{name}: proved by {term}"
+                );
+            }
+        }
+    }
+    assert!(seen > 3, "the search finds them: {seen}");
+}
+
+// ---- the rules themselves: what they refuse
+
+const SPECS: &str = "-- what is proved: `Old`
+use Prim.Native.Nat.{ℕ}
+
+unfoldable pub Part : ℕ → Type 0
+Part k = k ≡ k
+
+abbrev pub Demand1 : Type 0
+Demand1 = (k : ℕ) → Part k
+
+pub record Table : Type 0 where
+  pub first : Part 1
+";
+
+const PROOFS: &str = "-- Assumes nothing.
+use mathlib.Core.Path.{_≡_, refl}
+use Rattle.array.specs.Theorem.{Part,
+    Demand1, Table}
+
+module _ (k : ℕ) where
+  part : Part k
+  part = refl
+
+pub demand1 : Demand1
+unfolding Part
+demand1 k = part k
+
+pub table : Table
+table = record { first = part 1 }
+";
+
+fn sample_rows() -> Vec<Row> {
+    rows("# A document\n\n## What is proved\n\n| Statement | File | Term | File | |\n|---|---|---|---|---|
+| `Demand1` | `array/specs/Theorem.antt` | `demand1` | `array/proofs/Theorem.antt` | what it says |
+| `Table` | `array/specs/Theorem.antt` | `table` | `array/proofs/Theorem.antt` | a table |
+
+## Another section
+
+| `Other` | `array/specs/Theorem.antt` | `other` | `array/proofs/Theorem.antt` | not of the table |
+")
+}
+
+/// The faults of the sample table with these texts.
+fn sample_faults(specs: &str, proofs: &str) -> Vec<String> {
+    table_faults(&sample_rows(), |path| match path {
+        "array/specs/Theorem.antt" => specs.to_string(),
+        "array/proofs/Theorem.antt" => proofs.to_string(),
+        _ => panic!("no file {path}"),
+    })
+}
+
+/// The text with one piece of it replaced.
+fn edited(text: &str, from: &str, to: &str) -> String {
+    assert_eq!(text.matches(from).count(), 1, "{from}");
+    text.replace(from, to)
+}
+
+#[test]
+fn a_table_that_holds() {
+    assert_eq!(sample_rows().len(), 2);
+    assert_eq!(sample_rows()[0].term, "demand1");
+    assert_eq!(sample_faults(SPECS, PROOFS), [""; 0]);
+    assert_eq!(closed(SPECS), ["Demand1", "Table"]);
+}
+
+/// Each of these proofs must be refused with one fault, which says this.
+#[test]
+fn a_term_of_another_type_proves_nothing() {
+    let declared = "pub demand1 : Demand1\n";
+    for (to, says) in [
+        // a weakened type
+        ("pub demand1 : (k : ℕ) → k < 1 → Part k\n", "no term"),
+        ("pub demand1 : (e : Event) (b : List ℕ) → accepted (calledBytes e b .answer) ≡ true → Answered e b\n", "no term"),
+        ("pub demand1 : 1 ≡ 0 → Demand1\n", "no term"),
+        ("pub demand1 : Demand1 → Demand1\n", "no term"),
+        ("pub demand1 :\n    1 ≡ 0 → Demand1\n", "no term"),
+        ("pub demand1 : Demand1\n    → Demand1\n", "no term"),
+        ("pub demand1 : Demand1′\n", "no term"),
+        // no such term, or one that others cannot see
+        ("", "no term"),
+        ("-- pub demand1 : Demand1\n", "no term"),
+        ("demand1 : Demand1\n", "no term"),
+        // inside a module
+        ("module _ (false : 1 ≡ 0) where\n  pub demand1 : Demand1\n", "no term"),
+    ] {
+        let faults = sample_faults(SPECS, &edited(PROOFS, declared, to));
+        assert_eq!(faults.len(), 1, "{to}: {faults:?}");
+        assert!(faults[0].contains(says), "{to}: {faults:?}");
+    }
+    let indented = edited(
+        PROOFS,
+        "pub demand1 : Demand1\nunfolding Part\ndemand1 k = part k\n",
+        "module _ (k : ℕ) where\n  pub demand1 : Demand1\n  demand1 k = part k\n",
+    );
+    assert_eq!(sample_faults(SPECS, &indented).len(), 1);
+    let undefined = edited(PROOFS, "demand1 k = part k\n", "");
+    assert_eq!(
+        sample_faults(SPECS, &undefined),
+        ["demand1 is not defined in array/proofs/Theorem.antt"]
+    );
+}
+
+#[test]
+fn a_statement_with_premises_is_not_closed() {
+    for to in [
+        "abbrev pub Demand1 : ℕ → Type 0\n",
+        "abbrev pub Demand1 (k : ℕ) : Type 0\n",
+        "pub record Demand1 (k : ℕ) : Type 0 where\n",
+        "module _ (k : ℕ) where\n  abbrev pub Demand1 : Type 0\n",
+        "abbrev pub Demand1 : Type 0\n    → Type 0\n",
+        "abbrev Demand1 : Type 0\n",
+        "-- abbrev pub Demand1 : Type 0\n",
+    ] {
+        let faults = sample_faults(&edited(SPECS, "abbrev pub Demand1 : Type 0\n", to), PROOFS);
+        assert_eq!(
+            faults,
+            ["Demand1 is no closed type of array/specs/Theorem.antt"],
+            "{to}"
         );
+    }
+    let record = edited(
+        SPECS,
+        "pub record Table : Type 0 where",
+        "pub record Table (k : ℕ) : Type 0 where",
+    );
+    assert_eq!(
+        sample_faults(&record, PROOFS),
+        ["Table is no closed type of array/specs/Theorem.antt"]
+    );
+}
+
+#[test]
+fn a_statement_without_a_row() {
+    for statement in [
+        "abbrev pub More : Type 0\nMore = Part 2\n",
+        "unfoldable pub More : Type 0\n",
+        "pub record More : Type 0 where\n",
+    ] {
+        let faults = sample_faults(&format!("{SPECS}\n{statement}"), PROOFS);
+        assert_eq!(
+            faults,
+            ["More of array/specs/Theorem.antt is not in the table"]
+        );
+    }
+    let open = format!("{SPECS}\npub record More (k : ℕ) : Type 0 where\n");
+    assert_eq!(
+        sample_faults(&open, PROOFS),
+        [""; 0],
+        "a part of a statement"
+    );
+}
+
+#[test]
+fn a_statement_of_the_same_name() {
+    let again = |text: &str| {
+        edited(
+            PROOFS,
+            "pub demand1 : Demand1\n",
+            &format!("{text}pub demand1 : Demand1\n"),
+        )
+    };
+    for text in [
+        "abbrev Demand1 : Type 0\nDemand1 = Unit\n\n",
+        "record Demand1 : Type 0 where\n\n",
+        "module _ where\n  abbrev pub Demand1 : Type 0\n  Demand1 = Unit\n\n",
+    ] {
+        let faults = sample_faults(SPECS, &again(text));
+        assert_eq!(
+            faults,
+            ["Demand1 is defined again in array/proofs/Theorem.antt"],
+            "{text}"
+        );
+    }
+    let used = "use Rattle.array.specs.Theorem.{Part,\n    Demand1, Table}\n";
+    for to in [
+        "use Rattle.array.specs.Other.{Demand1}\nuse Rattle.array.specs.Theorem.{Part, Table}\n",
+        "use Rattle.state.specs.Theorem.{Demand1}\nuse Rattle.array.specs.Theorem.{Part, Table}\n",
+        "use Rattle.array.specs.Theorem.{Part, Part as Demand1, Table}\n",
+        "use Rattle.array.specs.Theorem.{Part, Table}\n-- Demand1\n",
+    ] {
+        let faults = sample_faults(SPECS, &edited(PROOFS, used, to));
+        assert_eq!(faults.len(), 1, "{to}");
+        assert!(faults[0].contains("does not have Demand1 from"), "{faults:?}");
+    }
+}
+
+// ---- definitions and mentions
+
+fn names(found: Vec<Found>) -> Vec<(String, Kind, String)> {
+    let whole = |of: Option<String>| of.unwrap_or_default();
+    found
+        .into_iter()
+        .map(|(name, kind, of)| (name, kind, whole(of)))
+        .collect()
+}
+
+fn is(name: &str, kind: Kind, of: &str) -> (String, Kind, String) {
+    (name.to_string(), kind, of.to_string())
+}
+
+#[test]
+fn a_comment_defines_nothing() {
+    let text = "-- `renamed` says so
+use lib.ListN.{length, taken}
+
+pub data Call : Type 0 where
+  read : (b : ℕ) → Call
+  status : Call  -- pub commented : ℕ
+
+pub record Claim (e : Event) : Type 0 where
+  -- pub commented : ℕ
+  pub answer : (b : ℕ) →
+      bound : b
+
+unfoldable pub length-of : ℕ → ℕ
+length-of k = local : k
+  where
+    local : ℕ
+
+module _ (parameter : ℕ) where
+  law : parameter ≡ 1
+  law = go
+    where
+      go : 1 ≡ 1
+
+  module _ (other : ℕ) where
+    pub inner : ℕ
+";
+    assert_eq!(
+        names(of_proof_language(text)),
+        [
+            is("Call", Kind::Type, ""),
+            is("read", Kind::Constructor, "Call"),
+            is("status", Kind::Constructor, "Call"),
+            is("Claim", Kind::Type, ""),
+            is("answer", Kind::Field, "Claim"),
+            is("length-of", Kind::Term, ""),
+            is("law", Kind::Term, ""),
+            is("inner", Kind::Term, ""),
+        ]
+    );
+    let rattle = "// fn commented()
+pub enum Health {
+    Whole,
+    Out(u8),
+    Made { count: u64 },
+}
+pub struct Count { pub made: u64 }
+pub fn write(x: u64) -> u8
+    ensures answer { λ r. ⌜ r ≡ x ⌝ }
+{
+    let bound = x;
+    bound
+}
+";
+    assert_eq!(
+        names(of_rattle(rattle)),
+        [
+            is("answer", Kind::Clause, "write"),
+            is("write", Kind::Function, ""),
+            is("made", Kind::Field, "Count"),
+            is("Count", Kind::Type, ""),
+            is("Whole", Kind::Constructor, "Health"),
+            is("Out", Kind::Constructor, "Health"),
+            is("Made", Kind::Constructor, "Health"),
+            is("Health", Kind::Type, ""),
+        ]
+    );
+    let header = "/* pbm_commented */\nuint8_t pbm_read(void); // pbm_behind\n";
+    assert_eq!(names(of_header(header)), [is("pbm_read", Kind::Header, "")]);
+}
+
+/// What is wrong with a text about these definitions: `Call` with `read` and `status`, `effect` and the record `Claim` in one file,
+/// `stands` in another, and a function `write`.
+fn said(text: &str) -> Vec<String> {
+    let define = |name: &str, kind, of: Option<&str>, file: &str| Definition {
+        name: name.to_string(),
+        kind,
+        of: of.map(str::to_string),
+        file: format!("crates/{file}"),
+    };
+    let (effect, moves, writing) = (
+        "array/specs/Effect.antt",
+        "layout/specs/Moves.antt",
+        "array/src/writing.rt",
+    );
+    let definitions = [
+        define("Call", Kind::Type, None, effect),
+        define("read", Kind::Constructor, Some("Call"), effect),
+        define("status", Kind::Constructor, Some("Call"), effect),
+        define("effect", Kind::Term, None, effect),
+        define("Claim", Kind::Type, None, effect),
+        define("answer", Kind::Field, Some("Claim"), effect),
+        define("good-left", Kind::Field, Some("Claim"), effect),
+        define("stands", Kind::Term, None, moves),
+        define("place", Kind::Field, Some("Layout"), moves),
+        define("write", Kind::Function, None, writing),
+        define("images", Kind::Clause, Some("write"), writing),
+    ];
+    let root = root();
+    let sources = Sources {
+        root: &root,
+        definitions: &definitions,
+    };
+    faults(text, &sources).1
+}
+
+#[test]
+fn what_is_said_rightly() {
+    for text in [
+        "`effect` (`array/specs/Effect.antt`), `stands`",
+        "| `effect`, `Call` (`array/specs/Effect.antt`) | `stands` of `layout/specs/Moves.antt` |",
+        "`effect` and\n`Call` (`array/specs`), `stands` of `layout`",
+        "`effect (read b)`, `(read b)` and `effect status`",
+        "`Claim.answer`, `good-left`; `stands`",
+        "`Claim.answer` (`array/specs/Effect.antt`)",
+        "clause `images` of `write`, `read` of `Call`",
+        "`effect g .place`, `List Call`, `length (f .place)`",
+        "`layout/zone_at_once`, `docs/READING.md`, `array`",
+        "> `no-such-name`",
+    ] {
+        assert_eq!(said(text), [""; 0], "{text}");
+    }
+}
+
+#[test]
+fn what_is_said_wrongly() {
+    for (text, fault) in [
+        ("`efect`", "efect"),
+        ("a\n| b | `efect` |", "efect"),
+        (
+            "`effect` (`layout/specs/Moves.antt`)",
+            "effect of layout/specs/Moves.antt",
+        ),
+        (
+            "`effect` of `layout/specs/Moves.antt`",
+            "effect of layout/specs/Moves.antt",
+        ),
+        (
+            "`stands`, `effect` (`array/specs/Effect.antt`)",
+            "stands of array/specs/Effect.antt",
+        ),
+        (
+            "`effect` and\n`stands` (`layout/specs`)",
+            "effect of layout/specs",
+        ),
+        ("`effect` of `layout`", "effect of layout"),
+        (
+            "`effect (read b)` (`layout/specs/Moves.antt`)",
+            "effect (read b) of layout/specs/Moves.antt",
+        ),
+        ("`effect (reed b)`", "effect (reed b)"),
+        ("`efect (read b)`", "efect (read b)"),
+        ("`effect (answer b)`", "effect (answer b)"),
+        ("`effect missing`", "effect missing"),
+        ("`effect g .plaze`", "effect g .plaze"),
+        ("`(b)`", "(b)"),
+        ("`Claim.images`", "Claim.images"),
+        ("`Call.read`", "Call.read"),
+        (
+            "`Claim.answer` (`layout/specs/Moves.antt`)",
+            "Claim.answer of layout/specs/Moves.antt",
+        ),
+        ("`Claim.answer`, `stands`", "stands"),
+        ("clause `answer` of `write`", "answer of write"),
+        ("`write` of `Call`", "write of Call"),
+        ("`layout/no_such_edit`", "layout/no_such_edit"),
+        ("`layout/specs/Nothing.antt`", "layout/specs/Nothing.antt"),
+        ("`specs/Theorem.antt`", "specs/Theorem.antt"),
+    ] {
+        assert_eq!(said(text), [fault], "{text}");
     }
 }

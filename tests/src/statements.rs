@@ -1,0 +1,142 @@
+//! The table "What is proved" of docs/READING.md: each row names a statement, a closed type of a file of specs/, and the term that
+//! proves it, at the top level of a file of proofs/. A term of a closed type has no premise left to hide one in.
+
+use crate::definitions::{lines, of_proof_language, Kind};
+
+/// | `Demand1` | `array/specs/Theorem.antt` | `demand1` | `array/proofs/Theorem.antt` | what it says |
+#[derive(Clone, Debug, PartialEq, Eq)]
+pub struct Row {
+    pub statement: String,
+    /// The file that defines it, below crates/.
+    pub specs: String,
+    pub term: String,
+    /// The file that has the term, below crates/.
+    pub proofs: String,
+}
+
+/// The rows of the table.
+pub fn rows(document: &str) -> Vec<Row> {
+    let section = document
+        .split("\n## ")
+        .find(|section| section.starts_with("What is proved\n"))
+        .unwrap_or("");
+    section.lines().filter_map(row).collect()
+}
+
+fn row(line: &str) -> Option<Row> {
+    let cells: Vec<&str> = line.strip_prefix('|')?.split('|').map(str::trim).collect();
+    let name = |at: usize| cells.get(at)?.strip_prefix('`')?.strip_suffix('`');
+    Some(Row {
+        statement: name(0)?.to_string(),
+        specs: name(1)?.to_string(),
+        term: name(2)?.to_string(),
+        proofs: name(3)?.to_string(),
+    })
+}
+
+/// The lines that begin something at the top level, each with whether more of it stands indented behind.
+fn beginnings(text: &str) -> Vec<(&str, bool)> {
+    let all: Vec<&str> = lines(text).collect();
+    let goes_on = |at: usize| all.get(at + 1).is_some_and(|next| next.starts_with(' '));
+    (0..all.len())
+        .map(|at| (all[at], goes_on(at)))
+        .filter(|(line, _)| !line.starts_with(' '))
+        .collect()
+}
+
+/// The closed statements of a file of specs/: what its top level says is a type, of nothing.
+pub fn closed(specs: &str) -> Vec<String> {
+    let words = |line| str::split_whitespace(line).collect::<Vec<&str>>();
+    beginnings(specs)
+        .into_iter()
+        .filter_map(|(line, goes_on)| match (&words(line)[..], goes_on) {
+            (["abbrev" | "unfoldable", "pub", name, ":", "Type", "0"], false) => Some(*name),
+            (["pub", name, ":", "Type", "0"], false) => Some(*name),
+            (["pub", "record", name, ":", "Type", "0", "where"], _) => Some(*name),
+            _ => None,
+        })
+        .map(str::to_string)
+        .collect()
+}
+
+/// Why the texts do not bear a row out, if they do not.
+pub fn fault(row: &Row, specs: &str, proofs: &str) -> Option<String> {
+    let Row {
+        statement, term, ..
+    } = row;
+    if !closed(specs).contains(statement) {
+        return Some(format!("{statement} is no closed type of {}", row.specs));
+    }
+    let typed = format!("pub {term} : {statement}");
+    let is_term = beginnings(proofs).contains(&(&typed, false));
+    let typings = lines(proofs).filter(|line| {
+        let line = line.trim_start().trim_start_matches("pub ");
+        line.starts_with(&format!("{term} :"))
+    });
+    if !is_term || typings.count() != 1 {
+        let what = format!("{term} of {} is no term of {statement}", row.proofs);
+        return Some(format!("{what} at the top level"));
+    }
+    let defines = |line: &str| line.starts_with(&format!("{term} ")) && line.contains('=');
+    if !lines(proofs).any(defines) {
+        return Some(format!("{term} is not defined in {}", row.proofs));
+    }
+    let again = |(name, kind, _): &(String, Kind, _)| name == statement && *kind != Kind::Field;
+    if of_proof_language(proofs).iter().any(again) {
+        return Some(format!("{statement} is defined again in {}", row.proofs));
+    }
+    let from: Vec<Use> = uses(proofs)
+        .into_iter()
+        .filter(|u| u.name == *statement)
+        .collect();
+    match &from[..] {
+        [one] if one.original == *statement && modules(&row.specs).contains(&one.module) => None,
+        _ => Some(format!(
+            "{} does not have {statement} from {}: {from:?}",
+            row.proofs, row.specs
+        )),
+    }
+}
+
+/// A name that a file takes from another one.
+#[derive(Debug)]
+struct Use {
+    module: String,
+    original: String,
+    /// What it is called here.
+    name: String,
+}
+
+/// `use Module.{a, b as c}`
+fn uses(text: &str) -> Vec<Use> {
+    let code: String = lines(text).map(|line| format!("{line}\n")).collect();
+    let mut all = Vec::new();
+    for (at, _) in code.match_indices("use ") {
+        let is_start = at == 0 || code[..at].ends_with('\n');
+        let Some((module, rest)) = code[at + 4..].split_once(".{").filter(|_| is_start) else {
+            continue;
+        };
+        let (names, _) = rest.split_once('}').expect("the end of the names");
+        for item in names.split(',') {
+            let words: Vec<&str> = item.split_whitespace().collect();
+            if let (Some(original), Some(name)) = (words.first(), words.last()) {
+                all.push(Use {
+                    module: module.to_string(),
+                    original: original.to_string(),
+                    name: name.to_string(),
+                });
+            }
+        }
+    }
+    all
+}
+
+/// What a file of specs/ is called as a module: in its own crate, and in others.
+fn modules(specs: &str) -> [String; 2] {
+    let (in_crate, path) = specs.split_once('/').expect("a file of a crate");
+    let path = path.trim_end_matches(".antt").replace('/', ".");
+    [
+        format!("Rattle.{in_crate}.specs.{path}"),
+        format!("Rattle.{in_crate}.{path}"),
+    ]
+}
