@@ -1,5 +1,5 @@
-//! The table "What is proved" of docs/READING.md: each row names a statement, a closed type of a file of specs/, and the term that
-//! proves it, at the top level of a file of proofs/. A term of a closed type has no premise left to hide one in.
+//! The table "What is proved" of docs/READING.md: each row names a statement, a closed type of a file of specs/, and the term
+//! that proves it, at the top level of a file of proofs/. So no premise can hide in the term's type.
 
 use crate::definitions::{lines, of_proof_language, Kind};
 
@@ -64,6 +64,12 @@ pub fn fault(row: &Row, specs: &str, proofs: &str) -> Option<String> {
     let Row {
         statement, term, ..
     } = row;
+    let in_crate = |path: &str, part: &str| path.split_once(part).map(|(name, _)| name.to_string());
+    let of = in_crate(&row.specs, "/specs/");
+    if of.is_none() || of != in_crate(&row.proofs, "/proofs/") {
+        let files = format!("{} and {}", row.specs, row.proofs);
+        return Some(format!("{files} are not specs and proofs of one crate"));
+    }
     if !closed(specs).contains(statement) {
         return Some(format!("{statement} is no closed type of {}", row.specs));
     }

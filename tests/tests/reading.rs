@@ -1,5 +1,5 @@
-//! docs/READING.md, docs/TRUST.md and docs/DECISIONS.md name only what is there, and where it is; and what READING.md says is proved
-//! is a closed statement with a term.
+//! docs/READING.md, docs/TRUST.md and docs/DECISIONS.md name only what is there, and where it is; and what READING.md says is
+//! proved is a closed statement with a term.
 
 use std::collections::BTreeSet;
 use std::fs;
@@ -104,8 +104,9 @@ fn what_is_proved() {
     // and the files belong to their crates
     for file in table.iter().flat_map(|row| [&row.specs, &row.proofs]) {
         let (folder, name) = file.rsplit_once('/').unwrap();
-        let declaration = format!("pub mod {}\n", name.trim_end_matches(".antt"));
-        if !source(&format!("{folder}/Lib.antt")).contains(&declaration) {
+        let declaration = format!("pub mod {}", name.trim_end_matches(".antt"));
+        let lib = source(&format!("{folder}/Lib.antt"));
+        if !lib.lines().any(|line| line == declaration) {
             faults.push(format!("{folder}/Lib.antt does not have {name}"));
         }
     }
@@ -265,6 +266,23 @@ fn a_statement_with_premises_is_not_closed() {
 }
 
 #[test]
+fn statement_and_term_are_of_one_crate() {
+    for (specs, proofs) in [
+        ("array/specs/Theorem.antt", "history/proofs/Theorem.antt"),
+        ("array/specs/Theorem.antt", "array/specs/Theorem.antt"),
+        ("array/proofs/Theorem.antt", "array/proofs/Theorem.antt"),
+    ] {
+        let row = Row {
+            specs: specs.to_string(),
+            proofs: proofs.to_string(),
+            ..sample_rows().remove(0)
+        };
+        let says = format!("{specs} and {proofs} are not specs and proofs of one crate");
+        assert_eq!(fault(&row, SPECS, PROOFS), Some(says));
+    }
+}
+
+#[test]
 fn a_statement_without_a_row() {
     for statement in [
         "abbrev pub More : Type 0\nMore = Part 2\n",
@@ -405,8 +423,8 @@ pub fn write(x: u64) -> u8
     assert_eq!(names(of_header(header)), [is("pbm_read", Kind::Header, "")]);
 }
 
-/// What is wrong with a text about these definitions: `Call` with `read` and `status`, `effect` and the record `Claim` in one file,
-/// `stands` in another, and a function `write`.
+/// What is wrong with a text about these definitions: `Call` with `read` and `status`, `effect` and the record `Claim` in one
+/// file, `stands` in another, and a function `write`.
 fn said(text: &str) -> Vec<String> {
     let define = |name: &str, kind, of: Option<&str>, file: &str| Definition {
         name: name.to_string(),
