@@ -28,11 +28,17 @@ pub struct Sources<'a> {
     pub definitions: &'a [Definition],
 }
 
-/// A piece of text in which a list of names may have one file: a cell of a table, an item, a paragraph.
+/// A piece of text in which a list of names may have one file: a cell of a table, an item, a paragraph. What is fenced is none.
 pub fn blocks(document: &str) -> Vec<String> {
     let mut all = vec![String::new()];
+    let mut is_fenced = false;
     for line in document.lines() {
-        if line.starts_with('>') {
+        if line.starts_with("```") {
+            is_fenced = !is_fenced;
+            all.push(String::new());
+        } else if is_fenced {
+            continue;
+        } else if line.starts_with('>') {
             all.push(String::new()); // the words of another document
         } else if line.starts_with('|') {
             all.extend(line.split('|').map(str::to_string));

@@ -59,6 +59,30 @@ pub fn closed(specs: &str) -> Vec<String> {
         .collect()
 }
 
+/// What a file of specs/ defines a name as, with single spaces: `Demand1 = ..`. A record has no such line.
+pub fn definition(specs: &str, name: &str) -> Option<String> {
+    let mut all = lines(specs).skip_while(|line| !line.starts_with(&format!("{name} =")));
+    let first = all.next()?;
+    let more = all.take_while(|line| line.starts_with(' '));
+    Some(single_spaced(
+        &[vec![first], more.collect()].concat().join(" "),
+    ))
+}
+
+/// The paragraphs that a document quotes from the specs, each with single spaces: those of its blocks fenced as `antt`.
+pub fn quoted(document: &str) -> Vec<String> {
+    let fenced = document.split("\n```antt\n").skip(1);
+    let blocks = fenced.map(|rest| rest.split("\n```").next().unwrap());
+    blocks
+        .flat_map(|block| block.split("\n\n"))
+        .map(single_spaced)
+        .collect()
+}
+
+fn single_spaced(text: &str) -> String {
+    text.split_whitespace().collect::<Vec<_>>().join(" ")
+}
+
 /// Why the texts do not bear a row out, if they do not.
 pub fn fault(row: &Row, specs: &str, proofs: &str) -> Option<String> {
     let Row {

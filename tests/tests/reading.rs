@@ -9,7 +9,7 @@ use yuzkamide_tests::definitions::{
 };
 use yuzkamide_tests::mentions::{blocks, faults, Sources};
 use yuzkamide_tests::program::target;
-use yuzkamide_tests::statements::{closed, fault, rows, Row};
+use yuzkamide_tests::statements::{closed, definition, fault, quoted, rows, Row};
 
 fn root() -> PathBuf {
     target().join("..")
@@ -111,6 +111,50 @@ fn what_is_proved() {
         }
     }
     assert!(faults.is_empty(), "{faults:#?}");
+}
+
+/// What the guide quotes is word for word a definition of the table's files, and it quotes every statement that is no record: so
+/// one that is weakened is weakened before the reader's eyes.
+#[test]
+fn statements_are_quoted() {
+    let document = document("READING.md");
+    let quoted = quoted(&document);
+    let table = rows(&document);
+    let mut seen = 0;
+    for row in &table {
+        if let Some(text) = definition(&source(&row.specs), &row.statement) {
+            assert!(quoted.contains(&text), "READING.md does not quote: {text}");
+            seen += 1;
+        }
+    }
+    assert!(seen > 10, "the search finds the statements: {seen}");
+    for text in quoted {
+        let name = text.split(' ').next().unwrap();
+        let is_there = |row: &Row| {
+            let head = text.split(" =").next().unwrap();
+            definition(&source(&row.specs), head).as_ref() == Some(&text)
+        };
+        assert!(table.iter().any(is_there), "{name} is not defined so");
+    }
+}
+
+#[test]
+fn a_weakened_statement_is_not_the_quoted_one() {
+    let document = "text\n\n```antt\nDemand1 = (k : ℕ) → Part k\n\nPart k =\n    k ≡ k\n```\n";
+    let quoted = quoted(document);
+    assert_eq!(quoted, ["Demand1 = (k : ℕ) → Part k", "Part k = k ≡ k"]);
+    assert_eq!(definition(SPECS, "Demand1").as_ref(), quoted.first());
+    assert_eq!(definition(SPECS, "Part k").as_ref(), quoted.last());
+    assert_eq!(definition(SPECS, "Table"), None);
+    let weakened = edited(
+        SPECS,
+        "= (k : ℕ) → Part k\n",
+        "= (k : ℕ)\n    → k < 1 → Part k\n",
+    );
+    assert_eq!(
+        definition(&weakened, "Demand1").unwrap(),
+        "Demand1 = (k : ℕ) → k < 1 → Part k"
+    );
 }
 
 /// "proved by `x`": a term of the table.
