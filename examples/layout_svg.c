@@ -1,39 +1,80 @@
 /*
  * layout_svg.c - draws, as SVG on standard output, what stands where after t moves of a growth from n to n + m disks.
  *
- *     layout_svg n m t [T] > picture.svg
+ *     layout_svg n m t [T [first [last]]] > picture.svg
  *
- * T is the number of stripes; without it the picture is of one group, n * (n + m) stripes. With m = 0 it is of an array
- * before its growth. All that the picture shows is asked of pbm_owner, place by place, by a record that is written here
- * as pbm.h describes it. If there is no such array a line on standard error says so, and the exit status is 1.
+ * T is the number of stripes: without it one group, n * (n + m). Drawn are the stripes from `first` to `last`, both of them
+ * included; without `last`, from `first` (without it, from 0) as many as a group has, or as there are. With m = 0 it is an
+ * array before its growth. All that the picture shows is asked of pbm_owner, place by place, by a record that is written
+ * here as pbm.h describes it. A bad argument is named in one line on standard error, and the exit status is 1.
  */
 #include "pbm.h"
 
+#include <ctype.h>
+#include <errno.h>
 #include <stdio.h>
 #include <stdlib.h>
 #include <string.h>
 
-/* n old and m new disks, T stripes, t moves done; the record of that, and the one before the first move */
-static unsigned n, m, T, t;
+/* The limits of pbm.h; and the stripes of one picture, which is large enough then: the largest group has 512. */
+enum { OLD_MIN = 3, DISKS_MAX = 16, STRIPES_MAX = 1048576, DRAWN_MAX = 1024 };
+
+/* n old and m new disks, T stripes, t moves done; the stripes drawn; the record of that, and that before the first move */
+static unsigned n, m, T, t, first, last;
 static uint8_t now[PBM_RECORD_LEN], at_first[PBM_RECORD_LEN];
 
-static void refuse(uint8_t number)
+static unsigned group(void) { return n * (n + m); }
+static unsigned total(void) { return T * n * m / (n + m); }
+static unsigned lesser(unsigned a, unsigned b) { return a < b ? a : b; }
+
+/* ---- the arguments */
+
+/* One line, whatever the argument is. */
+static void refuse(const char *name, const char *text, unsigned from, unsigned to, const char *why)
 {
-    fprintf(stderr, "layout_svg: %s: usage: layout_svg n m t [T] > picture.svg, with n from 3 to 16, m to 16, "
-            "T a multiple of n * (n + m), t to T * n * m / (n + m)\n", pbm_word(number));
+    char shown[32] = "";
+    for (size_t i = 0; i + 1 < sizeof shown && text[i] != '\0'; i++)
+        shown[i] = isprint((unsigned char)text[i]) ? text[i] : '?';
+    fprintf(stderr, "layout_svg: %s is '%s': it must be a number from %u to %u%s\n", name, shown, from, to, why);
     exit(1);
 }
 
-/* ---- what stands where */
-
-/* A number that fits into so many bytes of a record. */
-static unsigned argument(const char *text, int bytes)
+static unsigned argument(const char *name, const char *text, unsigned from, unsigned to, const char *why)
 {
     size_t digits = strspn(text, "0123456789");
-    uint64_t value = strtoull(text, NULL, 10);
-    if (digits == 0 || text[digits] != '\0' || value >> (8 * bytes) != 0) refuse(PBM_RECORD);
+    errno = 0;
+    unsigned long long value = strtoull(text, NULL, 10);
+    if (digits == 0 || text[digits] != '\0' || errno != 0 || value < from || value > to) refuse(name, text, from, to, why);
     return (unsigned)value;
 }
+
+static unsigned stripes(const char *text)
+{
+    char why[80] = "";
+    unsigned from = m > 0 ? group() : 1, to = m > 0 ? STRIPES_MAX / group() * group() : STRIPES_MAX;
+    if (m > 0) snprintf(why, sizeof why, ", a multiple of n * (n + m), which is %u", group());
+    unsigned value = argument("T", text, from, to, why);
+    if (value % from != 0) refuse("T", text, from, to, why);
+    return value;
+}
+
+static void take(int argc, char **argv)
+{
+    if (argc < 4 || argc > 7) {
+        fprintf(stderr, "usage: layout_svg n m t [T [first [last]]] > picture.svg\n");
+        exit(1);
+    }
+    n = argument("n", argv[1], OLD_MIN, DISKS_MAX, "");
+    m = argument("m", argv[2], 0, DISKS_MAX, "");
+    T = argc > 4 ? stripes(argv[4]) : group();
+    t = argument("t", argv[3], 0, total(), ", which is T * n * m / (n + m)");
+    first = argc > 5 ? argument("first", argv[5], 0, T - 1, ", which is T - 1") : 0;
+    last = argc > 6 ? argument("last", argv[6], first, lesser(T - 1, first + DRAWN_MAX - 1),
+                               ": below T, and at most 1024 stripes in a picture")
+                    : lesser(T - 1, first + group() - 1);
+}
+
+/* ---- what stands where */
 
 /* Least byte first. */
 static void put(uint8_t *bytes, int count, unsigned value)
@@ -57,39 +98,50 @@ static struct owner owner_by(const uint8_t *record, unsigned stripe, unsigned di
 {
     struct owner owner;
     uint8_t number = pbm_owner(record, PBM_RECORD_LEN, stripe, disk, &owner.role, &owner.block);
-    if (number != PBM_DONE) refuse(number);
+    if (number != PBM_DONE) { /* not for these arguments */
+        fprintf(stderr, "layout_svg: owner is refused: %u %s\n", number, pbm_word(number));
+        exit(1);
+    }
     return owner;
 }
 
 /* What stands on a disk of a stripe, and the disk on which that stood before the first move: n + m if on none. */
-struct place { unsigned role, block, disk, first; };
+struct place { unsigned role, block, disk, home; };
 
 static struct place place_at(unsigned stripe, unsigned disk)
 {
     struct owner owner = owner_by(now, stripe, disk);
-    unsigned first = 0; /* a move stays in its stripe: look there */
-    for (; first < n + m; first++) {
-        struct owner old = owner_by(at_first, stripe, first);
+    unsigned home = 0; /* a move stays in its stripe: look there */
+    for (; home < n + m; home++) {
+        struct owner old = owner_by(at_first, stripe, home);
         if (old.role == owner.role && old.block == owner.block && old.role != PBM_BLANK) break;
     }
-    return (struct place){(unsigned)owner.role, (unsigned)owner.block, disk, first};
+    return (struct place){(unsigned)owner.role, (unsigned)owner.block, disk, home};
 }
 
-static int is_new(struct place p) { return p.role == PBM_DATA && p.first == n + m; }
-static int is_moved(struct place p) { return p.first < n + m && p.first != p.disk; }
+static int is_new(struct place p) { return p.role == PBM_DATA && p.home == n + m; }
+static int is_moved(struct place p) { return p.home < n + m && p.home != p.disk; }
 
 /* ---- the picture: disks across, stripes down */
 
-enum { LEFT = 84, TOP = 118, HIGH = 26, GAP = 6, BETWEEN = 18, LEGEND = 230, LEGEND_ROWS = 6 };
+enum { LEFT = 84, TOP = 118, HIGH = 26, GAP = 6, BETWEEN = 18, LEGEND = 230, LEGEND_ROWS = 6, LETTER = 8 };
+
+static unsigned digits(unsigned number) { return (unsigned)snprintf(NULL, 0, "%u", number); }
 
 /* A place has room for the longest number and the note behind it. */
-static unsigned wide(void) { return 54 + 9 * (unsigned)snprintf(NULL, 0, "%u", T * (n + m - 1)); }
+static unsigned wide(void) { return 54 + 9 * digits(T * (n + m - 1)); }
+
+/* The room left of the places, for the numbers of zones and stripes. */
+static unsigned left(void) { return LEFT + (digits(last) > 3 ? LETTER * (digits(last) - 3) : 0); }
 
 /* The stripes that are drawn together: those of a zone; without a growth, all. */
 static unsigned zone(void) { return m > 0 ? n + m : T; }
 
-static unsigned x_of(unsigned disk) { return LEFT + disk * (wide() + GAP) + (disk < n ? 0 : BETWEEN); }
-static unsigned y_of(unsigned stripe) { return TOP + stripe * (HIGH + GAP) + stripe / zone() * BETWEEN; }
+static unsigned x_of(unsigned disk) { return left() + disk * (wide() + GAP) + (disk < n ? 0 : BETWEEN); }
+static unsigned y_of(unsigned stripe)
+{
+    return TOP + (stripe - first) * (HIGH + GAP) + (stripe / zone() - first / zone()) * BETWEEN;
+}
 
 #define NOTE "<text x=\"%u\" y=\"17\" font-size=\"10\" text-anchor=\"end\">"
 
@@ -102,7 +154,7 @@ static void draw(unsigned x, unsigned y, struct place p, const char *title)
     if (p.role == PBM_PARITY) printf("<text x=\"9\" y=\"18\" font-weight=\"bold\">P</text>");
     if (p.role == PBM_DATA) printf("<text x=\"9\" y=\"18\">%u</text>", p.block);
     if (is_new(p)) printf(NOTE "new</text>", wide() - 7);
-    if (is_moved(p)) printf(NOTE "from %u</text>", wide() - 7, p.first);
+    if (is_moved(p)) printf(NOTE "from %u</text>", wide() - 7, p.home);
     printf("</g>\n");
 }
 
@@ -114,20 +166,31 @@ static void draw_place(unsigned stripe, unsigned disk)
     if (p.role == PBM_BLANK) len += sprintf(title + len, "blank");
     if (p.role == PBM_PARITY) len += sprintf(title + len, "parity");
     if (p.role == PBM_DATA) len += sprintf(title + len, is_new(p) ? "new block %u" : "block %u", p.block);
-    if (is_moved(p)) sprintf(title + len, ", from disk %u", p.first);
+    if (is_moved(p)) sprintf(title + len, ", from disk %u", p.home);
     draw(x_of(disk), y_of(stripe), p, title);
 }
 
+/* The name of a zone, upright beside its rows: as much of it as has room there. */
+static void draw_zone_name(unsigned number, int is_cut, unsigned middle, unsigned room)
+{
+    const char *forms[] = {"zone %u, cut", "zone %u", "%u"};
+    char name[32];
+    for (int i = is_cut ? 0 : 1; i < 3; i++)
+        if ((unsigned)snprintf(name, sizeof name, forms[i], number) * LETTER <= room) break;
+    printf("<text transform=\"translate(26,%u) rotate(-90)\" text-anchor=\"middle\">%s</text>\n", middle, name);
+}
+
+/* A zone, or what of it is among the stripes drawn. */
 static void draw_zone(unsigned number)
 {
-    unsigned first = number * zone(), top = y_of(first) - GAP, high = zone() * (HIGH + GAP) + GAP;
-    printf("<rect x=\"%u\" y=\"%u\" width=\"%u\" height=\"%u\" rx=\"4\" fill=\"#eee\"/>\n", LEFT - GAP, top,
-           x_of(n + m - 1) + wide() + GAP - (LEFT - GAP), high);
-    if (m > 0)
-        printf("<text transform=\"translate(26,%u) rotate(-90)\" text-anchor=\"middle\">zone %u</text>\n",
-               top + high / 2, number);
-    for (unsigned stripe = first; stripe < first + zone(); stripe++) {
-        printf("<text x=\"%u\" y=\"%u\" text-anchor=\"end\">%u</text>\n", LEFT - 16, y_of(stripe) + 18, stripe);
+    unsigned begin = number * zone(), end = begin + zone() - 1;
+    unsigned from = begin > first ? begin : first, to = lesser(end, last);
+    unsigned top = y_of(from) - GAP, high = (to - from + 1) * (HIGH + GAP) + GAP;
+    printf("<rect x=\"%u\" y=\"%u\" width=\"%u\" height=\"%u\" rx=\"4\" fill=\"#eee\"/>\n", left() - GAP, top,
+           x_of(n + m - 1) + wide() + GAP - (left() - GAP), high);
+    if (m > 0) draw_zone_name(number, from > begin || to < end, top + high / 2, high);
+    for (unsigned stripe = from; stripe <= to; stripe++) {
+        printf("<text x=\"%u\" y=\"%u\" text-anchor=\"end\">%u</text>\n", left() - 16, y_of(stripe) + 18, stripe);
         for (unsigned disk = 0; disk < n + m; disk++) draw_place(stripe, disk);
     }
 }
@@ -135,9 +198,11 @@ static void draw_zone(unsigned number)
 static void draw_heads(void)
 {
     printf("<text x=\"14\" y=\"32\" font-size=\"20\" font-weight=\"bold\">%u + %u disks: %u of %u moves done</text>\n",
-           n, m, t, T * n * m / (n + m));
-    printf("<text x=\"14\" y=\"54\">disks across, stripes down</text>\n");
-    printf("<text x=\"%u\" y=\"%u\" text-anchor=\"end\">stripe</text>\n", LEFT - 16, TOP - 14);
+           n, m, t, total());
+    printf("<text x=\"14\" y=\"54\">disks across, stripes down");
+    if (last - first + 1 < T) printf(": %u to %u of %u", first, last, T);
+    printf("</text>\n");
+    printf("<text x=\"%u\" y=\"%u\" text-anchor=\"end\">stripe</text>\n", left() - 16, TOP - 14);
     for (unsigned disk = 0; disk < n + m; disk++) {
         unsigned x = x_of(disk) + wide() / 2;
         printf("<text x=\"%u\" y=\"%u\" text-anchor=\"middle\">disk %u</text>\n", x, TOP - 14, disk);
@@ -164,23 +229,23 @@ static void draw_legend(unsigned x)
 
 int main(int argc, char **argv)
 {
-    if (argc != 4 && argc != 5) refuse(PBM_RECORD);
-    n = argument(argv[1], 1);
-    m = argument(argv[2], 1);
-    t = argument(argv[3], 4);
-    T = argc == 5 ? argument(argv[4], 4) : n * (n + m);
+    take(argc, argv);
     set_record(now, t);
     set_record(at_first, 0);
-    owner_by(now, 0, 0); /* refuses an array that cannot be, before anything is drawn */
 
     unsigned legend = x_of(n + m) + 6 * GAP, width = legend + wide() + LEGEND;
-    unsigned rows = T > LEGEND_ROWS ? T : LEGEND_ROWS, height = y_of(rows - 1) + HIGH + 20;
+    unsigned bottom = y_of(last), least = TOP + (LEGEND_ROWS - 1) * (HIGH + GAP);
+    unsigned height = (bottom > least ? bottom : least) + HIGH + 20;
     printf("<svg xmlns=\"http://www.w3.org/2000/svg\" version=\"1.1\" width=\"%u\" height=\"%u\" viewBox=\"0 0 %u %u\" "
            "font-family=\"sans-serif\" font-size=\"14\">\n", width, height, width, height);
     printf("<rect width=\"%u\" height=\"%u\" fill=\"#fff\"/>\n", width, height);
     draw_heads();
-    for (unsigned number = 0; number < T / zone(); number++) draw_zone(number);
+    for (unsigned number = first / zone(); number <= last / zone(); number++) draw_zone(number);
     draw_legend(legend);
     printf("</svg>\n");
+    if (fflush(stdout) != 0 || ferror(stdout)) {
+        fprintf(stderr, "layout_svg: the picture cannot be written\n");
+        return 1;
+    }
     return 0;
 }

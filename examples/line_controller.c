@@ -11,6 +11,7 @@
  */
 #include "pbm.h"
 
+#include <errno.h>
 #include <inttypes.h>
 #include <stdio.h>
 #include <stdlib.h>
@@ -93,13 +94,12 @@ static int is_on_lost_disk(uint64_t block)
     return now.health == PBM_HEALTH_OUT && now.out_disk == disk;
 }
 
-/* Makes room for so many disks. What the new ones hold is of no matter: here, 0x5A in every byte. */
-static void mount(size_t disks)
+/* Makes room for images of this length. What the new disks hold is of no matter: here, 0x5A in every byte. */
+static void mount(uint64_t len)
 {
-    size_t len = disks * DISK;
     images = realloc(images, len);
     if (images == NULL) {
-        fprintf(stderr, "line_controller: no memory for %zu disks\n", disks);
+        fprintf(stderr, "line_controller: no memory for images of %" PRIu64 " bytes\n", len);
         exit(1);
     }
     memset(images + images_len, 0x5A, len - images_len);
@@ -154,13 +154,14 @@ static void logs_pass(int logs)
 static void grow(void)
 {
     uint8_t block[BLOCK];
-    mount(OLD + NEW);
+    uint64_t old_len = images_len;
+    mount(pbm_images_len_by(record, NEW));
     must("grow", pbm_grow(record, sizeof record, images, images_len, NEW));
     must_be("moves to make", status().total, MOVES);
     printf("%d disks are added: %d moves to make\n", NEW, MOVES);
     /* by a controller that has started anew, and takes the array for the old one, or the growth for done */
     must_refuse("a read with the old disks alone",
-                pbm_read(record, sizeof record, images, OLD * DISK, 0, block, BLOCK), PBM_IMAGES);
+                pbm_read(record, sizeof record, images, old_len, 0, block, BLOCK), PBM_IMAGES);
     must_refuse("a read of the first new block",
                 pbm_read(record, sizeof record, images, images_len, BLOCKS_BEFORE, block, BLOCK), PBM_PAST_THE_END);
 }
@@ -200,17 +201,24 @@ static void rebuild(uint64_t disk)
     printf("disk %" PRIu64 " is rebuilt\n", disk);
 }
 
+/* Is it a decimal number of 64 bits, and nothing else? */
+static int is_seed(const char *text)
+{
+    errno = 0;
+    strtoull(text, NULL, 10);
+    return text[0] != '\0' && text[strspn(text, "0123456789")] == '\0' && errno == 0;
+}
+
 int main(int argc, char **argv)
 {
-    char *end = "";
-    state = argc == 2 ? strtoull(argv[1], &end, 10) : 1;
-    if (argc > 2 || *end != '\0') {
-        fprintf(stderr, "usage: line_controller [seed]\n");
+    if (argc > 2 || (argc == 2 && !is_seed(argv[1]))) {
+        fprintf(stderr, "usage: line_controller [seed], a number from 0 to %" PRIu64 "\n", UINT64_MAX);
         return 1;
     }
+    state = argc == 2 ? strtoull(argv[1], NULL, 10) : 1;
     printf("seed %" PRIu64 "\n", state);
 
-    mount(OLD);
+    mount(pbm_images_len(OLD, BLOCK, STRIPES));
     must("format", pbm_format(record, sizeof record, images, images_len, OLD, BLOCK, STRIPES));
     printf("%d disks are formatted: %d blocks of %d bytes\n", OLD, BLOCKS_BEFORE, BLOCK);
     logs_pass(2000);

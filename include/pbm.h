@@ -7,10 +7,14 @@
  * SIZES
  *   n   old disks, 3 to 16            m   new disks, 1 to 16; 0 before growth      N   all disks, n + m
  *   B   block length, 1 to 4096       T   stripes, 1 to 1048576                    t   moves done
- *   Place (S, d) is block S of disk d. Stripe S is its N places.
+ *   Place (S, d) is block S of disk d. Stripe S is its N places. A disk is T * B bytes, 4 GiB at most; T and B stay as
+ *   pbm_format has set them.
  *
  * IMAGES
  *   One slice of N * T * B bytes, disk 0 first, each disk T * B bytes. Place (S, d) begins at byte (d * T + S) * B.
+ *   pbm_images_len and pbm_images_len_by give the length. Drawers that are files of their own become one slice if they
+ *   are mapped one behind the other, which needs T * B to be a multiple of the page size (examples/mapped_drawers.c);
+ *   with other sizes they have to be copied.
  *
  * RECORD
  *   byte 0       n
@@ -31,25 +35,46 @@
  *   T as a multiple of n * (n + m) when the array is formatted.
  *
  * A DISK THAT IS OUT
- *   may hold any bytes: it is not read. A block that stands on it is the xor of its stripe's other places. It is
- *   written by pbm_rebuild and pbm_format alone. While a disk is out a growth stands still, and goes on later where it
- *   stopped. With a second disk out the array is lost, until it is formatted anew.
+ *   may hold any bytes. Only pbm_format and pbm_rebuild touch it, which write it; no other call reads or writes a byte of
+ *   it, so its pages may be unmapped or protected until one of these two is called. A block that stands on it is the xor
+ *   of its stripe's other places. While a disk is out a growth stands still, and goes on later where it stopped. With a
+ *   second disk out the array is lost, until it is formatted anew.
  *
  * WHAT THE CALLER SEES TO
- *   1. Each pointer is good for its length: to read if it is const, else to read and write. A pointer to a number is
- *      good for one uint64_t and aligned.
+ *   1. Each pointer is good for the length given with it: to read if it is const, else to read and write. (The pages of a
+ *      disk that is out may be missing, see above.) A pointer to a number is good for one uint64_t and aligned.
  *   2. No pointer is null, not even that of a slice of length 0.
  *   3. No two things lent to one call overlap.
- *   4. One call at a time: while a call runs nothing else writes what it is lent, nor reads what it writes. Scanner and
- *      saw take turns, with a lock of the caller's if they are threads.
+ *   4. While a call runs nothing else writes what it is lent, nor reads what it writes. So the calls on one array take
+ *      turns, with a lock of the caller's if scanner and saw are threads. pbm_read, pbm_status, pbm_locate and pbm_owner
+ *      only read record and images: any number of these four may run at once on one array, each with an `into` and
+ *      numbers of its own, while none of the other six does (a readers-writer lock). Calls on different arrays need no
+ *      lock: there is nothing else that two calls share.
  *   5. Each call is lent the record and the images as the last call left them. Between calls nothing else writes them,
  *      save a disk that is out; and no older copy takes their place: an old record beside newer images is a good record,
  *      and a block read by it may be another block.
- *   6. A call that has begun runs to its end. If the process is killed in it, or power is lost, record and images need not
- *      fit one another any more, and no call can tell.
- *   Nothing else can go wrong: any bytes in the record, any lengths and any numbers are answered, if by a refusal. Where 5
- *   is broken calls stay within what they are lent, but what they read and write may be anything.
- *   The archive is for x86-64.
+ *   6. A call that has begun runs to its end. See below what a kill leaves.
+ *   7. There are 16 KiB of stack left for a call. (Measured, not proved: less than 5 KiB in pbm_write and pbm_rebuild, less
+ *      than 1 KiB in all others; 3 KiB more where the dynamic linker looks up memcpy, memmove or memset, at their first
+ *      use. Signal handlers on the same stack need theirs beside it.)
+ *   Where these are kept nothing else can go wrong: any numbers, and slices of any length, are answered, if by a refusal.
+ *   Where 5 alone is broken a call still answers, whatever bytes the record holds, and stays within what it is lent, but
+ *   what it reads and writes may be anything. The archive is for x86-64 and Linux.
+ *
+ * A CALL THAT IS KILLED
+ *   A process may be killed in a call while record and images outlive it, as mapped files do. What is promised of them then
+ *   is nothing: the proofs speak of calls that have ended, and no call can tell that one has not. What the library does
+ *   today, tested by stopping calls inside: the record is written by the last few instructions of a call, once. Before
+ *   those it is the old one, and images may be half changed; among them it may be a mix of old and new.
+ *   - pbm_advance: some of its moves are made, and t counts none of them. In doubt is what these moves carry, k blocks and
+ *     parities at most; all other places are as they were. So k bounds the damage: choose it small. Do not go on with such
+ *     an array: by the old t what has moved reads as zeroes, and another advance would copy these zeroes over it.
+ *   - pbm_write: in doubt are that block and the parity of its stripe.
+ *   - pbm_format, pbm_grow, pbm_rebuild: the same call, made again, does it all. pbm_out writes the record alone, the
+ *     other calls neither record nor images.
+ *   Nothing here mends an array in doubt yet, or finds out that it is in doubt: a careful controller notes outside, before
+ *   each write and advance, that it begins and with which numbers, and strikes that out behind it. If power is lost, memory
+ *   and files may keep some writes and lose earlier ones, and none of this holds: power cuts are not covered yet.
  *
  * REFUSALS
  *   Each call returns 0, done, or the lowest number below whose condition holds. A refusal changes no byte of record,
@@ -113,6 +138,27 @@ static inline const char *pbm_word(uint8_t number)
     }
 }
 
+/*
+ * The length that the images of so many disks must have, in 64 bits, whatever types the caller's numbers have: for
+ * pbm_format with disks = n. For numbers outside the limits above it may be any number.
+ */
+static inline uint64_t pbm_images_len(uint64_t disks, uint64_t block_len, uint64_t stripes)
+{
+    return disks * stripes * block_len;
+}
+
+/*
+ * The same by a record of PBM_RECORD_LEN bytes, for all its disks and so many more: 0 more for every call but pbm_grow,
+ * and for that m more. If the record is not good it may be any number.
+ */
+static inline uint64_t pbm_images_len_by(const uint8_t *record, uint64_t more)
+{
+    uint64_t disks = (uint64_t)record[0] + record[1] + more;
+    uint64_t block_len = (uint64_t)record[4] | (uint64_t)record[5] << 8;
+    uint64_t stripes = (uint64_t)record[8] | (uint64_t)record[9] << 8 | (uint64_t)record[10] << 16 | (uint64_t)record[11] << 24;
+    return pbm_images_len(disks, block_len, stripes);
+}
+
 /* Health, as pbm_status tells it. */
 enum { PBM_HEALTH_WHOLE = 0, PBM_HEALTH_OUT = 1, PBM_HEALTH_LOST = 2 };
 
@@ -156,7 +202,7 @@ uint8_t pbm_grow(uint8_t *record, size_t record_len, uint8_t *images, size_t ima
 /*
  * Makes the next k moves of the growth, or all that are left if those are fewer, and sets `made` to how many, which is
  * t's rise. A move copies a block to its new place and zeroes the place it left. With k = 0 it makes none.
- * Lent: record and images, written; made, written.
+ * Lent: record and images, written; made, written. If it is killed, k bounds what is in doubt (A CALL THAT IS KILLED).
  * Refusals: 1 record, 2 lost, 3 degraded, 5 nothing to move, 7 images.
  */
 uint8_t pbm_advance(uint8_t *record, size_t record_len, uint8_t *images, size_t images_len,

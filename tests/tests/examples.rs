@@ -1,18 +1,19 @@
-//! The programs of examples/: a line on a growing array, which must notice a library with a fault; and the pictures of the
-//! layout, against the moves made one by one.
+//! The programs and scripts of examples/: a line on a growing array, which must notice a library with a fault; drawers that are
+//! files; the pictures of the layout, against the moves made one by one; and what the scripts build, say and leave alone.
 
 use std::collections::BTreeMap;
 use std::fs;
+use std::ops::RangeInclusive;
 use std::os::unix::fs::PermissionsExt;
-use std::path::PathBuf;
+use std::path::{Path, PathBuf};
 use std::process::{Command, Output};
 use std::sync::LazyLock;
-use yuzkamide_tests::compile::{program, run, text};
+use yuzkamide_tests::compile::{archive, program, run, text};
 use yuzkamide_tests::layout::{Layout, Owner};
 use yuzkamide_tests::program::target;
 use yuzkamide_tests::record::Record;
 
-/// What the line prints, and examples/run behind what `rt` prints.
+/// What the line prints, and examples/run.
 const PRINTED: &str = "\
 seed 1
 5 disks are formatted: 1600 blocks of 4096 bytes
@@ -49,6 +50,9 @@ static LINE: LazyLock<PathBuf> =
 static DRAW: LazyLock<PathBuf> =
     LazyLock::new(|| program("layout_svg", GCC, &["examples/layout_svg.c"]));
 
+static DRAWERS: LazyLock<PathBuf> =
+    LazyLock::new(|| program("mapped_drawers", GCC, &["examples/mapped_drawers.c"]));
+
 fn root() -> PathBuf {
     target().join("..")
 }
@@ -57,16 +61,12 @@ fn output_of(program: &PathBuf, arguments: &[&str]) -> Output {
     Command::new(program).args(arguments).output().unwrap()
 }
 
-/// Refused with status 1, nothing on standard output and one line that begins so on standard error.
-fn is_refused(program: &PathBuf, arguments: &[&str], begins: &str) {
+/// Refused with status 1, nothing on standard output and just this line on standard error.
+fn is_refused(program: &PathBuf, arguments: &[&str], line: &str) {
     let output = output_of(program, arguments);
-    let says = text(&output.stderr);
     assert_eq!(output.status.code(), Some(1), "{arguments:?}");
     assert!(output.stdout.is_empty(), "{arguments:?}");
-    assert!(
-        says.starts_with(begins) && says.ends_with('\n') && says.lines().count() == 1,
-        "{arguments:?}: {says}"
-    );
+    assert_eq!(text(&output.stderr), format!("{line}\n"), "{arguments:?}");
 }
 
 // ---- the line
@@ -92,24 +92,31 @@ fn a_line_runs_with_other_seeds() {
     }
 }
 
+/// Only a decimal number of 64 bits is a seed.
 #[test]
 fn a_line_refuses_other_arguments() {
-    is_refused(&LINE, &["one"], "usage: line_controller [seed]");
-    is_refused(&LINE, &["1", "2"], "usage: line_controller [seed]");
-}
-
-/// README's run command, with a `rt` that only sees what it is asked: the archive is there.
-#[test]
-fn the_run_command() {
-    let folder = target().join("c/rt");
-    fs::create_dir_all(&folder).unwrap();
-    let rt = folder.join("rt");
-    fs::write(&rt, "#!/bin/sh\n[ \"$*\" = \"staticlib pbm\" ]\n").unwrap();
-    fs::set_permissions(&rt, fs::Permissions::from_mode(0o755)).unwrap();
-    let path = format!("{}:{}", folder.display(), std::env::var("PATH").unwrap());
-    let output = run(Command::new(root().join("examples/run")).env("PATH", path));
-    assert_eq!(text(&output.stdout), PRINTED);
-    assert!(target().join("examples/layout_svg").exists());
+    let usage = "usage: line_controller [seed], a number from 0 to 18446744073709551615";
+    let seeds = [
+        "",
+        " ",
+        "one",
+        "1x",
+        "x1",
+        " 1",
+        "1 ",
+        "+1",
+        "-1",
+        "-0",
+        "0x1",
+        "1.0",
+        "\n1",
+        "18446744073709551616",
+        "99999999999999999999",
+    ];
+    for seed in seeds {
+        is_refused(&LINE, &[seed], usage);
+    }
+    is_refused(&LINE, &["1", "2"], usage);
 }
 
 /// What README shows of it, lines of two dots standing for what is left out.
@@ -246,27 +253,119 @@ fn wanted(first: &Layout, now: &Layout, stripe: u64, disk: u64) -> Drawn {
     }
 }
 
-fn check(arguments: &[u64], n: u64, m: u64, stripes: u64, moves: u64) {
-    let mut record = Record::new(n, 1, stripes);
-    record.m = m;
-    let first = Layout::of(&record);
-    record.moves = moves;
-    let now = Layout::of(&record);
-    let text = picture(arguments);
-    let total = first.total();
-    assert!(text.contains(&format!(">{n} + {m} disks: {moves} of {total} moves done<")));
-    let places = drawn(&text);
-    assert_eq!(places.len() as u64, stripes * (n + m));
-    let (mut columns, mut rows) = (BTreeMap::new(), BTreeMap::new());
-    let every = (0..stripes).flat_map(|s| (0..n + m).map(move |d| (s, d)));
-    for ((stripe, disk), ((x, y), place)) in every.zip(places) {
-        assert_eq!(place, wanted(&first, &now, stripe, disk), "{arguments:?}");
-        // one column for each disk, one row for each stripe
-        assert_eq!(*columns.entry(disk).or_insert(x), x);
-        assert_eq!(*rows.entry(stripe).or_insert(y), y);
+/// An array before its growth and after so many moves of it.
+struct Shown {
+    record: Record,
+    first: Layout,
+    now: Layout,
+}
+
+impl Shown {
+    fn of(n: u64, m: u64, stripes: u64, moves: u64) -> Shown {
+        let mut record = Record::new(n, 1, stripes);
+        record.m = m;
+        let first = Layout::of(&record);
+        record.moves = moves;
+        let now = Layout::of(&record);
+        Shown { record, first, now }
     }
-    assert!(columns.values().is_sorted_by(|a, b| a < b), "disks across");
-    assert!(rows.values().is_sorted_by(|a, b| a < b), "stripes down");
+
+    /// The picture that these arguments draw is of these stripes, and right.
+    fn check(&self, arguments: &[u64], range: RangeInclusive<u64>) {
+        let Record {
+            n,
+            m,
+            stripes,
+            moves,
+            ..
+        } = self.record;
+        let text = picture(arguments);
+        let total = self.first.total();
+        assert!(text.contains(&format!(">{n} + {m} disks: {moves} of {total} moves done<")));
+        let (first, last) = (*range.start(), *range.end());
+        let part = match last - first + 1 < stripes {
+            true => format!(": {first} to {last} of {stripes}"),
+            false => String::new(),
+        };
+        assert!(text.contains(&format!(">disks across, stripes down{part}<")));
+        let places = drawn(&text);
+        assert_eq!(places.len() as u64, (last - first + 1) * (n + m));
+        let (mut columns, mut rows) = (BTreeMap::new(), BTreeMap::new());
+        let every = range.flat_map(|s| (0..n + m).map(move |d| (s, d)));
+        for ((stripe, disk), ((x, y), place)) in every.zip(places) {
+            let wanted = wanted(&self.first, &self.now, stripe, disk);
+            assert_eq!(place, wanted, "{arguments:?}");
+            // one column for each disk, one row for each stripe
+            assert_eq!(*columns.entry(disk).or_insert(x), x);
+            assert_eq!(*rows.entry(stripe).or_insert(y), y);
+        }
+        assert!(columns.values().is_sorted_by(|a, b| a < b), "disks across");
+        assert!(rows.values().is_sorted_by(|a, b| a < b), "stripes down");
+        for (stripe, y) in &rows {
+            let number = format!("y=\"{}\" text-anchor=\"end\">{stripe}</text>", y + 18);
+            assert!(text.contains(&number), "{arguments:?}: {number}");
+        }
+        let zone_len = if m > 0 { n + m } else { stripes };
+        check_zones(&text, zone_len, m > 0, &rows);
+    }
+}
+
+/// A frame for each zone, around just the rows of it that are drawn, with its number beside it.
+fn check_zones(picture: &str, zone_len: u64, is_named: bool, rows: &BTreeMap<u64, u64>) {
+    let mut zones: BTreeMap<u64, Vec<u64>> = BTreeMap::new();
+    for (&stripe, &y) in rows {
+        zones.entry(stripe / zone_len).or_default().push(y);
+    }
+    let number = |line: &str, name: &str| -> u64 {
+        let (_, rest) = line.split_once(&format!("{name}=\"")).unwrap();
+        rest.split('"').next().unwrap().parse().unwrap()
+    };
+    let frames: Vec<(u64, u64)> = picture
+        .lines()
+        .filter(|line| line.contains("fill=\"#eee\""))
+        .map(|line| (number(line, " y"), number(line, "height")))
+        .collect();
+    let names: Vec<&str> = picture
+        .lines()
+        .filter(|line| line.contains("rotate(-90)"))
+        .map(|line| {
+            line.strip_suffix("</text>")
+                .unwrap()
+                .rsplit_once('>')
+                .unwrap()
+                .1
+        })
+        .collect();
+    assert_eq!(frames.len(), zones.len());
+    assert_eq!(names.len(), if is_named { zones.len() } else { 0 });
+    for (i, (zone, ys)) in zones.iter().enumerate() {
+        let (top, high) = frames[i];
+        assert_eq!(
+            (top, high),
+            (ys[0] - 6, ys[ys.len() - 1] + 26 + 6 - (ys[0] - 6))
+        );
+        if let Some(name) = names.get(i) {
+            let is_cut = (ys.len() as u64) < zone_len;
+            let forms = match is_cut {
+                true => vec![
+                    format!("zone {zone}, cut"),
+                    format!("zone {zone}"),
+                    format!("{zone}"),
+                ],
+                false => vec![format!("zone {zone}")],
+            };
+            // the first that has room
+            let fits = |form: &&String| 8 * form.len() as u64 <= high;
+            assert_eq!(
+                *name,
+                forms.iter().find(fits).unwrap_or(&forms[forms.len() - 1])
+            );
+        }
+    }
+}
+
+fn check(arguments: &[u64], n: u64, m: u64, stripes: u64, moves: u64) {
+    Shown::of(n, m, stripes, moves).check(arguments, 0..=stripes - 1);
 }
 
 #[test]
@@ -280,50 +379,257 @@ fn a_picture_shows_the_layout_after_every_move() {
 
 #[test]
 fn pictures_of_other_arrays() {
-    check(&[3, 2, 20, 30], 3, 2, 30, 20);
-    check(&[3, 2, 36, 30], 3, 2, 30, 36);
-    check(&[5, 3, 40, 80], 5, 3, 80, 40);
+    check(&[3, 2, 20, 30, 0, 29], 3, 2, 30, 20);
+    check(&[3, 2, 36, 30, 0, 29], 3, 2, 30, 36);
+    check(&[5, 3, 40, 80, 0, 79], 5, 3, 80, 40);
     check(&[16, 16, 5, 512], 16, 16, 512, 5);
+    check(&[16, 16, 8000, 1024, 0, 1023], 16, 16, 1024, 8000);
     // before a growth, with any number of stripes
     check(&[3, 0, 0], 3, 0, 9, 0);
     check(&[16, 0, 0, 1], 16, 0, 1, 0);
 }
 
+/// Without a last stripe, a group of them or what is left; and every part of two groups, zones cut anywhere.
 #[test]
-fn arrays_that_cannot_be_are_refused() {
-    let refused: &[&[&str]] = &[
-        &[],
-        &["3", "2"],
-        &["3", "2", "9", "15", "1"],
-        &["three", "2", "9"],
-        &["3", "2", ""],
-        &["3", "2", "-1"],
-        &["3", "2", "9x"],
-        &["3", "2", "0x9"],
-        // limits
-        &["2", "2", "0"],
-        &["17", "1", "0"],
-        &["3", "17", "0"],
-        &["3", "2", "19"],
-        &["3", "0", "1"],
-        &["3", "2", "0", "14"],
-        &["3", "2", "0", "0"],
-        &["0", "0", "0"],
-        &["3", "1", "0", "1048584"],
-        // beyond a field of the record
-        &["259", "2", "9"],
-        &["3", "258", "9"],
-        &["3", "2", "4294967305"],
-        &["3", "2", "9", "4294967311"],
-        &["3", "2", "18446744073709551625"],
-    ];
-    for arguments in refused {
-        is_refused(
-            &DRAW,
-            arguments,
-            "layout_svg: record: usage: layout_svg n m t [T]",
+fn pictures_of_some_stripes() {
+    let shown = Shown::of(3, 2, 30, 20);
+    shown.check(&[3, 2, 20, 30], 0..=14);
+    shown.check(&[3, 2, 20, 30, 7], 7..=21);
+    shown.check(&[3, 2, 20, 30, 16], 16..=29);
+    for first in 0..30 {
+        for last in first..30 {
+            shown.check(&[3, 2, 20, 30, first, last], first..=last);
+        }
+    }
+    Shown::of(3, 0, 100, 0).check(&[3, 0, 0, 100], 0..=8);
+    Shown::of(3, 0, 100, 0).check(&[3, 0, 0, 100, 95], 95..=99);
+}
+
+/// The most stripes that an array of 3 + 2 disks can have: both ends, and where the growth stands.
+#[test]
+fn pictures_of_the_largest_array() {
+    let (stripes, total) = (1_048_575, 1_258_290);
+    for moves in [0, 700_001, total] {
+        let shown = Shown::of(3, 2, stripes, moves);
+        let next = moves / 6 * 5; // the zone of the next move
+        shown.check(&[3, 2, moves, stripes], 0..=14);
+        shown.check(&[3, 2, moves, stripes, 0, 1023], 0..=1023);
+        for first in [1, 13, next.saturating_sub(7), next.min(stripes - 5)] {
+            shown.check(
+                &[3, 2, moves, stripes, first],
+                first..=stripes.min(first + 15) - 1,
+            );
+            shown.check(&[3, 2, moves, stripes, first, first], first..=first);
+        }
+        shown.check(
+            &[3, 2, moves, stripes, stripes - 1],
+            stripes - 1..=stripes - 1,
+        );
+        for last in [stripes - 2, stripes - 1] {
+            shown.check(&[3, 2, moves, stripes, last - 11, last], last - 11..=last);
+        }
+        assert!(
+            picture(&[3, 2, moves, stripes]).len() < 1 << 15,
+            "a group, not a gigabyte"
         );
     }
+}
+
+/// Each bad argument is named, with its value and its limits.
+#[test]
+fn bad_arguments_are_named() {
+    let usage = "usage: layout_svg n m t [T [first [last]]] > picture.svg";
+    for arguments in [
+        &[][..],
+        &["3"],
+        &["3", "2"],
+        &["3", "2", "9", "15", "0", "1", "2"],
+    ] {
+        is_refused(&DRAW, arguments, usage);
+    }
+    let group = |of| format!("a multiple of n * (n + m), which is {of}");
+    let refused: &[(&[&str], &str, &str, &str)] = &[
+        (&["2", "2", "0"], "n", "2", "3 to 16"),
+        (&["17", "1", "0"], "n", "17", "3 to 16"),
+        (&["0", "0", "0"], "n", "0", "3 to 16"),
+        (&["259", "2", "9"], "n", "259", "3 to 16"),
+        (&["three", "2", "9"], "n", "three", "3 to 16"),
+        (&["3", "17", "0"], "m", "17", "0 to 16"),
+        (&["3", "258", "9"], "m", "258", "0 to 16"),
+        (&["3", "-2", "9"], "m", "-2", "0 to 16"),
+        (
+            &["3", "2", "19"],
+            "t",
+            "19",
+            "0 to 18, which is T * n * m / (n + m)",
+        ),
+        (
+            &["3", "0", "1"],
+            "t",
+            "1",
+            "0 to 0, which is T * n * m / (n + m)",
+        ),
+        (
+            &["3", "2", "37", "30"],
+            "t",
+            "37",
+            "0 to 36, which is T * n * m / (n + m)",
+        ),
+        (
+            &["3", "2", ""],
+            "t",
+            "",
+            "0 to 18, which is T * n * m / (n + m)",
+        ),
+        (
+            &["3", "2", "-1"],
+            "t",
+            "-1",
+            "0 to 18, which is T * n * m / (n + m)",
+        ),
+        (
+            &["3", "2", "+1"],
+            "t",
+            "+1",
+            "0 to 18, which is T * n * m / (n + m)",
+        ),
+        (
+            &["3", "2", " 9"],
+            "t",
+            " 9",
+            "0 to 18, which is T * n * m / (n + m)",
+        ),
+        (
+            &["3", "2", "9x"],
+            "t",
+            "9x",
+            "0 to 18, which is T * n * m / (n + m)",
+        ),
+        (
+            &["3", "2", "0x9"],
+            "t",
+            "0x9",
+            "0 to 18, which is T * n * m / (n + m)",
+        ),
+        (
+            &["3", "2", "9\n9"],
+            "t",
+            "9?9",
+            "0 to 18, which is T * n * m / (n + m)",
+        ),
+        (
+            &["3", "2", "4294967305"],
+            "t",
+            "4294967305",
+            "0 to 18, which is T * n * m / (n + m)",
+        ),
+        (
+            &["3", "2", "18446744073709551625"],
+            "t",
+            "18446744073709551625",
+            "0 to 18, which is T * n * m / (n + m)",
+        ),
+        (
+            &["3", "2", "0", "14"],
+            "T",
+            "14",
+            &format!("15 to 1048575, {}", group(15)),
+        ),
+        (
+            &["3", "2", "0", "0"],
+            "T",
+            "0",
+            &format!("15 to 1048575, {}", group(15)),
+        ),
+        (
+            &["3", "2", "0", "31"],
+            "T",
+            "31",
+            &format!("15 to 1048575, {}", group(15)),
+        ),
+        (
+            &["3", "2", "9", "4294967311"],
+            "T",
+            "4294967311",
+            &format!("15 to 1048575, {}", group(15)),
+        ),
+        (
+            &["3", "1", "0", "1048584"],
+            "T",
+            "1048584",
+            &format!("12 to 1048572, {}", group(12)),
+        ),
+        (
+            &["16", "16", "0", "1049088"],
+            "T",
+            "1049088",
+            &format!("512 to 1048576, {}", group(512)),
+        ),
+        (&["3", "0", "0", "0"], "T", "0", "1 to 1048576"),
+        (&["3", "0", "0", "1048577"], "T", "1048577", "1 to 1048576"),
+        (
+            &["3", "2", "0", "15", "15"],
+            "first",
+            "15",
+            "0 to 14, which is T - 1",
+        ),
+        (
+            &["3", "2", "0", "15", "x"],
+            "first",
+            "x",
+            "0 to 14, which is T - 1",
+        ),
+        (
+            &["3", "2", "0", "15", "0", "15"],
+            "last",
+            "15",
+            "0 to 14: below T, and at most 1024 stripes in a picture",
+        ),
+        (
+            &["3", "2", "0", "15", "5", "4"],
+            "last",
+            "4",
+            "5 to 14: below T, and at most 1024 stripes in a picture",
+        ),
+        (
+            &["3", "2", "0", "1048575", "7", "1031"],
+            "last",
+            "1031",
+            "7 to 1030: below T, and at most 1024 stripes in a picture",
+        ),
+    ];
+    for (arguments, name, value, limits) in refused {
+        let line = format!("layout_svg: {name} is '{value}': it must be a number from {limits}");
+        is_refused(&DRAW, arguments, &line);
+    }
+    // at the limits
+    for arguments in [
+        &[16, 16, 0, 1_048_576][..],
+        &[3, 0, 0, 1_048_576],
+        &[16, 0, 0, 1],
+        &[3, 1, 786_429, 1_048_572],
+    ] {
+        picture(arguments);
+    }
+}
+
+/// A picture that cannot be written is no success.
+#[test]
+fn a_full_disk_is_told() {
+    let full = fs::OpenOptions::new()
+        .write(true)
+        .open("/dev/full")
+        .unwrap();
+    let output = Command::new(&*DRAW)
+        .args(["3", "2", "9"])
+        .stdout(full)
+        .output()
+        .unwrap();
+    assert_eq!(output.status.code(), Some(1));
+    assert_eq!(
+        text(&output.stderr),
+        "layout_svg: the picture cannot be written\n"
+    );
 }
 
 /// docs/pictures/n-m-t.svg
@@ -343,4 +649,228 @@ fn the_pictures_of_the_documents_are_those_drawn_today() {
         seen += 1;
     }
     assert!(seen >= 6);
+}
+
+// ---- drawers that are files
+
+#[test]
+fn drawers_are_mapped() {
+    let printed = "\
+3 drawers: 240 blocks are as written
+5 drawers, 50 moves made: 240 blocks are as written
+drawer 1 pulled: 240 blocks are as written
+drawer 1 replaced, the growth over: 240 blocks are as written
+";
+    assert_eq!(text(&run(&mut Command::new(&*DRAWERS)).stdout), printed);
+    let folder = empty(&target().join("c/drawers"));
+    let output = run(Command::new(&*DRAWERS).arg(&folder));
+    assert_eq!(text(&output.stdout), printed);
+    assert_eq!(fs::read_dir(&folder).unwrap().count(), 0, "nothing is left");
+
+    // what is there already stays as it is
+    let mine = folder.join("drawer-0");
+    fs::write(&mine, "mine").unwrap();
+    let output = output_of(&DRAWERS, &[folder.to_str().unwrap()]);
+    assert_eq!(output.status.code(), Some(1));
+    assert_eq!(
+        text(&output.stderr),
+        "mapped_drawers: a drawer cannot be made\n"
+    );
+    assert_eq!(fs::read_to_string(mine).unwrap(), "mine");
+}
+
+// ---- the scripts
+
+/// The folder, with nothing in it.
+fn empty(folder: &Path) -> PathBuf {
+    if folder.exists() {
+        fs::remove_dir_all(folder).unwrap();
+    }
+    fs::create_dir_all(folder).unwrap();
+    folder.to_path_buf()
+}
+
+/// A fresh clone, as far as the scripts look at it, with a stand-in for `rt`, since the gate has just proved and built the
+/// library: it hands out the archive, notes that it was asked, and fails if there is a file `refuse`.
+struct Tree(PathBuf);
+
+impl Tree {
+    fn new(name: &str) -> Tree {
+        let tree = empty(&target().join("c").join(format!("tree-{name}")));
+        for folder in ["examples", "include", "docs/pictures"] {
+            fs::create_dir_all(tree.join(folder)).unwrap();
+            for entry in fs::read_dir(root().join(folder)).unwrap() {
+                let path = entry.unwrap().path();
+                fs::copy(&path, tree.join(folder).join(path.file_name().unwrap())).unwrap();
+            }
+        }
+        fs::create_dir_all(tree.join("crates/pbm/src")).unwrap();
+        fs::create_dir_all(tree.join("bin")).unwrap();
+        let tree = Tree(tree);
+        tree.put("crates.txt", "pbm:\n");
+        tree.put("crates/pbm/src/lib.rt", "// a source\n");
+        let rt = format!(
+            "#!/bin/sh\n\
+             case \"$*\" in\n\
+             version) echo stand-in ;;\n\
+             \"staticlib pbm\")\n\
+                 echo asked >>asked && echo 'a note of the prover' && [ ! -e refuse ] &&\n\
+                 mkdir -p target/staticlib && cp '{}' target/staticlib/libpbm.a ;;\n\
+             *) exit 2 ;;\n\
+             esac\n",
+            archive().canonicalize().unwrap().display()
+        );
+        tree.put("bin/rt", &rt);
+        let mode = fs::Permissions::from_mode(0o755);
+        fs::set_permissions(tree.0.join("bin/rt"), mode).unwrap();
+        tree
+    }
+
+    fn put(&self, path: &str, text: &str) {
+        fs::write(self.0.join(path), text).unwrap();
+    }
+
+    fn get(&self, path: &str) -> String {
+        fs::read_to_string(self.0.join(path)).unwrap_or_default()
+    }
+
+    fn has(&self, path: &str) -> bool {
+        self.0.join(path).exists()
+    }
+
+    fn run(&self, script: &str) -> Output {
+        let path = format!(
+            "{}:{}",
+            self.0.join("bin").display(),
+            std::env::var("PATH").unwrap()
+        );
+        let mut command = Command::new(self.0.join(script));
+        command.env("PATH", path).output().unwrap()
+    }
+
+    /// Runs a script that must succeed; what it prints on standard output and on standard error.
+    fn must_run(&self, script: &str) -> (String, String) {
+        let output = self.run(script);
+        let (out, err) = (text(&output.stdout), text(&output.stderr));
+        assert!(output.status.success(), "{script}: {out}{err}");
+        (out.to_string(), err.to_string())
+    }
+
+    /// How often the library was proved and built.
+    fn asked(&self) -> usize {
+        self.get("asked").lines().count()
+    }
+
+    fn pictures(&self) -> BTreeMap<String, Vec<u8>> {
+        pictures(&self.0)
+    }
+}
+
+fn pictures(root: &Path) -> BTreeMap<String, Vec<u8>> {
+    fs::read_dir(root.join("docs/pictures"))
+        .unwrap()
+        .map(|entry| entry.unwrap().path())
+        .map(|path| {
+            (
+                path.file_name().unwrap().to_str().unwrap().to_string(),
+                fs::read(&path).unwrap(),
+            )
+        })
+        .collect()
+}
+
+const PROVING: &str = "proving and building the library, which may take two minutes; the prover's notes go to build/library.log\n";
+const BUILT: &str =
+    "the library is proved and built already, from these files: target/staticlib/libpbm.a\n";
+
+/// README's run command, in a fresh clone and then again.
+#[test]
+fn the_run_command() {
+    let tree = Tree::new("run");
+    let (first, again) = (
+        (PRINTED.to_string(), PROVING.to_string()),
+        (PRINTED.to_string(), BUILT.to_string()),
+    );
+    assert_eq!(tree.must_run("examples/run"), first);
+    assert_eq!(tree.get("build/library.log"), "a note of the prover\n");
+    for source in fs::read_dir(root().join("examples")).unwrap() {
+        let source = source.unwrap().path();
+        if source.extension().is_some_and(|e| e == "c") {
+            let name = source.file_stem().unwrap().to_str().unwrap();
+            assert!(tree.has(&format!("build/{name}")), "{name}");
+        }
+    }
+    assert_eq!(tree.must_run("examples/run"), again);
+    assert_eq!(tree.asked(), 1);
+    // what has changed is proved anew: a source, a new one, one that is gone, another archive, no archive
+    tree.put("crates/pbm/src/lib.rt", "// another source\n");
+    assert_eq!(tree.must_run("examples/run"), first);
+    assert_eq!(tree.must_run("examples/run"), again);
+    tree.put("crates/pbm/src/more.rt", "");
+    assert_eq!(tree.must_run("examples/run"), first);
+    fs::remove_file(tree.0.join("crates/pbm/src/more.rt")).unwrap();
+    assert_eq!(tree.must_run("examples/run"), first);
+    tree.put("target/staticlib/libpbm.a", "damaged");
+    assert_eq!(tree.must_run("examples/run"), first);
+    // as the gate does; what was compiled stays
+    fs::remove_dir_all(tree.0.join("target")).unwrap();
+    assert!(tree.has("build/layout_svg"));
+    assert_eq!(tree.must_run("examples/run"), first);
+    assert_eq!(tree.asked(), 6);
+}
+
+/// A library that is not proved is not used, whatever was built before.
+#[test]
+fn nothing_is_run_that_is_not_proved() {
+    let tree = Tree::new("refused");
+    tree.must_run("examples/run");
+    tree.put("refuse", "");
+    tree.put("crates/pbm/src/lib.rt", "// a wrong source\n");
+    for _ in 0..2 {
+        let output = tree.run("examples/run");
+        assert_eq!(output.status.code(), Some(1));
+        assert!(output.stdout.is_empty());
+        let says =
+            format!("{PROVING}a note of the prover\nexamples/library: rt staticlib pbm failed\n");
+        assert_eq!(text(&output.stderr), says);
+    }
+    assert_eq!(tree.asked(), 3);
+}
+
+#[test]
+fn pictures_are_drawn_anew() {
+    let tree = Tree::new("draw");
+    let right = pictures(&root());
+    assert!(right.len() >= 6 && tree.pictures() == right);
+    for name in ["3-2-9.svg", "4-1-16.svg"] {
+        tree.put(&format!("docs/pictures/{name}"), "an old picture");
+    }
+    assert!(tree.pictures() != right);
+    let (out, err) = tree.must_run("examples/draw");
+    assert_eq!((out.as_str(), err.as_str()), ("", PROVING));
+    assert!(tree.pictures() == right);
+}
+
+/// In a fresh clone with no library to be had, and with a program that fails at one picture.
+#[test]
+fn pictures_stay_if_one_cannot_be_drawn() {
+    let tree = Tree::new("undrawn");
+    let right = tree.pictures();
+    tree.put("refuse", "");
+    assert_eq!(tree.run("examples/draw").status.code(), Some(1));
+    assert!(!tree.has("build/layout_svg"));
+    assert!(tree.pictures() == right);
+
+    fs::remove_file(tree.0.join("refuse")).unwrap();
+    let fails = "#include <stdio.h>\nint main(int argc, char **argv) { puts(\"half\"); return argc == 4 && argv[3][0] == '6'; }\n";
+    tree.put("examples/layout_svg.c", fails);
+    assert_eq!(tree.run("examples/draw").status.code(), Some(1));
+    assert!(tree.has("build/layout_svg"));
+    assert!(tree.pictures() == right);
+    let left = fs::read_dir(tree.0.join("build")).unwrap();
+    assert!(
+        left.map(|entry| entry.unwrap().path())
+            .all(|path| path.is_file()),
+        "no folder is left"
+    );
 }
