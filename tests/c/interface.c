@@ -1,4 +1,4 @@
-/* Every call and every word of pbm.h from C: n = 3, m = 2, T = 15, B = 4. Prints what each returns and leaves; tests/c_interface.rs has the values. */
+/* Every call, word and length of pbm.h from C: n = 3, m = 2, T = 15, B = 4. Prints what each returns and leaves; tests/c_interface.rs has the values. */
 #include "pbm.h"
 
 #include <stdio.h>
@@ -87,10 +87,47 @@ static void lose(uint64_t disk)
     free(garbage);
 }
 
+/* The calls that take images, as they answer to a byte less and a byte more; these are lent bytes without a value. */
+static void show_lengths(const char *when, uint64_t len, uint64_t grown_len)
+{
+    uint8_t *spare = take(grown_len + 1);
+    uint64_t made = 9, wrong[2];
+    int i;
+    wrong[0] = len - 1, wrong[1] = len + 1;
+    printf("%s: images of %d bytes, grown by 2 disks %d\n", when, (int)len, (int)grown_len);
+    for (i = 0; i < 2; i++) {
+        printf("%d bytes: read %d, write %d, advance %d, rebuild %d\n", (int)wrong[i],
+               pbm_read(record, PBM_RECORD_LEN, spare, wrong[i], 0, block, BLOCK),
+               pbm_write(record, PBM_RECORD_LEN, spare, wrong[i], 0, block, BLOCK),
+               pbm_advance(record, PBM_RECORD_LEN, spare, wrong[i], 0, &made),
+               pbm_rebuild(record, PBM_RECORD_LEN, spare, wrong[i], 0));
+        printf("%d bytes: grow %d\n", (int)(grown_len - 1 + 2 * i),
+               pbm_grow(record, PBM_RECORD_LEN, spare, grown_len - 1 + 2 * i, 2));
+    }
+    free(spare);
+    printf("%d bytes: read %d\n", (int)len, pbm_read(record, PBM_RECORD_LEN, images, len, 0, block, BLOCK));
+}
+
+/* The longest images that there are, by numbers of 32 bits and by a record. */
+static void show_longest(void)
+{
+    static const uint8_t longest[PBM_RECORD_LEN] = {16, 16, 0, 0, 0, 16, 0, 0, 0, 0, 16, 0, 0, 0, 0, 0};
+    const int disks = 32, block_len = 4096, stripes = 1048576;
+    int is_right = pbm_images_len(disks, block_len, stripes) == (uint64_t)1 << 37
+        && pbm_images_len_by(longest, 0) == (uint64_t)1 << 37;
+    printf("the longest images: %s\n", is_right ? "128 GiB" : "wrong");
+}
+
 static void format(void)
 {
-    images_len = 3 * DISK;
+    uint8_t *spare;
+    images_len = pbm_images_len(3, BLOCK, STRIPES);
     images = take(images_len);
+    spare = take(images_len + 1);
+    printf("format, %d and %d bytes: %d, %d\n", (int)images_len - 1, (int)images_len + 1,
+           pbm_format(record, PBM_RECORD_LEN, spare, images_len - 1, 3, BLOCK, STRIPES),
+           pbm_format(record, PBM_RECORD_LEN, spare, images_len + 1, 3, BLOCK, STRIPES));
+    free(spare);
     printf("format n = 2: %d\n", pbm_format(record, PBM_RECORD_LEN, images, images_len, 2, BLOCK, STRIPES));
     printf("format: %d\n", pbm_format(record, PBM_RECORD_LEN, images, images_len, 3, BLOCK, STRIPES));
     show_record();
@@ -99,12 +136,13 @@ static void format(void)
 
 static void grow(void)
 {
-    uint8_t *more = take(5 * DISK);
+    uint64_t more_len = pbm_images_len_by(record, 2);
+    uint8_t *more = take(more_len);
     printf("grow, images of 3 disks: %d\n", pbm_grow(record, PBM_RECORD_LEN, images, images_len, 2));
     memcpy(more, images, images_len);
     free(images);
     images = more;
-    images_len = 5 * DISK;
+    images_len = more_len;
     printf("grow: %d\n", pbm_grow(record, PBM_RECORD_LEN, images, images_len, 2));
     printf("grow again: %d\n", pbm_grow(record, PBM_RECORD_LEN, images, images_len, 2));
     show_status();
@@ -123,7 +161,9 @@ int main(void)
     block = take(BLOCK);
 
     show_words();
+    show_longest();
     format();
+    show_lengths("formatted", pbm_images_len_by(record, 0), pbm_images_len_by(record, 2));
     show_place(5);
     show_write(4, "four");
     show_write(5, "five");
@@ -134,6 +174,7 @@ int main(void)
     show_advance(1);
 
     grow();
+    show_lengths("grown", pbm_images_len_by(record, 0), pbm_images_len_by(record, 2));
     show_owner(3, 0);
     show_advance(2);
     show_owner(3, 0);

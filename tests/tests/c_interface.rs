@@ -1,8 +1,9 @@
-//! The header and the archive as a C and a C++ program meet them.
+//! The header and the archive as a C and a C++ program meet them; and what the header says of stacks, of readers at the same time
+//! and of calls that are killed.
 
 use std::fs;
 use std::process::Command;
-use yuzkamide_tests::compile::{archive, interface, run, text};
+use yuzkamide_tests::compile::{archive, interface, program, run, text};
 use yuzkamide_tests::pbm::NAMES;
 use yuzkamide_tests::program::target;
 
@@ -21,10 +22,18 @@ word 9: block length
 word 10: disk
 word 11: no such number
 word 255: no such number
+the longest images: 128 GiB
+format, 179 and 181 bytes: 7, 7
 format n = 2: 6
 format: 0
 record 3 0 0 0 4 0 0 0 15 0 0 0 0 0 0 0
 status 0: capacity 30, moves 0 of 0, health 0, out 0
+formatted: images of 180 bytes, grown by 2 disks 300
+179 bytes: read 7, write 7, advance 5, rebuild 7
+299 bytes: grow 7
+181 bytes: read 7, write 7, advance 5, rebuild 7
+301 bytes: grow 7
+180 bytes: read 0
 locate 5: 0 (2, 0)
 write 4: 0
 write 5: 0
@@ -37,6 +46,12 @@ grow, images of 3 disks: 7
 grow: 0
 grow again: 4
 status 0: capacity 30, moves 0 of 18, health 0, out 0
+grown: images of 300 bytes, grown by 2 disks 420
+299 bytes: read 7, write 7, advance 7, rebuild 7
+419 bytes: grow 4
+301 bytes: read 7, write 7, advance 7, rebuild 7
+421 bytes: grow 4
+300 bytes: read 0
 owner (3, 0): 0 role 1, block 0
 advance 2: 0 made 2
 owner (3, 0): 0 role 0, block 0
@@ -119,4 +134,57 @@ fn the_archive_has_the_ten_functions() {
     let mut wanted = NAMES.map(|name| format!("T pbm_{name}"));
     wanted.sort_unstable();
     assert_eq!(found, wanted);
+}
+
+const C: &[&str] = &["gcc", "-std=c11", "-pthread"];
+
+/// "There are 16 KiB of stack left for a call": run on so many, and what was touched of them is what the header says.
+#[test]
+fn the_stack_of_a_call() {
+    let output = run(&mut Command::new(program("stack", C, &["tests/c/stack.c"])));
+    let printed = text(&output.stdout);
+    print!("{printed}");
+    assert_eq!(printed.lines().count(), 13);
+    for line in printed.lines() {
+        let (call, depths) = line.split_once(": ").unwrap();
+        let (first, then) = depths.split_once(", then ").unwrap();
+        let (first, then): (u64, u64) = (first.parse().unwrap(), then.parse().unwrap());
+        let limit = match call.starts_with("write") || call == "rebuild" {
+            true => 5 * 1024,
+            false => 1024,
+        };
+        assert!(then < limit && first <= 16 * 1024, "{line}");
+    }
+}
+
+#[test]
+fn readers_at_the_same_time() {
+    let output = run(&mut Command::new(program(
+        "readers",
+        C,
+        &["tests/c/readers.c"],
+    )));
+    let printed = text(&output.stdout);
+    assert_eq!(printed.lines().count(), 6);
+    assert!(
+        printed
+            .lines()
+            .all(|line| line.ends_with(": 4 readers at once")),
+        "{printed}"
+    );
+}
+
+#[test]
+fn a_call_that_is_killed() {
+    let output = run(&mut Command::new(program(
+        "killed",
+        C,
+        &["tests/c/killed.c"],
+    )));
+    let printed = "\
+advance, stopped 258 times: the old record, at most k moves in doubt
+write, stopped 60 times: the old record, one block and its parity in doubt
+rebuild, grow and format, each stopped 15 times: the old record, and right when made again
+";
+    assert_eq!(text(&output.stdout), printed);
 }

@@ -1,27 +1,29 @@
 //! Valgrind's memcheck over the C program and over short histories: no byte outside of what was lent is touched, and no answer
-//! hangs on a byte that was never set.
+//! hangs on a byte that was never set. And its helgrind over calls that only read, at the same time: they share nothing that one
+//! of them writes.
 
 use std::env::current_exe;
 use std::process::Command;
-use yuzkamide_tests::compile::{interface, run, text};
+use yuzkamide_tests::compile::{interface, program, run, text};
 use yuzkamide_tests::history::{self, Tally};
 use yuzkamide_tests::pbm::Bytes;
 use yuzkamide_tests::random::Random;
 
 const HISTORIES: u64 = 5;
 
-fn memcheck() -> Command {
+fn valgrind(tool: &str) -> Command {
     assert!(
         Command::new("valgrind").arg("--version").output().is_ok(),
         "valgrind is missing: install the Debian package `valgrind`"
     );
     let mut command = Command::new("valgrind");
-    command.args([
-        "--tool=memcheck",
-        "--quiet",
-        "--leak-check=no",
-        "--error-exitcode=9",
-    ]);
+    command.args([tool, "--quiet", "--error-exitcode=9"]);
+    command
+}
+
+fn memcheck() -> Command {
+    let mut command = valgrind("--tool=memcheck");
+    command.arg("--leak-check=no");
     command
 }
 
@@ -53,4 +55,14 @@ fn over_histories() {
         .args(["--exact", "histories_on_the_heap"])
         .env("SEED", seed));
     assert!(text(&output.stdout).contains("1 passed"));
+}
+
+#[test]
+fn readers_at_the_same_time() {
+    let program = program(
+        "readers-helgrind",
+        &["gcc", "-std=c11", "-pthread"],
+        &["tests/c/readers.c"],
+    );
+    run(valgrind("--tool=helgrind").arg(program));
 }

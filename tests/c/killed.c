@@ -1,0 +1,194 @@
+/*
+ * What a kill leaves (pbm.h, "A call that is killed"): calls are stopped inside by a page that they may not touch, in a process
+ * that shares record and images with this one, and this one looks at what is left. Every place is one page.
+ */
+#define _GNU_SOURCE
+#include "pbm.h"
+
+#include <signal.h>
+#include <stdio.h>
+#include <stdlib.h>
+#include <string.h>
+#include <sys/mman.h>
+#include <sys/wait.h>
+#include <unistd.h>
+
+enum { OLD = 3, NEW = 2, DISKS = OLD + NEW, STRIPES = 15, BLOCK = 4096, PLACES = DISKS * STRIPES, MOVES = 18, STOPPED = 9 };
+
+typedef uint8_t array_t[PLACES][BLOCK];
+
+/* shared with the process that is stopped; what they held before; what they are to hold, and one move later */
+static uint8_t *record, old_record[PBM_RECORD_LEN], new_record[PBM_RECORD_LEN];
+static array_t *images;
+static array_t before, wanted, behind;
+static uint8_t data[BLOCK];
+
+static void *map(size_t len)
+{
+    void *bytes = mmap(NULL, len, PROT_READ | PROT_WRITE, MAP_SHARED | MAP_ANONYMOUS, -1, 0);
+    if (bytes == MAP_FAILED) exit(1);
+    return bytes;
+}
+
+static void must(int is_so, const char *what)
+{
+    if (is_so) return;
+    printf("not so: %s\n", what);
+    exit(1);
+}
+
+static void done(uint8_t number) { must(number == PBM_DONE, pbm_word(number)); }
+static size_t len_of(int disks) { return pbm_images_len(disks, BLOCK, STRIPES); }
+static int place(uint64_t stripe, uint64_t disk) { return (int)(disk * STRIPES + stripe); }
+static void fill(uint64_t seed) { for (int i = 0; i < BLOCK; i++) data[i] = (uint8_t)(1 + (seed * 7 + i) % 255); }
+
+static void format(void) { done(pbm_format(record, 16, **images, len_of(OLD), OLD, BLOCK, STRIPES)); }
+static void grow(void) { done(pbm_grow(record, 16, **images, len_of(DISKS), NEW)); }
+static void rebuild(void) { done(pbm_rebuild(record, 16, **images, len_of(DISKS), 1)); }
+
+static uint64_t budget;
+static void advance(void) { uint64_t made; done(pbm_advance(record, 16, **images, len_of(DISKS), budget, &made)); }
+
+static uint64_t number;
+static void write_block(void) { done(pbm_write(record, 16, **images, len_of(DISKS), number, data, BLOCK)); }
+
+/* An array after so many moves, each block with bytes of its own, none of them 0. */
+static void prepare(uint64_t moves)
+{
+    format();
+    for (uint64_t b = 0; b < STRIPES * (OLD - 1); b++) {
+        fill(b);
+        done(pbm_write(record, 16, **images, len_of(OLD), b, data, BLOCK));
+    }
+    grow();
+    budget = moves;
+    if (moves > 0) advance();
+}
+
+static void stop(int signal_number) { (void)signal_number, _exit(STOPPED); }
+
+/* Runs the call until it touches this place, so that access to it is not allowed. The record is the old one then. */
+static void stop_at(int p, int access, void (*call)(void))
+{
+    int how;
+    pid_t child;
+    memcpy(before, images, sizeof before);
+    memcpy(old_record, record, sizeof old_record);
+    fflush(stdout);
+    child = fork();
+    if (child == 0) {
+        signal(SIGSEGV, stop);
+        if (mprotect((*images)[p], BLOCK, access) == 0) call();
+        _exit(0);
+    }
+    must(child > 0 && waitpid(child, &how, 0) == child && WIFEXITED(how) && WEXITSTATUS(how) == STOPPED, "the call is stopped");
+    must(memcmp(record, old_record, sizeof old_record) == 0, "the record is the old one");
+}
+
+static int is_as(array_t a, int p) { return memcmp((*images)[p], a[p], BLOCK) == 0; }
+
+/* So many moves, made on a copy. */
+static void make_moves(array_t copy, uint64_t moves)
+{
+    uint64_t made;
+    memcpy(copy, images, sizeof before);
+    memcpy(new_record, record, sizeof new_record);
+    done(pbm_advance(new_record, 16, *copy, len_of(DISKS), moves, &made));
+}
+
+/* An advance by k from t on, stopped in its move j, at the copy or at the zeroes. */
+static void kill_advance(uint64_t t, uint64_t k, uint64_t j, int at_zeroes)
+{
+    int from = -1, to = -1, changed = 0;
+    prepare(t);
+    make_moves(wanted, j);
+    make_moves(behind, j + 1);
+    for (int p = 0; p < PLACES; p++)
+        if (memcmp(wanted[p], behind[p], BLOCK) != 0) *(behind[p][0] == 0 ? &from : &to) = p;
+    must(from >= 0 && to >= 0, "the move is found");
+    budget = k;
+    stop_at(at_zeroes ? from : to, at_zeroes ? PROT_READ : PROT_NONE, advance);
+    if (at_zeroes) memcpy(wanted[to], wanted[from], BLOCK);
+    for (int p = 0; p < PLACES; p++) {
+        must(is_as(wanted, p), "the moves before it are made, and no other place has changed");
+        changed += !is_as(before, p);
+    }
+    must((uint64_t)changed <= 2 * k, "at most two places for each of the k moves");
+}
+
+static void kill_advances(void)
+{
+    int kills = 0;
+    for (uint64_t t = 0; t < MOVES; t += 5)
+        for (uint64_t k = 1; k <= MOVES; k += 4)
+            for (uint64_t j = 0; j < k && t + j < MOVES; j++)
+                for (int at_zeroes = 0; at_zeroes < 2; at_zeroes++, kills++) kill_advance(t, k, j, at_zeroes);
+    printf("advance, stopped %d times: the old record, at most k moves in doubt\n", kills);
+}
+
+/* Stopped at the parity or at the data: no other place has changed. */
+static void kill_writes(void)
+{
+    int kills = 0;
+    for (number = 0; number < STRIPES * (OLD - 1); number++)
+        for (int at_data = 0; at_data < 2; at_data++, kills++) {
+            uint64_t stripe, disk, parity, role = PBM_BLANK, none;
+            prepare(9);
+            done(pbm_locate(record, 16, number, &stripe, &disk));
+            for (parity = 0; role != PBM_PARITY; parity++) done(pbm_owner(record, 16, stripe, parity, &role, &none));
+            parity--;
+            fill(number + 100);
+            stop_at(place(stripe, at_data ? disk : parity), PROT_READ, write_block);
+            for (int p = 0; p < PLACES; p++)
+                must(is_as(before, p) || p == place(stripe, disk) || p == place(stripe, parity), "only block and parity have changed");
+        }
+    printf("write, stopped %d times: the old record, one block and its parity in doubt\n", kills);
+}
+
+static void read_all(void)
+{
+    static uint8_t into[BLOCK];
+    for (uint64_t b = 0; b < STRIPES * (OLD - 1); b++) {
+        fill(b);
+        done(pbm_read(record, 16, **images, len_of(DISKS), b, into, BLOCK));
+        must(memcmp(into, data, BLOCK) == 0, "every block is as it was written");
+    }
+}
+
+/* Made again behind a kill, these leave what they would have left without it. */
+static void kill_others(void)
+{
+    for (int s = 0; s < STRIPES; s++) {
+        prepare(9);
+        done(pbm_out(record, 16, 1));
+        memset((*images)[place(0, 1)], 0xEE, STRIPES * BLOCK);
+        stop_at(place(s, 1), PROT_NONE, rebuild);
+        rebuild();
+        read_all();
+
+        prepare(0);
+        memcpy(wanted, images, sizeof wanted);
+        memcpy(new_record, record, sizeof new_record);
+        record[1] = 0; /* as before the growth */
+        memset((*images)[place(0, OLD)], 0xEE, NEW * STRIPES * BLOCK);
+        stop_at(place(s, OLD + s % NEW), PROT_NONE, grow);
+        grow();
+        must(memcmp(record, new_record, sizeof new_record) == 0 && memcmp(images, wanted, sizeof wanted) == 0, "the growth has begun");
+
+        stop_at(place(s, s % OLD), PROT_NONE, format);
+        format();
+        for (int p = 0; p < OLD * STRIPES; p++)
+            for (int i = 0; i < BLOCK; i++) must((*images)[p][i] == 0, "the array is formatted");
+    }
+    printf("rebuild, grow and format, each stopped %d times: the old record, and right when made again\n", STRIPES);
+}
+
+int main(void)
+{
+    record = map(BLOCK);
+    images = map(sizeof *images);
+    kill_advances();
+    kill_writes();
+    kill_others();
+    return 0;
+}

@@ -1,0 +1,114 @@
+/*
+ * Calls that only read, many at once on one array (pbm.h, rule 4): four threads read every block and ask all that can be asked,
+ * and compare with what was written and with what one thread was told before. Record and images are protected against writing,
+ * a disk that is out against all.
+ */
+#define _GNU_SOURCE
+#include "pbm.h"
+
+#include <pthread.h>
+#include <stdio.h>
+#include <stdlib.h>
+#include <string.h>
+#include <sys/mman.h>
+
+enum { OLD = 3, NEW = 2, DISKS = OLD + NEW, STRIPES = 15, BLOCK = 4096, DISK = STRIPES * BLOCK, BLOCKS = STRIPES * (OLD - 1) };
+enum { THREADS = 4, TURNS = 20 };
+
+static uint8_t *record, *images;
+
+static uint8_t *map(size_t len)
+{
+    void *bytes = mmap(NULL, len, PROT_READ | PROT_WRITE, MAP_PRIVATE | MAP_ANONYMOUS, -1, 0);
+    if (bytes == MAP_FAILED) exit(1);
+    return (uint8_t *)bytes;
+}
+
+static void must(int is_so, const char *what)
+{
+    if (is_so) return;
+    printf("not so: %s\n", what);
+    exit(1);
+}
+
+static void done(uint8_t number) { must(number == PBM_DONE, pbm_word(number)); }
+
+static void fill(uint8_t *block, uint64_t number)
+{
+    for (int i = 0; i < BLOCK; i++) block[i] = (uint8_t)(number * 37 + i);
+}
+
+/* All that status, locate and owner tell. */
+struct told { uint64_t status[5], places[BLOCKS][2], owners[STRIPES][DISKS][2]; } first;
+
+static void ask(struct told *told)
+{
+    uint64_t *s = told->status;
+    done(pbm_status(record, PBM_RECORD_LEN, s, s + 1, s + 2, s + 3, s + 4));
+    for (int b = 0; b < BLOCKS; b++) done(pbm_locate(record, PBM_RECORD_LEN, b, &told->places[b][0], &told->places[b][1]));
+    for (int i = 0; i < STRIPES; i++)
+        for (int d = 0; d < DISKS; d++)
+            done(pbm_owner(record, PBM_RECORD_LEN, i, d, &told->owners[i][d][0], &told->owners[i][d][1]));
+}
+
+static void *reader(void *from)
+{
+    static const struct told none;
+    struct told told;
+    uint8_t into[BLOCK], wanted[BLOCK];
+    for (int turn = 0; turn < TURNS; turn++) {
+        told = none;
+        ask(&told);
+        must(memcmp(&told, &first, sizeof told) == 0, "the answers are those of one thread");
+        for (int i = 0; i < BLOCKS; i++) {
+            uint64_t b = (*(int *)from + i) % BLOCKS;
+            done(pbm_read(record, PBM_RECORD_LEN, images, DISKS * DISK, b, into, BLOCK));
+            fill(wanted, b);
+            must(memcmp(into, wanted, BLOCK) == 0, "a block is as it was written");
+        }
+    }
+    return NULL;
+}
+
+static void readers(const char *when)
+{
+    pthread_t threads[THREADS];
+    int from[THREADS];
+    ask(&first);
+    for (int i = 0; i < THREADS; i++) {
+        from[i] = i * BLOCKS / THREADS;
+        must(pthread_create(&threads[i], NULL, reader, &from[i]) == 0, "a thread starts");
+    }
+    for (int i = 0; i < THREADS; i++) pthread_join(threads[i], NULL);
+    printf("%s: %d readers at once\n", when, THREADS);
+}
+
+static void allow(uint8_t *bytes, size_t len, int access) { must(mprotect(bytes, len, access) == 0, "mprotect"); }
+
+int main(void)
+{
+    uint8_t block[BLOCK];
+    uint64_t made;
+    record = map(BLOCK);
+    images = map(DISKS * DISK);
+    done(pbm_format(record, PBM_RECORD_LEN, images, OLD * DISK, OLD, BLOCK, STRIPES));
+    for (int b = 0; b < BLOCKS; b++) {
+        fill(block, b);
+        done(pbm_write(record, PBM_RECORD_LEN, images, OLD * DISK, b, block, BLOCK));
+    }
+    done(pbm_grow(record, PBM_RECORD_LEN, images, DISKS * DISK, NEW));
+    done(pbm_advance(record, PBM_RECORD_LEN, images, DISKS * DISK, 9, &made));
+    allow(record, BLOCK, PROT_READ);
+    allow(images, DISKS * DISK, PROT_READ);
+    readers("whole, in the middle of a growth");
+
+    for (int d = 0; d < DISKS; d++) {
+        allow(record, BLOCK, PROT_READ | PROT_WRITE);
+        record[2] = PBM_HEALTH_OUT, record[3] = (uint8_t)d;
+        allow(record, BLOCK, PROT_READ);
+        allow(images + d * DISK, DISK, PROT_NONE);
+        readers("a disk out");
+        allow(images + d * DISK, DISK, PROT_READ);
+    }
+    return 0;
+}

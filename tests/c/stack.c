@@ -1,0 +1,109 @@
+/*
+ * How much stack each call takes, of the 16 KiB that pbm.h speaks of: each is run twice on a stack of just that size, with a
+ * protected page below it, and what was touched of it is told, for the first run and for the second. The first run of a
+ * process is also that in which the dynamic linker looks up memcpy, memmove and memset; so each call has a process.
+ */
+#define _GNU_SOURCE
+#include "pbm.h"
+
+#include <stdio.h>
+#include <stdlib.h>
+#include <sys/mman.h>
+#include <sys/wait.h>
+#include <ucontext.h>
+#include <unistd.h>
+
+/* 16 + 16 disks of one group: the longest blocks but one byte, so that sums have a rest. Zeroes are a formatted array. */
+enum { STACK = 16384, PAGE = 4096, OLD = 16, NEW = 16, BLOCK = 4095, STRIPES = OLD * (OLD + NEW), PAINT = 0xA5 };
+
+static uint8_t record[PBM_RECORD_LEN], *images, *stack, block[BLOCK];
+static uint64_t images_len, numbers[5];
+static ucontext_t caller, callee;
+static uint8_t answer;
+
+static uint8_t *map(size_t len)
+{
+    void *bytes = mmap(NULL, len, PROT_READ | PROT_WRITE, MAP_PRIVATE | MAP_ANONYMOUS | MAP_NORESERVE, -1, 0);
+    if (bytes == MAP_FAILED) exit(1);
+    return (uint8_t *)bytes;
+}
+
+/* n, m, health, the disk that is out */
+static void set(int n, int m, int health, int out)
+{
+    record[0] = (uint8_t)n, record[1] = (uint8_t)m, record[2] = (uint8_t)health, record[3] = (uint8_t)out;
+    record[4] = BLOCK & 255, record[5] = BLOCK >> 8;
+    record[8] = STRIPES & 255, record[9] = STRIPES >> 8;
+    images_len = pbm_images_len_by(record, 0);
+}
+
+/* Each sets the array that it wants, and calls. Block 0 of the array stands on disk 15, the parity of its stripe on disk 0. */
+static void format(void) { set(OLD, 0, 0, 0); answer = pbm_format(record, 16, images, images_len, OLD, BLOCK, STRIPES); }
+static void read_whole(void) { set(OLD, NEW, 0, 0); answer = pbm_read(record, 16, images, images_len, 0, block, BLOCK); }
+static void read_out(void) { set(OLD, NEW, 1, 15); answer = pbm_read(record, 16, images, images_len, 0, block, BLOCK); }
+static void write_whole(void) { set(OLD, NEW, 0, 0); answer = pbm_write(record, 16, images, images_len, 0, block, BLOCK); }
+static void write_out(void) { set(OLD, NEW, 1, 15); answer = pbm_write(record, 16, images, images_len, 0, block, BLOCK); }
+static void write_parity_out(void) { set(OLD, NEW, 1, 0); answer = pbm_write(record, 16, images, images_len, 0, block, BLOCK); }
+static void grow(void) { set(OLD, 0, 0, 0); answer = pbm_grow(record, 16, images, pbm_images_len_by(record, NEW), NEW); }
+static void advance(void) { set(OLD, NEW, 0, 0); answer = pbm_advance(record, 16, images, images_len, 500, numbers); }
+static void out(void) { set(OLD, NEW, 0, 0); answer = pbm_out(record, 16, 31); }
+static void rebuild(void) { set(OLD, NEW, 1, 15); answer = pbm_rebuild(record, 16, images, images_len, 15); }
+static void status(void) { set(OLD, NEW, 0, 0); answer = pbm_status(record, 16, numbers, numbers + 1, numbers + 2, numbers + 3, numbers + 4); }
+static void locate(void) { set(OLD, NEW, 0, 0); answer = pbm_locate(record, 16, 7, numbers, numbers + 1); }
+static void owner(void) { set(OLD, NEW, 0, 0); answer = pbm_owner(record, 16, 7, 3, numbers, numbers + 1); }
+
+/* The bytes of the stack that one run touches. */
+static int depth(void (*call)(void))
+{
+    int untouched = 0, i;
+    answer = 255;
+    for (i = 0; i < STACK; i++) ((volatile uint8_t *)stack)[i] = PAINT;
+    getcontext(&callee);
+    callee.uc_stack.ss_sp = stack;
+    callee.uc_stack.ss_size = STACK;
+    callee.uc_link = &caller;
+    makecontext(&callee, call, 0);
+    swapcontext(&caller, &callee);
+    if (answer != PBM_DONE) exit(2);
+    while (untouched < STACK && stack[untouched] == PAINT) untouched++;
+    return STACK - untouched;
+}
+
+static void tell(const char *name, void (*call)(void))
+{
+    int how;
+    pid_t child;
+    fflush(stdout);
+    child = fork();
+    if (child == 0) {
+        int first = depth(call), second = depth(call);
+        printf("%s: %d, then %d\n", name, first, second);
+        fflush(stdout);
+        _exit(0);
+    }
+    if (child < 0 || waitpid(child, &how, 0) != child || how != 0) {
+        printf("%s: not with %d bytes of stack\n", name, STACK);
+        exit(1);
+    }
+}
+
+int main(void)
+{
+    images = map((size_t)(OLD + NEW) * STRIPES * BLOCK);
+    stack = map(STACK + PAGE) + PAGE;
+    if (mprotect(stack - PAGE, PAGE, PROT_NONE) != 0) return 1;
+    tell("format", format);
+    tell("read", read_whole);
+    tell("read, its disk out", read_out);
+    tell("write", write_whole);
+    tell("write, its disk out", write_out);
+    tell("write, its parity's disk out", write_parity_out);
+    tell("grow", grow);
+    tell("advance", advance);
+    tell("out", out);
+    tell("rebuild", rebuild);
+    tell("status", status);
+    tell("locate", locate);
+    tell("owner", owner);
+    return 0;
+}
