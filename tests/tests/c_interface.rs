@@ -136,6 +136,22 @@ fn the_archive_has_the_ten_functions() {
     assert_eq!(found, wanted);
 }
 
+/// It keeps nothing between calls, and two calls that run at once share nothing: code is all there is.
+#[test]
+fn the_archive_has_no_memory_of_its_own() {
+    let output = run(Command::new("size").arg("-A").arg(archive()));
+    let sections: Vec<&str> = text(&output.stdout)
+        .lines()
+        .filter_map(|line| line.split_whitespace().next())
+        .filter(|name| name.starts_with('.'))
+        .collect();
+    assert!(sections.contains(&".text.pbm_read"), "{sections:?}");
+    let harmless = [".text", ".rodata", ".comment", ".note", ".llvm_addrsig"];
+    for name in sections {
+        assert!(harmless.iter().any(|&h| name.starts_with(h)), "{name}");
+    }
+}
+
 const C: &[&str] = &["gcc", "-std=c11", "-pthread"];
 
 /// "There are 16 KiB of stack left for a call": run on so many, and what was touched of them is what the header says.

@@ -1,7 +1,10 @@
-//! README.md and docs/: links and commands name what is there, and the numbers of docs/LAYOUT.md are the library's and the replay's.
+//! README.md and docs/: links and commands name what is there, the numbers of docs/LAYOUT.md are the library's and the replay's, and
+//! the ratios of docs/SPEED.md those of the report at its end.
 
 use std::fs;
 use std::path::{Path, PathBuf};
+use std::process::Command;
+use yuzkamide_tests::compile::{run, text};
 use yuzkamide_tests::layout::{Layout, Owner};
 use yuzkamide_tests::moves::moves;
 use yuzkamide_tests::pbm::{Answer, Bytes, Call};
@@ -65,10 +68,12 @@ fn commands_name_what_is_there() {
         for fence in text.split("```sh\n").skip(1) {
             let commands = fence.split("```").next().unwrap();
             for word in commands.split_whitespace().filter(|w| w.contains('/')) {
-                let source = match word.rsplit_once('/').unwrap() {
-                    ("target/bin", name) => format!("crates/{name}"),
-                    ("target/examples", name) => format!("examples/{name}.c"),
-                    _ => word.to_string(),
+                // the gate's own clone has what this one has
+                let word = word.strip_prefix("../yuzkamide-gate").unwrap_or(word);
+                let source = match word.rsplit_once('/') {
+                    Some(("target/bin", name)) => format!("crates/{name}"),
+                    Some(("build", name)) => format!("examples/{name}.c"),
+                    _ => word.trim_start_matches('/').to_string(),
                 };
                 assert!(is_there(Path::new(&source)), "{document:?}: {word}");
                 seen += 1;
@@ -76,6 +81,18 @@ fn commands_name_what_is_there() {
         }
     }
     assert!(seen >= 5, "the search finds the commands: {seen}");
+}
+
+/// README says by which toolchain the library is proved and built.
+#[test]
+fn the_toolchain_is_the_one_named() {
+    let output = run(Command::new("rt").arg("version"));
+    let readme = fs::read_to_string(root().join("README.md")).unwrap();
+    let says = format!(
+        "(`rt version` prints `{}`)",
+        text(&output.stdout).trim_end()
+    );
+    assert!(readme.contains(&says), "README.md does not say: {says}");
 }
 
 // ---- docs/LAYOUT.md: 3 + 2 disks, 15 stripes, blocks of 4 bytes, after 9 moves
@@ -256,4 +273,84 @@ fn four_and_one() {
         assert_eq!(all.iter().filter(|x| x.from == disk).count(), 4);
     }
     layout_says("zone 0 takes two from disk 0 and two from disk 2, zone 1 two each from disks 1 and 3. In a whole group each old disk gives four.");
+}
+
+// ---- docs/SPEED.md
+
+/// The cells of a table's row.
+fn cells(line: &str) -> Vec<&str> {
+    line.trim_matches('|').split('|').map(str::trim).collect()
+}
+
+/// The second run of each cell in the table of what was asked for is that of the report, and a miss is seen to be one. All that
+/// the report has a target for is in the table.
+#[test]
+fn the_ratios_of_speed() {
+    let text = fs::read_to_string(root().join("docs/SPEED.md")).unwrap();
+    let (head, report) = text.split_once("## The report").unwrap();
+    let (out_of_cache, in_cache) = report.split_once("### In cache").unwrap();
+    let (asked, _) = head.split_once("## What is missed").unwrap();
+    let mut seen = 0;
+    let rows = asked.lines().map(cells).filter(|row| row.len() == 8);
+    for row in rows.skip(2) {
+        let (call, peer) = (row[0], row[1].replace("C's read of the same", "C, read"));
+        let columns = [
+            (2, out_of_cache, "5 + 3", 4),
+            (3, out_of_cache, "16 + 16", 4),
+            (5, in_cache, "5 + 3", 7),
+            (6, in_cache, "16 + 16", 7),
+        ];
+        for (column, report, shape, target) in columns {
+            let found = report.lines().map(cells).find(|found| {
+                let name = found[0]
+                    .replace(", per move", "")
+                    .replace(", per stripe", "");
+                let is_long = found.len() == 11 && (found[2] == "4096" || found[2] == "32");
+                is_long && (name.as_str(), found[1], found[4]) == (call, shape, peer.as_str())
+            });
+            let Some(found) = found else {
+                assert_eq!(row[column], "-", "{call}, {shape}");
+                continue;
+            };
+            let (_, second) = row[column].split_once(", ").unwrap();
+            let number = |word: &str| -> f64 { word.parse().unwrap() };
+            let (second, ratio, target) = (number(second), number(found[5]), number(row[target]));
+            assert!(
+                (second - ratio).abs() < 0.0051,
+                "{call}, {shape}: {second}, {ratio}"
+            );
+            assert_eq!(
+                second >= target,
+                ratio >= target,
+                "{call}, {shape}: a miss hidden"
+            );
+            if found[9] != "-" {
+                assert_eq!(number(found[9]), target, "{call}, {shape}");
+                assert_eq!(found[10] == "yes", ratio >= target, "{call}, {shape}");
+            }
+            seen += 1;
+        }
+    }
+    assert_eq!(seen, 46);
+}
+
+/// The last column of the table of instructions.
+#[test]
+fn the_instructions_of_speed() {
+    let text = fs::read_to_string(root().join("docs/SPEED.md")).unwrap();
+    let (_, table) = text.split_once("## Instructions per call").unwrap();
+    let (table, _) = table.split_once("## The report").unwrap();
+    let rows: Vec<_> = table
+        .lines()
+        .map(cells)
+        .filter(|row| row.len() == 6)
+        .collect();
+    for row in &rows[2..] {
+        let number = |i: usize| -> f64 { row[i].parse().unwrap() };
+        assert!(
+            (number(4) / number(3) - number(5)).abs() < 0.0051,
+            "{row:?}"
+        );
+    }
+    assert_eq!(rows.len(), 2 + 33);
 }
