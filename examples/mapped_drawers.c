@@ -67,13 +67,17 @@ static void pull(int d)
     must("a drawer cannot be removed", unlink(path(d)) == 0);
 }
 
-/* ---- blocks: the number in every byte */
+/* ---- blocks: other bytes in each, and each time */
+
+static int times;
+static void fill(uint8_t *block, int number) { memset(block, number + 7 * times, BLOCK); }
 
 static void write_blocks(int blocks)
 {
     uint8_t block[BLOCK];
+    times++;
     for (int b = 0; b < blocks; b++) {
-        memset(block, b, BLOCK);
+        fill(block, b);
         must("write", pbm_write(record, sizeof record, images, pbm_images_len_by(record, 0), b, block, BLOCK) == PBM_DONE);
     }
 }
@@ -82,7 +86,7 @@ static void read_blocks(int blocks, const char *when)
 {
     uint8_t block[BLOCK], wanted[BLOCK];
     for (int b = 0; b < blocks; b++) {
-        memset(wanted, b, BLOCK);
+        fill(wanted, b);
         must("read", pbm_read(record, sizeof record, images, pbm_images_len_by(record, 0), b, block, BLOCK) == PBM_DONE);
         must("a block is not as it was written", memcmp(block, wanted, BLOCK) == 0);
     }
@@ -112,6 +116,8 @@ int main(int argc, char **argv)
     must("out", pbm_out(record, sizeof record, 1) == PBM_DONE); /* first the word, then the deed */
     pull(1);
     read_blocks(blocks, "drawer 1 pulled");
+    write_blocks(blocks); /* those of drawer 1 too */
+    read_blocks(blocks, "all written anew");
 
     insert(1);
     must("rebuild", pbm_rebuild(record, sizeof record, images, pbm_images_len_by(record, 0), 1) == PBM_DONE);

@@ -1,4 +1,7 @@
-/* Every call, word and length of pbm.h from C: n = 3, m = 2, T = 15, B = 4. Prints what each returns and leaves; tests/c_interface.rs has the values. */
+/*
+ * Every call, word and length of pbm.h from C: n = 3, m = 2, T = 15, B = 4. Prints what each returns and leaves;
+ * tests/tests/c_interface.rs has the values.
+ */
 #include "pbm.h"
 
 #include <stdio.h>

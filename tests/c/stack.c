@@ -48,7 +48,12 @@ static void grow(void) { set(OLD, 0, 0, 0); answer = pbm_grow(record, 16, images
 static void advance(void) { set(OLD, NEW, 0, 0); answer = pbm_advance(record, 16, images, images_len, 500, numbers); }
 static void out(void) { set(OLD, NEW, 0, 0); answer = pbm_out(record, 16, 31); }
 static void rebuild(void) { set(OLD, NEW, 1, 15); answer = pbm_rebuild(record, 16, images, images_len, 15); }
-static void status(void) { set(OLD, NEW, 0, 0); answer = pbm_status(record, 16, numbers, numbers + 1, numbers + 2, numbers + 3, numbers + 4); }
+static void status(void)
+{
+    uint64_t *x = numbers;
+    set(OLD, NEW, 0, 0);
+    answer = pbm_status(record, 16, x, x + 1, x + 2, x + 3, x + 4);
+}
 static void locate(void) { set(OLD, NEW, 0, 0); answer = pbm_locate(record, 16, 7, numbers, numbers + 1); }
 static void owner(void) { set(OLD, NEW, 0, 0); answer = pbm_owner(record, 16, 7, 3, numbers, numbers + 1); }
 

@@ -659,6 +659,7 @@ fn drawers_are_mapped() {
 3 drawers: 240 blocks are as written
 5 drawers, 50 moves made: 240 blocks are as written
 drawer 1 pulled: 240 blocks are as written
+all written anew: 240 blocks are as written
 drawer 1 replaced, the growth over: 240 blocks are as written
 ";
     assert_eq!(text(&run(&mut Command::new(&*DRAWERS)).stdout), printed);
