@@ -301,6 +301,13 @@ impl Shown {
         }
         assert!(columns.values().is_sorted_by(|a, b| a < b), "disks across");
         assert!(rows.values().is_sorted_by(|a, b| a < b), "stripes down");
+        // from the top, below the heads, to just above the lower edge, or to the legend's end
+        assert_eq!(rows[&first], 118);
+        let high = rows[&last].max(118 + 5 * 32) + 46;
+        assert!(
+            text.contains(&format!(" height=\"{high}\" viewBox=")),
+            "{high}"
+        );
         for (stripe, y) in &rows {
             let number = format!("y=\"{}\" text-anchor=\"end\">{stripe}</text>", y + 18);
             assert!(text.contains(&number), "{arguments:?}: {number}");
