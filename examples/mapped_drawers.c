@@ -5,8 +5,8 @@
  *
  * A range of addresses is reserved, and each file is mapped to its place in it, one behind the other. This needs the length
  * of a drawer, T * B, to be a multiple of the page size. Three drawers become five; one of them is taken out and replaced.
- * The files drawer-0 to drawer-4 are made in the folder, where there may be none yet (without one, in a new one below /tmp), and
- * removed at the end.
+ * The files drawer-0 to drawer-4 are made in the folder, where there may be none yet (if none is given, in a new one below the
+ * current one), and removed at the end.
  * Where record and images are to outlive the program the record is kept in a file too, which is not shown here.
  */
 #define _DEFAULT_SOURCE
@@ -95,7 +95,7 @@ static void read_blocks(int blocks, const char *when)
 
 int main(int argc, char **argv)
 {
-    char made[] = "/tmp/mapped_drawers-XXXXXX";
+    char made[] = "drawers-XXXXXX";
     int blocks = STRIPES * (OLD - 1);
     uint64_t moves;
     folder = argc > 1 ? argv[1] : mkdtemp(made);

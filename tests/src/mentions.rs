@@ -4,7 +4,7 @@ use crate::definitions::{Definition, Kind};
 use std::path::Path;
 
 /// What a document may set in backquotes that no source defines: words of the language and of the toolchain, the variables of the
-/// random tests, a function of the C library, and a line that is typed.
+/// random tests, the folder that programs are built to, a function of the C library, and a line that is typed.
 const OTHER_WORDS: &[&str] = &[
     "requires",
     "&mut",
@@ -12,6 +12,7 @@ const OTHER_WORDS: &[&str] = &[
     "rt ci",
     "SEED",
     "HISTORIES",
+    "build/",
     "memmove",
     "3 2 1",
 ];
@@ -113,11 +114,11 @@ impl Sources<'_> {
 
     /// Whether the sources have the thing, in this file, folder or crate if one is given.
     pub fn has(&self, name: &str, place: Option<&str>) -> bool {
-        if name.contains('/') {
-            return self.has_path(name);
-        }
         if OTHER_WORDS.contains(&name) || (self.is_crate(name) && place.is_none()) {
             return true;
+        }
+        if name.contains('/') {
+            return self.has_path(name);
         }
         let here: Vec<&Definition> = self
             .definitions

@@ -669,10 +669,12 @@ drawer 1 pulled: 240 blocks are as written
 all written anew: 240 blocks are as written
 drawer 1 replaced, the growth over: 240 blocks are as written
 ";
-    assert_eq!(text(&run(&mut Command::new(&*DRAWERS)).stdout), printed);
     let folder = empty(&target().join("c/drawers"));
-    let output = run(Command::new(&*DRAWERS).arg(&folder));
-    assert_eq!(text(&output.stdout), printed);
+    let made = run(Command::new(&*DRAWERS).current_dir(&folder));
+    let given = run(Command::new(&*DRAWERS).arg(&folder));
+    for output in [made, given] {
+        assert_eq!(text(&output.stdout), printed);
+    }
     assert_eq!(fs::read_dir(&folder).unwrap().count(), 0, "nothing is left");
 
     // what is there already stays as it is
