@@ -204,7 +204,7 @@ fn split(text: &str, at: char) -> impl Iterator<Item = &str> {
 const ANSWER: &str = "@";
 
 /// Types that have values, so that what is said of all of them says something.
-const INHABITED: &[&str] = &["ℕ", "Record", "List ℕ", "Flat"];
+const INHABITED: &[&str] = &["ℕ", "Record", "List ℕ"];
 
 /// Records of equations that contracts cite: name, and the argument that each equation is about. `Stored out at text after next`
 /// says what `after` and `next` are.
@@ -279,19 +279,24 @@ fn promised(formula: &[String]) -> Vec<[String; 2]> {
     }
 }
 
-/// `x : T`, of a type that has values; x must not hide the answer.
+/// `(x y : T) (z : U)`, of types that have values; no variable must hide the answer.
 fn is_binder(premise: &[String]) -> bool {
-    match premise {
-        [name, colon, kind @ ..] => {
-            name != ANSWER && colon == ":" && INHABITED.contains(&kind.join(" ").as_str())
+    let groups = match premise.first() {
+        Some(first) if first == "(" => arguments(premise),
+        _ => vec![premise.join(" ")],
+    };
+    groups.iter().all(|group| match group.split_once(" : ") {
+        Some((names, kind)) => {
+            names.split(' ').all(|name| name != ANSWER) && INHABITED.contains(&kind)
         }
-        _ => false,
-    }
+        None => false,
+    })
 }
 
 /// The equations of a record that the formula cites.
 fn cited(formula: &[String]) -> Vec<[String; 2]> {
-    let known = RECORDS.iter().find(|(name, _)| formula[0] == *name);
+    let is_cited = |name: &str| formula.first().is_some_and(|first| first == name);
+    let known = RECORDS.iter().find(|(name, _)| is_cited(name));
     let Some((name, about)) = known else {
         return Vec::new();
     };
@@ -338,42 +343,42 @@ impl Function {
     pub fn says_answer(&self, structs: &Structs) -> bool {
         match &self.returns {
             None => true,
-            Some(kind) if kind.starts_with('&') => self.given().contains(&format!("now {ANSWER}")),
+            Some(_) if self.returns_reference() => self.given().contains(&format!("now {ANSWER}")),
             Some(kind) => says_all(&self.given(), ANSWER, kind, structs),
         }
     }
 
-    /// Whether it says what it leaves of this parameter, which it is lent to write: what it holds at exit; or it is handed back
-    /// through another one, which is then named at exit and begins where this one did.
+    /// Whether it says what it leaves of this parameter, which it is lent to write: what it holds at exit; or, where a reference is
+    /// returned, that it is handed back through another parameter.
     pub fn says_exit(&self, parameter: &Parameter) -> bool {
-        let given = self.given();
         let name = &parameter.name;
         let held = format!("now ( {name} .exit )");
+        let given = self.given();
+        let mut others = self.parameters.iter().filter(|p| p.is_written());
         given.iter().any(|side| lists(side).contains(&held))
-            || self.hands_back(name)
-            || self.parameters.iter().any(|back| {
-                back.name != *name && back.is_written() && self.returns_through(back, name)
-            })
+            || self.points(name)
+            || (self.returns_reference() && others.any(|p| self.hands_back(name, &p.name)))
     }
 
-    /// `p: &mut &[u8]`: what it points to at exit, and where that begins.
-    fn hands_back(&self, p: &str) -> bool {
+    fn returns_reference(&self) -> bool {
+        self.returns
+            .as_ref()
+            .is_some_and(|kind| kind.starts_with('&'))
+    }
+
+    /// Whether it says of `p: &mut &[u8]` what p points to at exit, and where that begins.
+    fn points(&self, p: &str) -> bool {
         let given = self.given();
         given.contains(&format!("now ( now ( {p} .exit ) )"))
             && given.contains(&format!("now ( {p} .exit ) .ptr"))
     }
 
-    fn returns_through(&self, back: &Parameter, name: &str) -> bool {
-        let p = &back.name;
-        let begins = [
-            format!("now ( {p} .exit ) .ptr"),
-            format!("{name} .entry .ptr"),
-        ];
-        let same = |[left, right]: [String; 2]| {
-            [&left, &right] == [&begins[0], &begins[1]]
-                || [&right, &left] == [&begins[0], &begins[1]]
-        };
-        self.hands_back(p) && self.ensures.iter().flat_map(equations).any(same)
+    /// Whether what p points to at exit begins where `name` began.
+    fn hands_back(&self, name: &str, p: &str) -> bool {
+        let start = format!("now ( {p} .exit ) .ptr");
+        let entry = format!("{name} .entry .ptr");
+        let mut sides = self.ensures.iter().flat_map(equations);
+        self.points(p) && sides.any(|two| two.contains(&start) && two.contains(&entry))
     }
 
     /// The parameters that it is lent to write and does not speak of.
