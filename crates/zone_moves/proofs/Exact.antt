@@ -2,7 +2,7 @@
 use Prim.Native.Nat.{ℕ, _+_, _≤_, _<_}
 use mathlib.Core.Path.{_≡_, refl, sym, ap, _∙_}
 use mathlib.Core.Bool.{and-false}
-use mathlib.Core.List.{List, _++_, append-assoc}
+use mathlib.Core.List.{List, [], _∷_, _++_, append-assoc}
 use mathlib.Core.Logic.{inl, inr}
 use native.Mathlib.Omega.{arith}
 use lib.ListN.{length, getD, take, drop}
@@ -14,10 +14,11 @@ use Rattle.zone_moves.specs.declared.parse.Request.the-variants.{Zone}
 use Rattle.zone_moves.specs.declared.parse.Request.{Request}
 use Rattle.zone_moves.specs.Decimal.{spell, decimal}
 use Rattle.zone_moves.specs.Request.{Limited, isDigit, inLimits, fieldOf, fieldAt, askZone, askNew, askOld, requestOf}
-use Rattle.zone_moves.specs.Listing.{column, moveLine, linesOf, answered, answer}
-use Rattle.zone_moves.specs.Exact.{line, asked, listed, Exact}
+use Rattle.zone_moves.specs.Listing.{column, moveLine, linesOf, indices, zoneMoves, answered, answer}
+use Rattle.zone_moves.specs.Exact.{line, ZoneMoves, asked, listed, asked-of-four, listed-of-four, Exact}
 use Rattle.zone_moves.proofs.Laws.Fields.{limited, limits-pass, zone-asked, Seen, one, two, none, look, Ends, ends, nowhere, field-ends, Line, asks, other, look-line}
 use Rattle.zone_moves.proofs.Laws.Reading.{field-text, field-reads, drop-more}
+use Rattle.zone_moves.proofs.Laws.Indices.{zone-moves}
 use Rattle.layout.proofs.Laws.Basics.{le-or-lt}
 
 -- ---- what is meant is read
@@ -34,6 +35,12 @@ line-reads n m z rest l =
     (field-reads s (0 + length (column n 32)) m 32 _ (omega arith) (omega arith) f)
     (field-reads s (0 + length (column n 32) + length (column m 32)) z 10 rest (omega arith) (omega arith) g)
     (limits-pass l)
+
+-- and answered by the lines of its zone's moves
+line-zone : (n m z : ℕ) (rest : List ℕ) → Limited n m z → (ks : List ℕ) × ZoneMoves n m z ks × (answer (line n m z ++ rest) ≡ linesOf n m ks)
+unfolding answer answered
+line-zone n m z rest l =
+    (zoneMoves n m z, zone-moves n m z (omega (arith, l .disks .n-low)) (l .new), ap answered (line-reads n m z rest l))
 
 -- ---- what is read is meant
 
@@ -141,18 +148,25 @@ module _ (s : List ℕ) (k : ℕ) (feed : getD s k 0 ≡ 10) where
   line-enough : requestOf (take (k + 1) s) ≡ requestOf s
   line-enough = request-same (take (k + 1) s) s k k (omega arith) feed-field feed-ends (feed-ends 0 (omega arith))
 
--- ---- the example
+-- ---- the examples
 
-computed : answer asked ≡ listed
-unfolding answer answered requestOf askOld askNew askZone fieldAt fieldOf isDigit inLimits linesOf moveLine column decimal spell moveZone moveWithin moveFrom moveTo moveLag
-computed = refl
+computed : (answer asked ≡ listed) × (answer asked-of-four ≡ listed-of-four)
+unfolding answer answered requestOf askOld askNew askZone fieldAt fieldOf isDigit inLimits zoneMoves indices linesOf moveLine column decimal spell moveZone moveWithin moveFrom moveTo moveLag
+computed = (refl, refl)
+
+five : zoneMoves 5 3 2 ≡ 30 ∷ 31 ∷ 32 ∷ 33 ∷ 34 ∷ 35 ∷ 36 ∷ 37 ∷ 38 ∷ 39 ∷ 40 ∷ 41 ∷ 42 ∷ 43 ∷ 44 ∷ []
+unfolding zoneMoves indices
+five = refl
 
 pub exact : Exact
 exact =
     record {
       reads = line-reads;
+      zone = line-zone;
       only = λ s n m z e. line-only (look-line s) e;
       first-nine = λ s. answer-of (take 9 s) s (nine s);
       first-line = λ s k e. answer-of (take (k + 1) s) s (line-enough s k e);
-      example = computed;
+      example = computed .0;
+      example-of-four = computed .1;
+      zone-of-five = five;
     }

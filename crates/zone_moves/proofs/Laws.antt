@@ -3,5 +3,6 @@ pub mod Storing
 pub mod Digits
 pub mod Fields
 pub mod Lines
+pub mod Indices
 pub mod Answers
 pub mod Reading

@@ -14,23 +14,34 @@ use Rattle.zone_moves.specs.Request.{requestOf}
 unfoldable pub column : ℕ → ℕ → List ℕ
 column x stop = decimal x ++ (stop ∷ [])
 
--- move k: "index, zone, stripe within the zone, old disk, new disk, separated by single spaces, each line ended by a line feed"
+-- move k: "index, zone, stripe within the zone, old disk, new disk", with a space between them, as document 01 prints them; "each printed
+-- line ends with a line feed"
 unfoldable pub moveLine : ℕ → ℕ → ℕ → List ℕ
-moveLine n m k = column k 32 ++ column (moveZone n m k) 32 ++ column (moveWithin n m k) 32 ++ column (moveFrom n m k) 32 ++ column (moveTo n m k) 10
+moveLine n m k =
+    column k 32 ++ column (moveZone n m k) 32 ++ column (moveWithin n m k) 32 ++ column (moveFrom n m k) 32 ++ column (moveTo n m k) 10
 
--- `count` moves from `first` on, in order
-unfoldable pub linesOf : ℕ → ℕ → ℕ → ℕ → List ℕ
-linesOf n m first zero = []
-linesOf n m first (suc count) = linesOf n m first count ++ moveLine n m (first + count)
+-- the lines of some moves, one behind the other; a move is given by its index
+unfoldable pub linesOf : ℕ → ℕ → List ℕ → List ℕ
+linesOf n m [] = []
+linesOf n m (k ∷ ks) = moveLine n m k ++ linesOf n m ks
+
+-- `count` indices from `first` on, rising
+unfoldable pub indices : ℕ → ℕ → List ℕ
+indices first zero = []
+indices first (suc count) = indices first count ++ ((first + count) ∷ [])
+
+-- "zone z's moves": they are the m * n from index z * m * n on (`ZoneMoves` of Exact.antt says what that has to mean)
+unfoldable pub zoneMoves : ℕ → ℕ → ℕ → List ℕ
+zoneMoves n m z = indices (z * m * n) (m * n)
 
 -- "refused 6" and a line feed
 abbrev pub refusal : List ℕ
 refusal = 114 ∷ 101 ∷ 102 ∷ 117 ∷ 115 ∷ 101 ∷ 100 ∷ 32 ∷ 54 ∷ 10 ∷ []
 
--- zone z has the m * n moves from index z * m * n on
+-- the answer to a request
 unfoldable pub answered : Request → List ℕ
 answered Refused = refusal
-answered (Zone n m z) = linesOf n m (z * m * n) (m * n)
+answered (Zone n m z) = linesOf n m (zoneMoves n m z)
 
 -- the answer to an input
 unfoldable pub answer : List ℕ → List ℕ

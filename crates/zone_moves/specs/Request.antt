@@ -27,7 +27,7 @@ fieldOf a b c at stop =
 unfoldable pub fieldAt : List ℕ → ℕ → ℕ → Field
 fieldAt s at stop = fieldOf (getD s at 0) (getD s (at + 1) 0) (getD s (at + 2) 0) at stop
 
--- "n 3 to 16, m 1 to 16, z 0 to n − 1"
+-- "n, the old disks, is 3 to 16; m, the new ones, 1 to 16", and "z from 0 to n − 1"
 unfoldable pub inLimits : ℕ → ℕ → ℕ → Bool
 inLimits n m z = leb 3 n && leb n 16 && leb 1 m && leb m 16 && ltb z n
 

@@ -3,7 +3,7 @@ ghost use Prim.Native.Nat.{_+_, _*_, _≤_, _<_};
 ghost use mathlib.Core.Path.{_≡_};
 ghost use lib.ListN.{length};
 ghost use Rattle.layout.specs.Limits.{Disks};
-ghost use Rattle.zone_moves.specs.Listing.{Listed, moveLine, linesOf, answer, written, Stored};
+ghost use Rattle.zone_moves.specs.Listing.{Listed, moveLine, linesOf, indices, answer, written, Stored};
 use crate::parse::Request;
 use crate::parse::request_of;
 use crate::print::put_column;
@@ -29,7 +29,7 @@ fn put_line(out: &mut [u8], at: usize, n: u64, m: u64, k: u64) -> usize
 // The lines of count moves from first on, at the start of out.
 fn put_lines(out: &mut [u8], n: u64, m: u64, first: u64, count: u64) -> usize
     requires { ⌜ Disks n m × (0 < m) × (first + count ≤ n * m * n) × (17 * count ≤ length (now out)) ⌝ }
-    ensures { λ r. ⌜ Stored (now (out .entry)) 0 (linesOf n m first count) (now (out .exit)) r ⌝ }
+    ensures { λ r. ⌜ Stored (now (out .entry)) 0 (linesOf n m (indices first count)) (now (out .exit)) r ⌝ }
 {
     let mut at = 0;
     let mut i = 0;

@@ -9,7 +9,7 @@ use Rattle.layout.specs.Limits.{Disks}
 use Rattle.zone_moves.specs.declared.parse.Request.the-variants.{Zone, Refused}
 use Rattle.zone_moves.specs.declared.parse.Request.{Request}
 use Rattle.zone_moves.specs.Request.{Limited, requestOf}
-use Rattle.zone_moves.specs.Listing.{linesOf, refusal, answered, answer, written, Stored}
+use Rattle.zone_moves.specs.Listing.{linesOf, indices, zoneMoves, refusal, answered, answer, written, Stored}
 use Rattle.io.specs.Counts.{Counts}
 use Rattle.zone_moves.proofs.Laws.Storing.{length-written}
 use Rattle.zone_moves.proofs.Laws.Fields.{limited, Line, asks, other, look-line}
@@ -50,8 +50,8 @@ line-limited other q = let i : _≡_ {A = ℕ} 0 1 = cc in absurd (omega arith)
 pub zone-sized : (s : List ℕ) {n m z : ℕ} → requestOf s ≡ Zone n m z → Sized n m z
 zone-sized s e = sized (line-limited (look-line s) e)
 
-pub answer-zone : (s : List ℕ) {n m z : ℕ} → requestOf s ≡ Zone n m z → answer s ≡ linesOf n m (z * m * n) (m * n)
-unfolding answer answered
+pub answer-zone : (s : List ℕ) {n m z : ℕ} → requestOf s ≡ Zone n m z → answer s ≡ linesOf n m (indices (z * m * n) (m * n))
+unfolding answer answered zoneMoves
 answer-zone s e = ap answered e
 
 pub answer-refused : (s : List ℕ) → requestOf s ≡ Refused → answer s ≡ refusal
@@ -59,7 +59,7 @@ unfolding answer answered
 answer-refused s e = ap answered e
 
 answered-short : {s : List ℕ} {r : Request} → Line s r → length (answered r) ≤ 4352
-unfolding answered
+unfolding answered zoneMoves
 answered-short (asks n a m b z c e h k l) =
     let t : Sized n m z = sized (limited n m z l) in
     omega (arith, length-lines n m (z * m * n) (m * n) (t .disks) (t .new) (t .room))

@@ -1,14 +1,14 @@
 -- Lines of moves: their columns are short. Assumes nothing.
 use Prim.Native.Nat.{ℕ, zero, suc, _+_, _*_, _≤_, _<_, zero-le}
-use mathlib.Core.Path.{_≡_, refl, ap, subst⁻¹, _∙_}
-use mathlib.Core.List.{List, _++_}
+use mathlib.Core.Path.{_≡_, refl, sym, ap, subst⁻¹, _∙_}
+use mathlib.Core.List.{List, [], _∷_, _++_, append-nil, append-assoc}
 use native.Mathlib.Numerals.{add-one}
 use native.Mathlib.Omega.{arith}
 use lib.ListN.{length, length-append}
 use Rattle.layout.specs.declared.Move.{Move}
 use Rattle.layout.specs.Moves.{moveWithin, moveTo, moveOf}
 use Rattle.layout.specs.Limits.{Disks}
-use Rattle.zone_moves.specs.Listing.{column, moveLine, linesOf, Listed, Stored}
+use Rattle.zone_moves.specs.Listing.{column, moveLine, linesOf, indices, Listed, Stored}
 use Rattle.zone_moves.proofs.Laws.Storing.{stored-nil, stored-as, stored-append}
 use Rattle.zone_moves.proofs.Laws.Digits.{length-small, length-most, length-column}
 use Rattle.layout.proofs.Laws.Basics.{times}
@@ -89,37 +89,48 @@ line-stored room s f g h i j =
     (stored-append (simp length-append (omega arith)) (stored-append (simp length-append (omega arith)) (stored-append (omega arith) f g) h) i)
     j
 
+-- ---- the lines of some moves, and of one move more
+
+lines-append : (n m : ℕ) (a b : List ℕ) → linesOf n m (a ++ b) ≡ linesOf n m a ++ linesOf n m b
+unfolding linesOf
+lines-append n m [] b = refl
+lines-append n m (k ∷ ks) b = ap (λ (t : List ℕ). moveLine n m k ++ t) (lines-append n m ks b) ∙ sym (append-assoc (moveLine n m k) (linesOf n m ks) (linesOf n m b))
+
+pub lines-suc : (n m first count : ℕ) → linesOf n m (indices first (suc count)) ≡ linesOf n m (indices first count) ++ moveLine n m (first + count)
+unfolding linesOf indices
+lines-suc n m first count =
+    lines-append n m (indices first count) ((first + count) ∷ []) ∙ ap (λ (t : List ℕ). linesOf n m (indices first count) ++ t) (append-nil (moveLine n m (first + count)))
+
 -- ---- the lines of the first i of some moves
 
 pub record Printed (out : List ℕ) (n m first count : ℕ) (after : List ℕ) (at i : ℕ) : Type 0 where
-  pub stored : Stored out 0 (linesOf n m first i) after at
+  pub stored : Stored out 0 (linesOf n m (indices first i)) after at
   pub size : length after ≡ length out
   pub short : at ≤ 17 * i
   pub within : i ≤ count
 
 pub printed-none : {out : List ℕ} {n m first count : ℕ} → Printed out n m first count out 0 0
-unfolding linesOf
+unfolding linesOf indices
 printed-none = record { stored = stored-nil; size = refl; short = zero-le; within = zero-le }
 
 pub printed-more : {out : List ℕ} {n m first count : ℕ} {after : List ℕ} {at i : ℕ} {last : List ℕ} {next : ℕ} → i < count → 17 * count ≤ length out → Listed n m (first + i)
     → Printed out n m first count after at i → Stored after at (moveLine n m (first + i)) last next → length last ≡ length after → Printed out n m first count last next (i + 1)
-unfolding linesOf
 printed-more {out} {n} {m} {first} {count} {after} {at} {i} h room l f g e =
     record {
-      stored = rw (add-one i) (stored-append (omega arith) (f .stored) g);
+      stored = rw (add-one i, lines-suc n m first i) (stored-append (omega arith) (f .stored) g);
       size = e ∙ f .size;
       short = omega (arith, length-line n m (first + i) l);
       within = omega arith;
     }
 
-pub printed-all : {out : List ℕ} {n m first count : ℕ} {after : List ℕ} {at i : ℕ} → Printed out n m first count after at i → count ≤ i → Stored out 0 (linesOf n m first count) after at
-printed-all {n = n} {m} {first} {count} {i = i} f h = let e : i ≡ count = omega arith in stored-as (ap (linesOf n m first) e) (f .stored)
+pub printed-all : {out : List ℕ} {n m first count : ℕ} {after : List ℕ} {at i : ℕ} → Printed out n m first count after at i → count ≤ i → Stored out 0 (linesOf n m (indices first count)) after at
+printed-all {n = n} {m} {first} {count} {i = i} f h = let e : i ≡ count = omega arith in stored-as (ap (λ (c : ℕ). linesOf n m (indices first c)) e) (f .stored)
 
 -- a zone's lines are at most 17 bytes each
-pub length-lines : (n m first count : ℕ) → Disks n m → 0 < m → first + count ≤ n * m * n → length (linesOf n m first count) ≤ 17 * count
-unfolding linesOf
+pub length-lines : (n m first count : ℕ) → Disks n m → 0 < m → first + count ≤ n * m * n → length (linesOf n m (indices first count)) ≤ 17 * count
+unfolding linesOf indices
 length-lines n m first zero d p h = zero-le
 length-lines n m first (suc count) d p h =
-    rw length-append
+    rw (lines-suc n m first count, length-append)
     (omega
     (arith, length-lines n m first count d p (omega arith), length-line n m (first + count) (record { disks = d; new = p; index = omega arith })))
