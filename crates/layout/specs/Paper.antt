@@ -1,33 +1,129 @@
--- The paper's own worked cases, its table 2 and its figure 6(a), over the definitions; `paper` of proofs/Paper.antt computes them.
+-- Worked cases over the definitions; `paper` of proofs/Paper.antt computes them: the paper's table 2, figure 5 and figure 6(a), and two
+-- growths whose values were found by replaying the moves of document 01's rule one by one on a table of places.
 -- (Document 01's cases are one table over the calls: crate `array`, specs/Bench.antt.)
-use Prim.Native.Nat.{ℕ}
+use Prim.Native.Nat.{ℕ, zero, suc}
 use mathlib.Core.Path.{_≡_}
 use mathlib.Core.List.{List, [], _∷_}
 use Rattle.layout.specs.declared.Geometry.{Geometry}
 use Rattle.layout.specs.declared.Move.{Move}
+use Rattle.layout.specs.declared.Place.{Place}
 use Rattle.layout.specs.declared.Role.the-variants.{Data, Parity, Blank}
 use Rattle.layout.specs.declared.Role.{Role}
+use Rattle.layout.specs.Home.{placeAt}
 use Rattle.layout.specs.Moves.{moveOf}
-use Rattle.layout.specs.Layout.{layout}
+use Rattle.layout.specs.Layout.{totalOf, layout}
 
--- 3 disks grown by 2, 15 stripes, after t moves
+-- ---- three arrays, after t moves: 3 disks grown by 2 (18 moves), 4 by 1 (16), 5 by 3 (75)
+
 abbrev pub mill : ℕ → Geometry
 mill t = record { old = 3; new = 2; stripes = 15; moves = t }
+
+abbrev pub even : ℕ → Geometry
+even t = record { old = 4; new = 1; stripes = 20; moves = t }
+
+abbrev pub wide : ℕ → Geometry
+wide t = record { old = 5; new = 3; stripes = 40; moves = t }
+
+-- ---- the words of the table
 
 abbrev pub move : ℕ → ℕ → ℕ → ℕ → ℕ → Move
 move Z s S d p = record { zone = Z; within = s; stripe = S; from = d; to = p }
 
--- what disk d holds in the first zone's stripes
-abbrev pub row : ℕ → ℕ → List Role
-row t d = layout (mill t) .owner 0 d ∷ layout (mill t) .owner 1 d ∷ layout (mill t) .owner 2 d ∷ layout (mill t) .owner 3 d ∷ layout (mill t) .owner 4 d ∷ []
+-- some moves, from index k on
+unfoldable pub moves : ℕ → ℕ → ℕ → ℕ → List Move
+moves n m k zero = []
+moves n m k (suc count) = moveOf n m k ∷ moves n m (suc k) count
+
+-- what disk d holds in some stripes, from S on
+unfoldable pub row : Geometry → ℕ → ℕ → ℕ → List Role
+row g d S zero = []
+row g d S (suc count) = layout g .owner S d ∷ row g d (suc S) count
+
+-- where some blocks stand, from block b on
+unfoldable pub places : Geometry → ℕ → ℕ → List Place
+places g b zero = []
+places g b (suc count) = layout g .place b ∷ places g (suc b) count
+
+-- where the parity of some stripes stands, from S on
+unfoldable pub parities : Geometry → ℕ → ℕ → List ℕ
+parities g S zero = []
+parities g S (suc count) = layout g .parity S ∷ parities g (suc S) count
 
 pub record Paper : Type 0 where
   -- the paper's table 2: zone 1, p = 3 and p = 4
-  pub table-2 : (moveOf 3 2 6 ≡ move 1 3 8 2 3) × (moveOf 3 2 7 ≡ move 1 2 7 0 3) × (moveOf 3 2 8 ≡ move 1 1 6 1 3) × (moveOf 3 2 9 ≡ move 1 4 9 0 4) × (moveOf 3 2 10 ≡ move 1 3 8 1 4) × (moveOf 3 2 11 ≡ move 1 2 7 2 4)
-  -- the paper's figure 6(a): zone 0 with its six moves made, disk by disk
+  pub table-2 :
+      moves 3 2 6 6
+      ≡ move 1 3 8 2 3 ∷ move 1 2 7 0 3 ∷ move 1 1 6 1 3 ∷
+      move 1 4 9 0 4 ∷ move 1 3 8 1 4 ∷ move 1 2 7 2 4 ∷ []
+  -- the paper's figure 6(a): zone 0 with its six moves made, disk by disk ..
   pub figure-6 :
-      (row 6 0 ≡ Parity ∷ Data 3 ∷ Blank ∷ Blank ∷ Data 9 ∷ []) ×
-      (row 6 1 ≡ Data 1 ∷ Parity ∷ Blank ∷ Data 7 ∷ Blank ∷ []) ×
-      (row 6 2 ≡ Data 0 ∷ Blank ∷ Parity ∷ Blank ∷ Data 8 ∷ []) ×
-      (row 6 3 ≡ Blank ∷ Data 2 ∷ Data 4 ∷ Parity ∷ Blank ∷ []) ×
-      (row 6 4 ≡ Blank ∷ Blank ∷ Data 5 ∷ Data 6 ∷ Parity ∷ [])
+      (row (mill 6) 0 0 5 ≡ Parity ∷ Data 3 ∷ Blank ∷ Blank ∷ Data 9 ∷ []) ×
+      (row (mill 6) 1 0 5 ≡ Data 1 ∷ Parity ∷ Blank ∷ Data 7 ∷ Blank ∷ []) ×
+      (row (mill 6) 2 0 5 ≡ Data 0 ∷ Blank ∷ Parity ∷ Blank ∷ Data 8 ∷ []) ×
+      (row (mill 6) 3 0 5 ≡ Blank ∷ Data 2 ∷ Data 4 ∷ Parity ∷ Blank ∷ []) ×
+      (row (mill 6) 4 0 5 ≡ Blank ∷ Blank ∷ Data 5 ∷ Data 6 ∷ Parity ∷ [])
+  -- .. and the same figure read from number to place: its blocks 0 to 9, and P₀ to P₄
+  pub figure-6-places :
+      places (mill 6) 0 10
+      ≡ placeAt 0 2 ∷ placeAt 0 1 ∷ placeAt 1 3 ∷ placeAt 1 0 ∷ placeAt 2 3 ∷
+      placeAt 2 4 ∷ placeAt 3 4 ∷ placeAt 3 1 ∷ placeAt 4 2 ∷ placeAt 4 0 ∷ []
+  pub figure-6-parities : parities (mill 6) 0 5 ≡ 0 ∷ 1 ∷ 2 ∷ 3 ∷ 4 ∷ []
+  -- on the way to it, four of the six moves made: blocks 5 and 6 wait for theirs
+  pub mid-zone :
+      (row (mill 4) 0 0 5 ≡ Parity ∷ Data 3 ∷ Data 5 ∷ Blank ∷ Data 9 ∷ []) ×
+      (row (mill 4) 1 0 5 ≡ Data 1 ∷ Parity ∷ Blank ∷ Data 7 ∷ Blank ∷ []) ×
+      (row (mill 4) 2 0 5 ≡ Data 0 ∷ Blank ∷ Parity ∷ Data 6 ∷ Data 8 ∷ []) ×
+      (row (mill 4) 3 0 5 ≡ Blank ∷ Data 2 ∷ Data 4 ∷ Parity ∷ Blank ∷ []) ×
+      (row (mill 4) 4 0 5 ≡ Blank ∷ Blank ∷ Blank ∷ Blank ∷ Parity ∷ [])
+  pub mid-zone-places :
+      places (mill 4) 0 10
+      ≡ placeAt 0 2 ∷ placeAt 0 1 ∷ placeAt 1 3 ∷ placeAt 1 0 ∷ placeAt 2 3 ∷
+      placeAt 2 0 ∷ placeAt 3 2 ∷ placeAt 3 1 ∷ placeAt 4 2 ∷ placeAt 4 0 ∷ []
+  -- the paper's figure 5: the first three new blocks. It shows one zone of five stripes, whose ten old blocks are 0 to 9, and so calls them
+  -- 10, 11 and 12; here there are three such zones, so thirty old blocks, and they are 30, 31 and 32
+  pub figure-5 : places (mill 18) 30 3 ≡ placeAt 0 3 ∷ placeAt 0 4 ∷ placeAt 1 2 ∷ []
+  -- n = 4, an even number: zone 0 takes two blocks each from disks 0 and 2, zone 1 two each from disks 1 and 3
+  pub even-moves :
+      moves 4 1 0 8
+      ≡ move 0 4 4 0 4 ∷ move 0 3 3 2 4 ∷ move 0 2 2 0 4 ∷ move 0 1 1 2 4 ∷
+      move 1 4 9 1 4 ∷ move 1 3 8 3 4 ∷ move 1 2 7 1 4 ∷ move 1 1 6 3 4 ∷ []
+  -- after 6 of its 16 moves, in the middle of zone 1: disk by disk, stripes 5 to 9
+  pub even-owners :
+      (row (even 6) 0 5 5 ≡ Data 17 ∷ Data 20 ∷ Data 23 ∷ Parity ∷ Data 29 ∷ []) ×
+      (row (even 6) 1 5 5 ≡ Parity ∷ Data 19 ∷ Data 22 ∷ Data 26 ∷ Blank ∷ []) ×
+      (row (even 6) 2 5 5 ≡ Data 16 ∷ Parity ∷ Data 21 ∷ Data 25 ∷ Data 28 ∷ []) ×
+      (row (even 6) 3 5 5 ≡ Data 15 ∷ Data 18 ∷ Parity ∷ Blank ∷ Data 27 ∷ []) ×
+      (row (even 6) 4 5 5 ≡ Blank ∷ Blank ∷ Blank ∷ Data 24 ∷ Parity ∷ [])
+  pub even-places :
+      places (even 6) 15 15
+      ≡ placeAt 5 3 ∷ placeAt 5 2 ∷ placeAt 5 0 ∷ placeAt 6 3 ∷ placeAt 6 1 ∷ placeAt 6 0 ∷ placeAt 7 2 ∷ placeAt 7 1 ∷ placeAt 7 0 ∷
+      placeAt 8 4 ∷ placeAt 8 2 ∷ placeAt 8 1 ∷ placeAt 9 3 ∷ placeAt 9 2 ∷ placeAt 9 0 ∷ []
+  pub even-parities : parities (even 6) 5 5 ≡ 1 ∷ 2 ∷ 3 ∷ 0 ∷ 4 ∷ []
+  -- all moves made: one new block in each stripe
+  pub even-new :
+      places (even 16) 60 6 ≡ placeAt 0 4 ∷ placeAt 1 2 ∷ placeAt 2 0 ∷ placeAt 3 2 ∷ placeAt 4 0 ∷ placeAt 5 4 ∷ []
+  -- n = 5, m = 3: the moves of zone 2 to disk 6
+  pub wide-moves :
+      moves 5 3 35 5 ≡ move 2 6 22 2 6 ∷ move 2 5 21 0 6 ∷ move 2 4 20 3 6 ∷ move 2 3 19 1 6 ∷ move 2 2 18 4 6 ∷ []
+  -- after 37 of its 75 moves, two of those to disk 6 made: disk by disk, stripes 16 to 23
+  pub wide-owners :
+      (row (wide 37) 0 16 8 ≡ Data 67 ∷ Data 71 ∷ Blank ∷ Data 79 ∷ Parity ∷ Blank ∷ Data 91 ∷ Data 95 ∷ []) ×
+      (row (wide 37) 1 16 8 ≡ Parity ∷ Data 70 ∷ Data 74 ∷ Data 78 ∷ Data 83 ∷ Blank ∷ Data 90 ∷ Data 94 ∷ []) ×
+      (row (wide 37) 2 16 8 ≡ Data 66 ∷ Parity ∷ Data 73 ∷ Blank ∷ Data 82 ∷ Data 86 ∷ Blank ∷ Data 93 ∷ []) ×
+      (row (wide 37) 3 16 8 ≡ Data 65 ∷ Blank ∷ Parity ∷ Data 76 ∷ Data 81 ∷ Data 85 ∷ Data 89 ∷ Parity ∷ []) ×
+      (row (wide 37) 4 16 8 ≡ Data 64 ∷ Data 68 ∷ Data 72 ∷ Parity ∷ Blank ∷ Data 84 ∷ Data 88 ∷ Data 92 ∷ []) ×
+      (row (wide 37) 5 16 8 ≡ Blank ∷ Data 69 ∷ Data 75 ∷ Data 77 ∷ Data 80 ∷ Parity ∷ Blank ∷ Blank ∷ []) ×
+      (row (wide 37) 6 16 8 ≡ Blank ∷ Blank ∷ Blank ∷ Blank ∷ Blank ∷ Data 87 ∷ Parity ∷ Blank ∷ []) ×
+      (row (wide 37) 7 16 8 ≡ Blank ∷ Blank ∷ Blank ∷ Blank ∷ Blank ∷ Blank ∷ Blank ∷ Blank ∷ [])
+  pub wide-places :
+      places (wide 37) 76 12
+      ≡ placeAt 19 3 ∷ placeAt 19 5 ∷ placeAt 19 1 ∷ placeAt 19 0 ∷ placeAt 20 5 ∷ placeAt 20 3 ∷ placeAt 20 2 ∷ placeAt 20 1 ∷
+      placeAt 21 4 ∷ placeAt 21 3 ∷ placeAt 21 2 ∷ placeAt 21 6 ∷ []
+  pub wide-parities : parities (wide 37) 16 8 ≡ 1 ∷ 2 ∷ 3 ∷ 4 ∷ 0 ∷ 5 ∷ 6 ∷ 3 ∷ []
+  -- all moves made: three new blocks in each stripe, here those of stripes 16 to 20
+  pub wide-new :
+      places (wide 75) 208 15
+      ≡ placeAt 16 5 ∷ placeAt 16 6 ∷ placeAt 16 7 ∷ placeAt 17 3 ∷ placeAt 17 6 ∷ placeAt 17 7 ∷ placeAt 18 0 ∷ placeAt 18 4 ∷
+      placeAt 18 7 ∷ placeAt 19 0 ∷ placeAt 19 1 ∷ placeAt 19 2 ∷ placeAt 20 2 ∷ placeAt 20 3 ∷ placeAt 20 4 ∷ []
+  pub wide-new-owners : row (wide 75) 2 16 8 ≡ Data 66 ∷ Parity ∷ Data 73 ∷ Data 219 ∷ Data 220 ∷ Data 86 ∷ Data 227 ∷ Data 93 ∷ []
+  pub totals : (totalOf (mill 0) ≡ 18) × (totalOf (even 0) ≡ 16) × (totalOf (wide 0) ≡ 75)

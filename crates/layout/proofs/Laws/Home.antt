@@ -64,15 +64,19 @@ module _ (n : ℕ) (pn : 2 ≤ n) where
 
   pub home-lt : (b : ℕ) → homeDisk n b < n
   unfolding homeDisk
-  home-lt b = disk-lt (homeStripe n b) (b % (n - 1)) (rest-lt b)
+  home-lt b = disk-lt (homeStripe n b) _ (omega (arith, rest-lt b))
 
   pub home-data : (b : ℕ) → homeDisk n b ≢ parityDisk n (homeStripe n b)
   unfolding homeDisk
-  home-data b = disk-data (homeStripe n b) (b % (n - 1)) (rest-lt b)
+  home-data b = disk-data (homeStripe n b) _ (omega (arith, rest-lt b))
+
+  rank-home : (b : ℕ) → rankOf n (homeStripe n b) (homeDisk n b) ≡ b % (n - 1)
+  unfolding homeDisk
+  rank-home b = rank-disk (homeStripe n b) _ (omega (arith, rest-lt b)) ∙ omega arith
 
   pub block-home : (b : ℕ) → homeBlock n (homeStripe n b) (homeDisk n b) ≡ b
-  unfolding homeBlock homeDisk
-  block-home b = rw (rank-disk (homeStripe n b) (b % (n - 1)) (rest-lt b)) (unfold homeStripe in div-add-mod' b (n - 1))
+  unfolding homeBlock
+  block-home b = rw (rank-home b) (unfold homeStripe in div-add-mod' b (n - 1))
 
   module _ (S d : ℕ) (h : d < n) (e : d ≢ parityDisk n S) where
     pub stripe-block : homeStripe n (homeBlock n S d) ≡ S
