@@ -9,7 +9,7 @@ ghost use Rattle.io.specs.Counts.{Counts};
 use libc::STDIN_FILENO;
 use libc::STDOUT_FILENO;
 
-// Room for the longest line that asks for a zone, "16 16 15\n".
+// Room for the longest line that asks for a zone: `16 16 15` and a line feed.
 fn line_buffer() -> [u8; 9]
     ensures { λ r. ⌜ 9 ≡ length r ⌝ }
 {
