@@ -3,18 +3,18 @@ use Prim.Native.Nat.{ℕ, _+_, _≤_, _<_}
 use mathlib.Core.Path.{_≡_, refl, sym, ap, _∙_}
 use mathlib.Core.Bool.{and-false}
 use mathlib.Core.List.{List, [], _∷_, _++_, append-assoc}
-use mathlib.Core.Logic.{inl, inr}
+use mathlib.Core.Logic.{inl, inr, _≢_}
 use native.Mathlib.Omega.{arith}
 use lib.ListN.{length, getD, take, drop}
 use lib.Seq.{drop-append-seam, getD-take}
 use Rattle.layout.specs.Moves.{moveZone, moveWithin, moveFrom, moveTo, moveLag}
 use Rattle.zone_moves.specs.declared.parse.Field.the-variants.{Bad}
 use Rattle.zone_moves.specs.declared.parse.Field.{Field}
-use Rattle.zone_moves.specs.declared.parse.Request.the-variants.{Zone}
+use Rattle.zone_moves.specs.declared.parse.Request.the-variants.{Zone, Refused}
 use Rattle.zone_moves.specs.declared.parse.Request.{Request}
 use Rattle.zone_moves.specs.Decimal.{spell, decimal}
 use Rattle.zone_moves.specs.Request.{Limited, isDigit, inLimits, fieldOf, fieldAt, askZone, askNew, askOld, requestOf}
-use Rattle.zone_moves.specs.Listing.{column, moveLine, linesOf, indices, zoneMoves, answered, answer}
+use Rattle.zone_moves.specs.Listing.{column, moveLine, linesOf, indices, zoneMoves, refusal, answered, answer}
 use Rattle.zone_moves.specs.Exact.{line, ZoneMoves, asked, listed, asked-of-four, listed-of-four, Exact}
 use Rattle.zone_moves.proofs.Laws.Fields.{limited, limits-pass, zone-asked, Seen, one, two, none, look, Ends, ends, nowhere, field-ends, Line, asks, other, look-line}
 use Rattle.zone_moves.proofs.Laws.Reading.{field-text, field-reads, drop-more}
@@ -61,6 +61,15 @@ line-only {s} {n} {m} {z} (asks n′ a m′ b z′ c e h k l) q =
     ∙ simp append-assoc in
     rw (x, y, w) (limited n′ m′ z′ l, behind s t (drop c s) f)
 line-only other q = let i : _≡_ {A = ℕ} 0 1 = cc in absurd (omega arith)
+
+-- and all else is refused
+line-refused : (s : List ℕ) → ((n m z : ℕ) (rest : List ℕ) → Limited n m z → s ≢ line n m z ++ rest) → answer s ≡ refusal
+unfolding answer answered
+line-refused s h = go (requestOf s) refl
+  where
+    go : (r : Request) → requestOf s ≡ r → answered r ≡ refusal
+    go Refused e = refl
+    go (Zone n m z) e = let p = line-only (look-line s) e in absurd (h n m z (drop (length (line n m z)) s) (p .0) (p .1))
 
 -- ---- what is not read does not matter
 
@@ -164,6 +173,7 @@ exact =
       reads = line-reads;
       zone = line-zone;
       only = λ s n m z e. line-only (look-line s) e;
+      refused = line-refused;
       first-nine = λ s. answer-of (take 9 s) s (nine s);
       first-line = λ s k e. answer-of (take (k + 1) s) s (line-enough s k e);
       example = computed .0;

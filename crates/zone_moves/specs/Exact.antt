@@ -2,11 +2,12 @@
 use Prim.Native.Nat.{ℕ, _+_, _<_}
 use mathlib.Core.Path.{_≡_}
 use mathlib.Core.List.{List, [], _∷_, _++_}
+use mathlib.Core.Logic.{_≢_}
 use lib.ListN.{length, getD, take, drop}
 use Rattle.layout.specs.Moves.{moveZone}
 use Rattle.zone_moves.specs.declared.parse.Request.the-variants.{Zone}
 use Rattle.zone_moves.specs.Request.{Limited, requestOf}
-use Rattle.zone_moves.specs.Listing.{column, linesOf, zoneMoves, answer}
+use Rattle.zone_moves.specs.Listing.{column, linesOf, zoneMoves, refusal, answer}
 
 -- the line "n m z": "decimal, no leading zeros, single spaces, a line feed behind"
 unfoldable pub line : ℕ → ℕ → ℕ → List ℕ
@@ -51,6 +52,8 @@ pub record Exact : Type 0 where
       → (ks : List ℕ) × ZoneMoves n m z ks × (answer (line n m z ++ rest) ≡ linesOf n m ks)
   -- nothing else asks for a zone
   pub only : (s : List ℕ) (n m z : ℕ) → requestOf s ≡ Zone n m z → Limited n m z × (s ≡ line n m z ++ drop (length (line n m z)) s)
+  -- and what is no such line is refused
+  pub refused : (s : List ℕ) → ((n m z : ℕ) (rest : List ℕ) → Limited n m z → s ≢ line n m z ++ rest) → answer s ≡ refusal
   -- nine bytes of the input are enough
   pub first-nine : (s : List ℕ) → answer (take 9 s) ≡ answer s
   -- what stands behind a line feed does not matter
