@@ -1,4 +1,4 @@
--- The array and the flat list, call by call; the sum of the moves; two disks out; the claim of each call, on bytes and on records; what may be lent.
+-- The array and the flat list, call by call; the sum of the moves; two disks out; the claim of each call, on bytes and on records; what may be lent; a test of fairness.
 pub mod Step
 pub mod Tally
 pub mod Lost
@@ -7,3 +7,4 @@ pub mod Asked
 pub mod Claim
 pub mod Records
 pub mod Lending
+pub mod Fairness

@@ -11,9 +11,10 @@ use Rattle.array.specs.Images.{seen, stored, recorded, fillDisk, zeroDisks}
 use Rattle.array.specs.Table.{idle, formable, table, rowsBytes, refusal, refusalBytes}
 use Rattle.array.specs.Effect.{viewOf, scratchLeft, writeStores, moveStores, advanceStores, effect, calledBytes}
 use Rattle.history.specs.Flat.{flatAct, flatStep}
-use Rattle.history.specs.Lent.{takes, next}
+use Rattle.history.specs.Lent.{asBytes, takes, next}
 use Rattle.history.specs.Theorem.{outcomes, flatOutcomes}
-use Rattle.history.specs.Sample.{junk, play, Sample}
+use Rattle.history.specs.Sample.{junk, play, script, cabinet, list, Sample}
+use Rattle.history.proofs.Laws.Fairness.{same, below, keeps, lends, fairly, fair}
 
 pub sample : Sample
 unfolding dataDisk homeStripe homeDisk rankOf homeBlock homeOwner moveZone moveTo moveLag moveWithin moveStripe moveFrom total
@@ -22,5 +23,5 @@ unfolding dataDisk homeStripe homeDisk rankOf homeBlock homeOwner moveZone moveT
     newGood movesGood good decode plain encode
     seen stored recorded fillDisk zeroDisks idle formable table rowsBytes refusal refusalBytes
     viewOf scratchLeft writeStores moveStores advanceStores effect calledBytes
-    flatAct flatStep takes next outcomes flatOutcomes junk play
-sample = record { array = refl; flat-list = refl }
+    flatAct flatStep takes next outcomes flatOutcomes junk play same below keeps lends fairly
+sample = record { lent-fairly = fair asBytes (play script cabinet) cabinet list refl; array = refl; flat-list = refl }

@@ -12,7 +12,7 @@ use Rattle.state.specs.Bytes.{decode}
 use Rattle.array.specs.Call.{Call, format, read, view, write, grow, advance, out, rebuild, status, locate, owner, Event, fed, Answer, refused, done, bytes, made, figures, placed, owned}
 use Rattle.history.specs.Flat.{Flat, flat}
 use Rattle.history.specs.Lent.{asBytes, Cabinet, next}
-use Rattle.history.specs.Theorem.{outcomes, flatOutcomes}
+use Rattle.history.specs.Theorem.{Fair, outcomes, flatOutcomes}
 
 -- ---- a script
 
@@ -278,6 +278,8 @@ expected =
     ∷ []
 
 pub record Sample : Type 0 where
+  -- what is lent is what may be lent: the theorem speaks of this history
+  pub lent-fairly : Fair asBytes (play script cabinet) cabinet list
   -- the array, on its bytes
   pub array : outcomes asBytes (play script cabinet) cabinet ≡ expected
   -- the flat list, fed the calls and the lengths
