@@ -1,24 +1,180 @@
 //! The must-fail edits are refused because a fact no longer holds, and not because the edit put the code and its proof
-//! file, or a definition and its names, out of step. Reads the logs that `rt ci` leaves.
+//! file, or a definition and its names, out of step. Reads the logs that `rt ci` and `rt must-fail` leave.
+//!
+//! The prover says only that a proof does not fit. That the fact itself is wrong is certain where both sides are values: so an
+//! edit of a definition must be refused by a computed case (or, where no value shows it, first by a law that is named here).
+//! An edit of code alone has no such case, since a contract speaks of all arguments: it must be refused in the proof of a
+//! function's contract, where the two sides that differ are the code's result and the definition's.
 
 use std::fs;
 use std::path::PathBuf;
 use yuzkamide_tests::program::target;
 
-/// Wrong definitions of calls, with the file of computed cases that must be among what refuses them: there a value differs,
-/// while a law's proof may also fail because it no longer fits the words of the definition.
-const COMPUTED: &[(&str, &str)] = &[
-    ("array/parity_on_old_disk", "/proofs/Drawers.antt:"),
-    ("array/parity_skipped", "/proofs/Drawers.antt:"),
-    ("array/place_left_full", "/proofs/Drawers.antt:"),
-    ("array/read_of_zeros", "/proofs/Drawers.antt:"),
-    ("array/rebuild_sums_itself", "/proofs/Drawers.antt:"),
-    ("array/second_out_kept", "/proofs/Drawers.antt:"),
-    ("history/lengthened_late", "/proofs/Sample.antt:"),
+/// Computed cases, by their file and declaration, and the edits of definitions that they must be among what refuses.
+const COMPUTED: &[(&str, &str, &[&str])] = &[
+    (
+        "/proofs/Paper.antt:",
+        "`paper`",
+        &[
+            "layout/one_from_each_disk",
+            "layout/ranks_from_lowest",
+            "layout/zone_at_once",
+        ],
+    ),
+    (
+        "/proofs/Exact.antt:",
+        "`computed`",
+        &["zone_moves/zone_of_three"],
+    ),
+    (
+        "/proofs/Drawers.antt:",
+        "`drawers`",
+        &[
+            "array/parity_on_old_disk",
+            "array/parity_skipped",
+            "array/place_left_full",
+            "array/read_of_zeros",
+            "array/rebuild_sums_itself",
+            "array/second_out_kept",
+        ],
+    ),
+    (
+        "/proofs/Sample.antt:",
+        "`sample`",
+        &["history/lengthened_late"],
+    ),
 ];
 
-/// Each edit of the repository, as crate/label, with the log of its refusal.
-fn edits() -> Vec<(String, PathBuf)> {
+/// The edits of definitions that no computed case shows, and the law, or the proof of a contract, that must be the first to
+/// refuse them.
+const BY_LAW: &[(&str, &str, &[&str])] = &[
+    // what is stored is read back
+    (
+        "/proofs/Laws/Block.antt:",
+        "`blockAt-store`",
+        &["blocks/block_from_start"],
+    ),
+    // a refused call leaves what it was lent
+    (
+        "/proofs/Theorem.antt:",
+        "`kept`",
+        &["array/refusal_clears_block"],
+    ),
+    // the part of the images that is returned begins where the definition has it
+    (
+        "/proofs/viewing/part_of/Proof.antt:",
+        "`returns",
+        &["array/view_elsewhere"],
+    ),
+    // a record's bytes are read back
+    (
+        "/proofs/Laws/Bytes.antt:",
+        "`decode-encode`",
+        &["state/stripes_backwards"],
+    ),
+];
+
+#[derive(Clone, Copy, Debug, PartialEq)]
+enum Kind {
+    /// two sides that have to be equal are not: two values, or what the code or a law has and what is asked
+    Differ,
+    /// numbers were found for which what is given holds and what is asked does not
+    Refuted,
+    /// nothing that is given proves what is asked
+    Unproved,
+    /// the proof does not fit what it is given: a name, a pattern or an argument is missing
+    Shape,
+    /// something that this rests on was refused before it
+    Follows,
+}
+
+/// What kind of refusal this is; none if its words are not known.
+fn kind(words: &str) -> Option<Kind> {
+    let message = match words.split_once("`: ") {
+        Some((name, message)) if name.starts_with('`') && !name[1..].contains('`') => message,
+        _ => words,
+    };
+    let starts = |with: &[&str]| with.iter().any(|w| message.starts_with(w));
+    let has = |part: &[&str]| part.iter().any(|p| message.contains(p));
+    if has(&["so this cannot be checked"]) {
+        Some(Kind::Follows)
+    } else if starts(&[
+        "expected type `tie.Need",
+        "unsolved ?",
+        "list the missing equation with its arguments",
+        "replace that `_` with the term",
+    ]) || has(&[
+            "is not in scope",
+            "that can be named from here",
+            "is not a constructor of",
+            "is not admitted: unsolved",
+            "no equation of the list has an instance in the goal",
+            "no part of the goal",
+            "no occurrence of the path's left endpoint in the goal",
+        ])
+    {
+        Some(Kind::Shape)
+    } else if starts(&["`omega`: the goal does not follow from what it read. All of that holds, and the goal fails, at "]) {
+        Some(Kind::Refuted)
+    } else if starts(&["`search`: no proof of `"]) {
+        Some(Kind::Unproved)
+    } else if starts(&[
+        "computed as far as they go, the two types ",
+        "as printed, the two types ",
+        "expected type `",
+        // what `simp` leaves is an equation whose two sides are not the same
+        "give a proof of that as the last argument, `simp L t`",
+    ]) {
+        Some(Kind::Differ)
+    } else {
+        None
+    }
+}
+
+/// What a log refuses: each place, as file:line:column, with the words that follow it. Notes are left out.
+fn refusals(log: &str) -> Vec<(String, String)> {
+    let mut all = Vec::new();
+    for line in log.lines().filter(|line| line.starts_with('/')) {
+        let Some((place, words)) = line.split_once(": ") else {
+            continue;
+        };
+        if !place.ends_with(|c: char| c.is_ascii_digit()) || words.starts_with("note: ") {
+            continue;
+        }
+        let words = words.strip_prefix("error: ").unwrap_or(words);
+        all.push((place.to_string(), words.to_string()));
+    }
+    all
+}
+
+struct Edit {
+    /// crate/label
+    label: String,
+    /// does it change a definition?
+    definition: bool,
+    log: PathBuf,
+}
+
+impl Edit {
+    /// What its log refuses, each with its kind.
+    fn refusals(&self) -> Vec<(String, String, Kind)> {
+        let label = &self.label;
+        let log = fs::read_to_string(&self.log)
+            .unwrap_or_else(|e| panic!("{label}: {e} (run `rt must-fail` first)"));
+        refusals(&log)
+            .into_iter()
+            .map(|(place, words)| {
+                let kind = kind(&words).unwrap_or_else(|| {
+                    panic!("{label}: a kind of error that is not known: {place}: {words}")
+                });
+                (place, words, kind)
+            })
+            .collect()
+    }
+}
+
+/// Each edit of the repository.
+fn edits() -> Vec<Edit> {
     let mut all = Vec::new();
     for name in fs::read_dir(target().join("../crates")).unwrap() {
         let name = name.unwrap();
@@ -26,68 +182,209 @@ fn edits() -> Vec<(String, PathBuf)> {
             continue;
         };
         for edit in folder {
-            let label = edit
-                .unwrap()
-                .path()
-                .file_stem()
-                .unwrap()
-                .to_str()
-                .unwrap()
-                .to_string();
-            let log = target()
-                .join("must-fail")
-                .join(name.file_name())
-                .join(&label)
-                .join(".log");
-            let crate_name = name.file_name().into_string().unwrap();
-            all.push((format!("{crate_name}/{label}"), log));
+            let path = edit.unwrap().path();
+            let label = path.file_stem().unwrap().to_str().unwrap();
+            let text = fs::read_to_string(&path).unwrap();
+            all.push(Edit {
+                label: format!("{}/{label}", name.file_name().to_str().unwrap()),
+                definition: text.lines().any(|line| line.starts_with("file: specs/")),
+                log: target()
+                    .join("must-fail")
+                    .join(name.file_name())
+                    .join(label)
+                    .join(".log"),
+            });
         }
     }
+    assert!(!all.is_empty());
     all
 }
 
+/// The file and the declaration that a table names for an edit.
+fn named(
+    table: &[(&'static str, &'static str, &[&str])],
+    label: &str,
+) -> Option<(&'static str, &'static str)> {
+    table
+        .iter()
+        .find(|(_, _, labels)| labels.contains(&label))
+        .map(|(file, name, _)| (*file, *name))
+}
+
 #[test]
-fn refused_at_a_fact() {
-    let edits = edits();
-    assert!(!edits.is_empty());
-    for (label, path) in edits {
-        let log = fs::read_to_string(&path)
-            .unwrap_or_else(|e| panic!("{label}: {e} (run `rt must-fail` first)"));
-        let first = log
-            .lines()
-            .find(|line| line.contains(": error: "))
-            .unwrap_or_else(|| panic!("{label}: no error in its log"));
-        let (place, words) = first.split_once(": error: ").unwrap();
+fn not_refused_for_its_shape() {
+    for edit in edits() {
+        let refusals = edit.refusals();
+        let label = &edit.label;
+        let Some((place, words, kind)) = refusals.first() else {
+            panic!("{label}: no error in its log");
+        };
         assert!(
             place.contains("/proofs/"),
-            "{label} is refused outside proofs/: {first}"
+            "{label} is refused outside proofs/: {place}: {words}"
         );
-        for shape in [
-            "that can be named from here",
-            "not in scope",
-            "expected type `tie.Need",
-        ] {
+        assert!(
+            [Kind::Differ, Kind::Refuted, Kind::Unproved].contains(kind),
+            "{label} is refused for its shape: {place}: {words}"
+        );
+    }
+}
+
+#[test]
+fn wrong_code_is_refused_at_a_contract() {
+    for edit in edits().iter().filter(|edit| !edit.definition) {
+        let (place, words, _) = &edit.refusals()[0];
+        assert!(
+            place.contains("/Proof.antt:"),
+            "{} is not refused first in the proof of a function: {place}: {words}",
+            edit.label
+        );
+    }
+}
+
+#[test]
+fn wrong_definitions_are_refused_at_a_value() {
+    let edits = edits();
+    for label in COMPUTED
+        .iter()
+        .chain(BY_LAW)
+        .flat_map(|(_, _, labels)| *labels)
+    {
+        assert!(
+            edits.iter().any(|edit| edit.label == *label),
+            "no edit {label}"
+        );
+    }
+    for edit in edits.iter().filter(|edit| edit.definition) {
+        let label = &edit.label;
+        let refusals = edit.refusals();
+        if let Some((file, name)) = named(COMPUTED, label) {
             assert!(
-                !words.contains(shape),
-                "{label} is refused for its shape: {first}"
+                refusals
+                    .iter()
+                    .any(|(place, words, kind)| place.contains(file)
+                        && words.starts_with(name)
+                        && *kind == Kind::Differ),
+                "{label} is not refused by a computed case"
             );
+        } else if let Some((file, name)) = named(BY_LAW, label) {
+            let (place, words, _) = &refusals[0];
+            assert!(
+                place.contains(file) && words.starts_with(name),
+                "{label} is not refused first by {name}: {place}: {words}"
+            );
+        } else {
+            panic!("{label} edits a definition: name the computed case that refuses it");
         }
     }
 }
 
 #[test]
-fn wrong_calls_are_refused_at_a_value() {
-    let edits = edits();
-    for (label, cases) in COMPUTED {
-        let (_, path) = edits
-            .iter()
-            .find(|(l, _)| l == label)
-            .unwrap_or_else(|| panic!("no edit {label}"));
-        let log = fs::read_to_string(path).unwrap();
-        assert!(
-            log.lines()
-                .any(|line| line.contains(cases) && line.contains(": error: ")),
-            "{label} is not refused by a computed case"
-        );
+fn kinds_of_error() {
+    let samples = [
+        (
+            "`paper`: as printed, the two types differ only where one has `move 1 2 7 0 3`",
+            Some(Kind::Differ),
+        ),
+        (
+            "`block-at`: as printed, the two types first differ where one has `(x ∷ l)` (expected), right after `blockAt`",
+            Some(Kind::Differ),
+        ),
+        (
+            "`returns`: computed as far as they go, the two types differ only where one has `2` (expected) and the other has `0` (found)",
+            Some(Kind::Differ),
+        ),
+        (
+            "`length-blockAt`: computed as far as they go, the two types are `Path ℕ (length (take n l)) n`",
+            Some(Kind::Differ),
+        ),
+        (
+            "`zone-moves`: expected type `getD (zoneMoves n m z) 0 0 ≡ k`, but this has type `getD (indices 0 1) 0 0 ≡ k`",
+            Some(Kind::Differ),
+        ),
+        (
+            "`returns-5`: give a proof of that as the last argument, `simp L t` (`simp L ?` shows it as a hole's goal), or add what is missing to the list",
+            Some(Kind::Differ),
+        ),
+        (
+            "`rank-home`: `omega`: the goal does not follow from what it read. All of that holds, and the goal fails, at `n` = 3, `n - 2` = 1",
+            Some(Kind::Refuted),
+        ),
+        (
+            "`returns-2`: `search`: no proof of `Post (Prim.tt {0}) (c .before .args)`",
+            Some(Kind::Unproved),
+        ),
+        (
+            "`disk-lt`: `simp`: no equation of the list has an instance in the goal `dataDisk n S r < n`.",
+            Some(Kind::Shape),
+        ),
+        (
+            "`getD-blockAt`: `rw`: no part of the goal `Path ℕ (getD l i 0) (getD l (at + i) 0)` is an instance of `getD l i 0`",
+            Some(Kind::Shape),
+        ),
+        (
+            "`data-out`: `rw`: no occurrence of the path's left endpoint in the goal: write the family yourself and transport",
+            Some(Kind::Shape),
+        ),
+        (
+            "`spelt`: list the missing equation with its arguments, or rewrite by `rw` or `simp`",
+            Some(Kind::Shape),
+        ),
+        (
+            "`block-home`: replace that `_` with the term it stands for",
+            Some(Kind::Shape),
+        ),
+        ("`turn-of-move`: `ap₃` is not in scope", Some(Kind::Shape)),
+        (
+            "`indices`: `_∷_` is not a constructor of `ℕ`: it is a constructor of `List`",
+            Some(Kind::Shape),
+        ),
+        (
+            "`returns`: expected type `tie.Need-returns`, but this has type `tie.Need-returns-2`",
+            Some(Kind::Shape),
+        ),
+        (
+            "`lines-append` is not admitted: unsolved",
+            Some(Kind::Shape),
+        ),
+        (
+            "unsolved ?31 in `lines-append`: `_` was not determined",
+            Some(Kind::Shape),
+        ),
+        (
+            "`step`: `step-by` was not admitted (it has holes or undetermined implicits, or was rejected), so this cannot be checked",
+            Some(Kind::Follows),
+        ),
+        ("`step`: some words that no log has had", None),
+    ];
+    for (words, expected) in samples {
+        assert_eq!(kind(words), expected, "{words}");
+    }
+}
+
+#[test]
+fn reads_a_log() {
+    let log = "\
+/r/proofs/Laws/Lines.antt:94:1: `lines-append` is not admitted: unsolved
+  to decide it, write: a term
+/r/proofs/Paper.antt:13:20: error: `paper`: as printed, the two types differ only where one has `1`
+  expected type `a: b`
+/r/proofs/Laws/Lag.antt:1:2: note: `simp` made 1 round(s): none
+fn layout::moves::move_of: proved
+logic=not-proved";
+    let expected = [
+        (
+            "/r/proofs/Laws/Lines.antt:94:1",
+            "`lines-append` is not admitted: unsolved",
+        ),
+        (
+            "/r/proofs/Paper.antt:13:20",
+            "`paper`: as printed, the two types differ only where one has `1`",
+        ),
+    ];
+    let found = refusals(log);
+    assert_eq!(found.len(), expected.len());
+    for ((place, words), (p, w)) in found.iter().zip(expected) {
+        assert_eq!((place.as_str(), words.as_str()), (p, w));
     }
 }
