@@ -13,7 +13,7 @@ use Rattle.zone_moves.specs.Listing.{column, linesOf, zoneMoves, refusal
 unfoldable pub line : ℕ → ℕ → ℕ → List ℕ
 line n m z = column n 32 ++ column m 32 ++ column z 10
 
--- ks are the indices of zone z's moves: of those moves alone, of all of them, and rising, so each once. No other list is
+-- ks are the indices of zone z's moves: of those moves alone, of all of them, and rising, so each once
 pub record ZoneMoves (n m z : ℕ) (ks : List ℕ) : Type 0 where
   pub of-zone : (j : ℕ) → j < length ks → moveZone n m (getD ks j 0) ≡ z
   pub all : (k : ℕ) → moveZone n m k ≡ z → (j : ℕ) × (j < length ks) × (getD ks j 0 ≡ k)
