@@ -1,5 +1,5 @@
--- DEMAND 2: "Every data and parity block stands, after each count of moves from none to all, where the parity-based
--- migration paper puts it, moves taken in document 01's order, from number to place and from place to number."
+-- DEMAND 2: "Every data and parity block stands, after each count of moves from none to all, where the parity-based migration paper
+-- (document 000) puts it, moves taken in document 01's order, from number to place and from place to number."
 -- The statement is `Demand2`, at the end; `demand2` of proofs/Theorem.antt proves it, and assumes nothing.
 use Prim.Native.Nat.{ℕ, suc, _+_, _-_, _*_, _%_, _≤_, _<_}
 use mathlib.Core.Path.{_≡_}

@@ -60,7 +60,7 @@ pub fn stripes_are_good(stripes: u64) -> bool
     is_within(1, stripes, 1048576)
 }
 
-// Can the array have come this far? "At most the total, T * n * m / (n + m)" is asked without the division.
+// Can the array have come this far? "t is at most the total of moves" is asked without the division of T * n * m by n + m.
 fn moves_are_good(r: Record) -> bool
     requires { ⌜ (3 ≤ r .old) × (r .old ≤ 16) × (r .stripes ≤ 1048576) ⌝ }
     ensures { λ x. ⌜ x ≡ movesGood (geometry r) ⌝ }
