@@ -123,6 +123,11 @@ module _ (r : Record) (e : Event) where
   room-of (locate b) nr nv = refl
   room-of (owner S d) nr nv = refl
 
+  -- a view of a disk that is in leaves the scratch
+  scratch-of : (b : ℕ) → absent (r .health) (placeOf r b .stripe) (placeOf r b .disk) ≡ false → effect (view b) r e .room ≡ e .room
+  unfolding effect scratchLeft
+  scratch-of b u = rw u refl
+
   -- a block that is filled is as long as it was
   scratch-long : (b : ℕ) → length (e .room) ≡ r .block → length (scratchLeft r img b (e .room)) ≡ length (e .room)
   unfolding scratchLeft
@@ -148,10 +153,6 @@ module _ (r : Record) (e : Event) where
   room-long-of status z = refl
   room-long-of (locate b) z = refl
   room-long-of (owner S d) z = refl
-
-  scratch-of : (b : ℕ) → absent (r .health) (placeOf r b .stripe) (placeOf r b .disk) ≡ false → effect (view b) r e .room ≡ e .room
-  unfolding effect scratchLeft
-  scratch-of b u = rw u refl
 
   -- the images that call c leaves
   abbrev left : Call → List ℕ

@@ -1,6 +1,6 @@
 // The eleven calls on a record by value and lent slices. None requires anything: each refuses as the table of document 01 says,
 // and its contract sets answer, record and every lent slice at exit equal to what `called` of specs/Effect.antt has, refused calls
-// included (the scratch of view by `view_choice`). What the enums say in document 01's numbers and values is specs/Answers.antt.
+// included. What the enums say in document 01's numbers and values is specs/Answers.antt.
 mod advancing;
 mod asking;
 mod failing;
@@ -29,7 +29,6 @@ pub use refusal::RECORD;
 use state::Health;
 use state::Record;
 pub use viewing::view;
-pub use viewing::view_choice;
 pub use writing::write;
 
 // Of format, grow, out and rebuild: the refusal's number, or the record that the call leaves.

@@ -33,9 +33,10 @@ fn choose(r: Record, images: &[u8], b: u64, scratch: &mut [u8]) -> Choice
     Choice::Part(place_at(r, q.stripe, q.disk))
 }
 
-// The view before its part is taken. Its contract has what that of `view` cannot say: what is left of the scratch.
-pub fn view_choice(r: Record, images: &[u8], b: u64, scratch: &mut [u8]) -> Choice
-    ensures answer { λ x. ⌜ x ≡ choiceOf (number (called (on (view b) (now (images .entry)) (now (scratch .entry))) r .answer)) (viewOf r b) ⌝ }
+// The view before its part is taken.
+fn view_choice(r: Record, images: &[u8], b: u64, scratch: &mut [u8]) -> Choice
+    ensures answer { λ x. ⌜ x ≡
+        choiceOf (number (called (on (view b) (now (images .entry)) (now (scratch .entry))) r .answer)) (viewOf r b) ⌝ }
     ensures scratch { λ _. ⌜ now (scratch .exit) ≡ called (on (view b) (now (images .entry)) (now (scratch .entry))) r .room ⌝ }
 {
     let k = of_reach(r, images.len(), b, scratch.len());
@@ -74,19 +75,26 @@ fn part_of<'a>(
     }
 }
 
-// The view itself, with the refusal's number, or 0, beside it. No branch: `view_choice` alone has the scratch to change, and what it leaves is in its
-// contract.
+// The view itself, with the refusal's number, or 0, beside it. The scratch may be what is returned: so it comes back shared, as `left`,
+// all of it and where it was lent, and there the contract says what the call has left of it.
 pub fn view<'a>(
     r: Record,
     images: &'a [u8],
     b: u64,
     scratch: &'a mut [u8],
+    left: &mut &'a [u8],
     refusal: &mut u8,
 ) -> &'a [u8]
     ensures view { λ v. ⌜ now v ≡ shown (called (on (view b) (now (images .entry)) (now (scratch .entry))) r .answer) ⌝ }
-    ensures place { λ v. ⌜ v .ptr ≡ begins (choiceOf (number (called (on (view b) (now (images .entry)) (now (scratch .entry))) r .answer)) (viewOf r b)) (images .entry .ptr) (scratch .entry .ptr) ⌝ }
+    ensures place { λ v. ⌜ v .ptr ≡
+        begins (choiceOf (number (called (on (view b) (now (images .entry)) (now (scratch .entry))) r .answer)) (viewOf r b))
+        (images .entry .ptr) (scratch .entry .ptr) ⌝ }
     ensures number { λ _. ⌜ now (refusal .exit) ≡ number (called (on (view b) (now (images .entry)) (now (scratch .entry))) r .answer) ⌝ }
+    ensures scratch { λ _. ⌜ now (now (left .exit)) ≡ called (on (view b) (now (images .entry)) (now (scratch .entry))) r .room ⌝ }
+    ensures scratch_place { λ _. ⌜ now (left .exit) .ptr ≡ scratch .entry .ptr ⌝ }
 {
     let x = view_choice(r, images, b, scratch);
-    part_of(x, r.block as usize, images, &scratch[..], refusal)
+    let s = &scratch[..];
+    *left = s;
+    part_of(x, r.block as usize, images, s, refusal)
 }

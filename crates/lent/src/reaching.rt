@@ -19,19 +19,27 @@ pub fn view<'a>(
     images: &'a [u8],
     b: u64,
     scratch: &'a mut [u8],
+    left: &mut &'a [u8],
     refusal: &mut u8,
 ) -> &'a [u8]
     ensures view { λ v. ⌜ now v ≡ shown (called (on (view b) (now (images .entry)) (now (scratch .entry))) (now (rec .entry)) .answer) ⌝ }
-    ensures place { λ v. ⌜ v .ptr ≡ begins (choiceOf (number (called (on (view b) (now (images .entry)) (now (scratch .entry))) (now (rec .entry)) .answer)) (viewOf (now (rec .entry)) b)) (images .entry .ptr) (scratch .entry .ptr) ⌝ }
-    ensures number { λ _. ⌜ now (refusal .exit) ≡ number (called (on (view b) (now (images .entry)) (now (scratch .entry))) (now (rec .entry)) .answer) ⌝ }
+    ensures place { λ v. ⌜ v .ptr ≡
+        begins (choiceOf (number (called (on (view b) (now (images .entry)) (now (scratch .entry))) (now (rec .entry)) .answer))
+        (viewOf (now (rec .entry)) b)) (images .entry .ptr) (scratch .entry .ptr) ⌝ }
+    ensures number { λ _. ⌜ now (refusal .exit) ≡
+        number (called (on (view b) (now (images .entry)) (now (scratch .entry))) (now (rec .entry)) .answer) ⌝ }
+    ensures scratch { λ _. ⌜ now (now (left .exit)) ≡
+        called (on (view b) (now (images .entry)) (now (scratch .entry))) (now (rec .entry)) .room ⌝ }
+    ensures scratch_place { λ _. ⌜ now (left .exit) .ptr ≡ scratch .entry .ptr ⌝ }
 {
     let r = *rec;
-    array::view(r, images, b, scratch, refusal)
+    array::view(r, images, b, scratch, left, refusal)
 }
 
 pub fn write(rec: &Record, images: &mut [u8], b: u64, bytes: &[u8]) -> u8
     ensures answer { λ k. ⌜ k ≡ number (called (on (write b (now (bytes .entry))) (now (images .entry)) []) (now (rec .entry)) .answer) ⌝ }
-    ensures images { λ _. ⌜ now (images .exit) ≡ called (on (write b (now (bytes .entry))) (now (images .entry)) []) (now (rec .entry)) .images ⌝ }
+    ensures images { λ _. ⌜ now (images .exit) ≡
+        called (on (write b (now (bytes .entry))) (now (images .entry)) []) (now (rec .entry)) .images ⌝ }
 {
     let r = *rec;
     array::write(r, images, b, bytes)

@@ -52,13 +52,19 @@ fn print_scratch(scratch: &[u8]) {
     io::write_all(STDOUT_FILENO, b"\n");
 }
 
-// One case. The number is 255 before the call, which no call answers.
+// One view; what it leaves of the scratch is returned. The number is 255 before the call, which no call answers.
+fn show_one<'a>(scratch: &'a mut [u8], r: Record, images: &'a [u8], b: u64) -> &'a [u8] {
+    let mut left = images;
+    let mut number = 255u8;
+    let shown = array::view(r, images, b, scratch, &mut left, &mut number);
+    print_view(number, shown);
+    left
+}
+
+// One case.
 fn show_in(scratch: &mut [u8], r: Record, images: &[u8], b: u64, what: &[u8]) {
     print_case(b, what);
-    let mut number = 255u8;
-    let view = array::view(r, images, b, &mut scratch[..], &mut number);
-    print_view(number, view);
-    print_scratch(scratch);
+    print_scratch(show_one(scratch, r, images, b));
 }
 
 // With a scratch of a block's length, all sevens, which no block holds.

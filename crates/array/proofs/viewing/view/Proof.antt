@@ -1,6 +1,6 @@
 -- `view` meets its contract. Assumes nothing.
 use Prim.Native.Nat.{ℕ}
-use mathlib.Core.Path.{_∙_, ap}
+use mathlib.Core.Path.{_∙_, ap, refl}
 use mathlib.Core.List.{List}
 use borrow.Author.Needs.{needs}
 use Rattle.array.specs.declared.Choice.{Choice}
@@ -32,7 +32,7 @@ returns c =
     let o = c1 .view-choice .ensures in
     let e = c .part-of .ensures in
     let q = ap (λ (l : List ℕ). choiceAnswer x (a .r .block) (a .images .now) l) (o .1) ∙ shows (a .r) (a .images .now) (a .scratch .now) (a .b) x (o .0) .1 in
-    (e .0 ∙ ap shown q, (e .1 .0 ∙ ap (λ (y : Choice). begins y (a .images .ptr) (a .scratch .ptr)) (o .0), e .1 .1 ∙ ap number q))
+    (e .0 ∙ ap shown q, (e .1 .0 ∙ ap (λ (y : Choice). begins y (a .images .ptr) (a .scratch .ptr)) (o .0), (e .1 .1 ∙ ap number q, (o .1, refl))))
 
 pub view-spec : {M : Type 1} → statement M
 view-spec = tie.close (tie.spec view-choice-requires cast-part-of part-of-requires returns)
