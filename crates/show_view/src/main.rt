@@ -1,7 +1,9 @@
-// Shows `view`, the one call that is not exported to C, in its cases: on document 01's array of 3 disks and 15 stripes that grows by 2 disks, with
-// blocks of 4 bytes. A line says what was lent, the number, the view, and what the scratch holds behind the call.
+// Shows `view`, the one call that is not exported to C, in its cases: on document 01's array of 3 disks and 15 stripes that grows by 2
+// disks, with blocks of 4 bytes. A line says what was lent, the number, the view, and what the scratch holds behind the call. All calls but
+// the writes are those of `lent`, on a record that stands in a local and is lent.
 mod marks;
 mod records;
+mod viewed;
 
 ghost use mathlib.Core.Path.{_≡_};
 ghost use lib.ListN.{length};
@@ -9,11 +11,14 @@ ghost use Rattle.io.specs.Counts.{Counts};
 use libc::STDOUT_FILENO;
 use marks::mark;
 use marks::write_marks;
-use records::left_by;
+use records::formatted;
+use records::grown;
 use records::moved;
+use records::rebuilt;
 use records::without;
 use state::Health;
 use state::Record;
+use viewed::view;
 
 fn wide(x: u8) -> u64 {
     x as u64
@@ -56,7 +61,7 @@ fn print_scratch(scratch: &[u8]) {
 fn show_one<'a>(scratch: &'a mut [u8], r: Record, images: &'a [u8], b: u64) -> &'a [u8] {
     let mut left = images;
     let mut number = 255u8;
-    let shown = array::view(r, images, b, scratch, &mut left, &mut number);
+    let shown = view(r, images, b, scratch, &mut left, &mut number);
     print_view(number, shown);
     left
 }
@@ -90,7 +95,8 @@ fn no_array() -> Record {
     }
 }
 
-// Block 4 is in stripe 2 on disk 1, block 5 on disk 0. What now stands in the place of block 4 is seen through r, by which the disk is still in.
+// Block 4 is in stripe 2 on disk 1, block 5 on disk 0. What now stands in the place of block 4 is seen through r, by which the disk is
+// still in.
 fn show_disk_out(r: Record, images: &mut [u8])
     requires { ⌜ length (now images) ≡ 180 ⌝ }
 {
@@ -99,7 +105,7 @@ fn show_disk_out(r: Record, images: &mut [u8])
     show(out, images, 4, b"disk 1 out and overwritten");
     show(out, images, 5, b"disk 1 out and overwritten");
     show(r, images, 4, b"by the record from before");
-    let back = left_by(out, array::rebuild(out, images, 1));
+    let back = rebuilt(out, images, 1);
     show(back, images, 4, b"disk 1 rebuilt");
 }
 
@@ -114,7 +120,7 @@ fn show_refusals(r: Record, images: &[u8]) {
 fn show_before_growth(images: &mut [u8]) -> Record
     requires { ⌜ length (now images) ≡ 180 ⌝ }
 {
-    let r = left_by(no_array(), array::format(images, 3, 4, 15));
+    let r = formatted(no_array(), images, 3, 4, 15);
     write_marks(r, images, 30);
     show(r, images, 4, b"all disks in");
     show_disk_out(r, images);
@@ -122,8 +128,8 @@ fn show_before_growth(images: &mut [u8]) -> Record
     r
 }
 
-// Which disk a block is on shows when that disk is out: then the view is the scratch. Move 1 carries block 4 from disk 1 to 3, move 2 block 2 from
-// disk 2 to 3.
+// Which disk a block is on shows when that disk is out: then the view is the scratch. Move 1 carries block 4 from disk 1 to 3, move 2
+// block 2 from disk 2 to 3.
 fn show_one_move(r: Record, images: &[u8]) {
     show_without(1, r, images, 4, b"1 move made, disk 1 out");
     show_without(3, r, images, 4, b"1 move made, disk 3 out");
@@ -140,8 +146,8 @@ fn show_three_moves(r: Record, images: &[u8]) {
     show_without(3, r, images, 2, b"3 moves made, disk 3 out");
 }
 
-fn show_moves(grown: Record, images: &mut [u8]) -> Record {
-    let one = moved(grown, images, 1);
+fn show_moves(five: Record, images: &mut [u8]) -> Record {
+    let one = moved(five, images, 1);
     show_one_move(one, images);
     let two = moved(one, images, 1);
     show_two_moves(two, images);
@@ -168,15 +174,15 @@ fn show_new_block(all: Record, images: &mut [u8]) {
 
 fn show_growth(r: Record, images: &mut [u8]) {
     show(r, images, 4, b"images of 5 disks before growth");
-    let grown = left_by(r, array::grow(r, images, 2));
-    let three = show_moves(grown, images);
+    let five = grown(r, images, 2);
+    let three = show_moves(five, images);
     let all = show_last_move(three, images);
     show_new_block(all, images);
 }
 
 // One stripe on 3 disks, with blocks as long as `bytes`, which block b is written with. Block 0 is on disk 2, block 1 on disk 1.
 fn one_stripe(images: &mut [u8], b: u64, bytes: &[u8]) -> Record {
-    let r = left_by(no_array(), array::format(images, 3, bytes.len() as u64, 1));
+    let r = formatted(no_array(), images, 3, bytes.len() as u64, 1);
     array::write(r, images, b, bytes);
     r
 }

@@ -1,42 +1,50 @@
-// The record behind a call: the one that the call answers, or r as it was if the call is refused.
+// Calls of `lent` on a record that stands in a local: it is lent, and what the call leaves in it is returned.
 ghost use mathlib.Core.Path.{_≡_};
 ghost use mathlib.Core.List.{[]};
-ghost use Rattle.array.specs.Answers.{changedRecord, advancedRecord};
-ghost use Rattle.array.specs.Call.{advance, out, on};
+ghost use Rattle.array.specs.Call.{format, grow, advance, out, rebuild, on};
 ghost use Rattle.array.specs.Effect.{called};
-use array::Advanced;
-use array::Changed;
 use state::Record;
 
-pub fn left_by(r: Record, x: Changed) -> Record
-    ensures { λ y. ⌜ y ≡ changedRecord r x ⌝ }
+// With m disks more.
+pub fn grown(mut r: Record, images: &mut [u8], m: u64) -> Record
+    ensures state { λ y. ⌜ y ≡ called (on (grow m) (now (images .entry)) []) r .state ⌝ }
+    ensures images { λ _. ⌜ now (images .exit) ≡ called (on (grow m) (now (images .entry)) []) r .images ⌝ }
 {
-    match x {
-        Changed::Refused(_) => r,
-        Changed::Done(y) => y,
-    }
-}
-
-fn left_by_moves(r: Record, x: Advanced) -> Record
-    ensures { λ y. ⌜ y ≡ advancedRecord r x ⌝ }
-{
-    match x {
-        Advanced::Refused(_) => r,
-        Advanced::Made { count: _, record } => record,
-    }
-}
-
-// With disk d out.
-pub fn without(r: Record, d: u64) -> Record
-    ensures { λ y. ⌜ y ≡ called (on (out d) [] []) r .state ⌝ }
-{
-    left_by(r, array::out(r, d))
+    lent::grow(&mut r, images, m);
+    r
 }
 
 // With k more moves made.
-pub fn moved(r: Record, images: &mut [u8], k: u64) -> Record
-    ensures { λ y. ⌜ y ≡ called (on (advance k) (now (images .entry)) []) r .state ⌝ }
-    ensures { λ _. ⌜ now (images .exit) ≡ called (on (advance k) (now (images .entry)) []) r .images ⌝ }
+pub fn moved(mut r: Record, images: &mut [u8], k: u64) -> Record
+    ensures state { λ y. ⌜ y ≡ called (on (advance k) (now (images .entry)) []) r .state ⌝ }
+    ensures images { λ _. ⌜ now (images .exit) ≡ called (on (advance k) (now (images .entry)) []) r .images ⌝ }
 {
-    left_by_moves(r, array::advance(r, images, k))
+    lent::advance(&mut r, images, k);
+    r
+}
+
+// With disk d rebuilt.
+pub fn rebuilt(mut r: Record, images: &mut [u8], d: u64) -> Record
+    ensures state { λ y. ⌜ y ≡ called (on (rebuild d) (now (images .entry)) []) r .state ⌝ }
+    ensures images { λ _. ⌜ now (images .exit) ≡ called (on (rebuild d) (now (images .entry)) []) r .images ⌝ }
+{
+    lent::rebuild(&mut r, images, d);
+    r
+}
+
+// With disk d out.
+pub fn without(mut r: Record, d: u64) -> Record
+    ensures state { λ y. ⌜ y ≡ called (on (out d) [] []) r .state ⌝ }
+{
+    lent::out(&mut r, d);
+    r
+}
+
+// As a format leaves it.
+pub fn formatted(mut r: Record, images: &mut [u8], n: u64, block: u64, stripes: u64) -> Record
+    ensures state { λ y. ⌜ y ≡ called (on (format n block stripes) (now (images .entry)) []) r .state ⌝ }
+    ensures images { λ _. ⌜ now (images .exit) ≡ called (on (format n block stripes) (now (images .entry)) []) r .images ⌝ }
+{
+    lent::format(&mut r, images, n, block, stripes);
+    r
 }

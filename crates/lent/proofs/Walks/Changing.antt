@@ -26,9 +26,13 @@ use denote.Struct.Laws as LL
 use Rattle.state.specs.declared.Record.{Record}
 use Rattle.state.proofs.Record as T
 use Rattle.state.proofs.Record.Laws as T′
-use Rattle.array.specs.Call.{Answer, number}
+use Rattle.array.specs.Call.{Answer, number, count}
+use Rattle.lent.proofs.Count as N
+use Rattle.lent.proofs.Count.Laws as N′
 use Rattle.lent.proofs.steps.Step as S
 use Rattle.lent.proofs.steps.Step.Laws as S′
+use Rattle.lent.proofs.steps.Progress as P
+use Rattle.lent.proofs.steps.Progress.Laws as P′
 use Rattle.lent.proofs.Walks.Steps.{val, pointer, within, copied}
 
 -- the type of what a step returns
@@ -52,6 +56,7 @@ pub record Answered : Type 2 where
   pub ans-typed : {M : Type 1} (𝓤 : URA M) (H : Heap 𝓤) (A : Atoms 𝓤) → Given 𝓤 H A → (a : Ans .Denot) → Is Ans a (low a ∷ []) → Typed (sort ∷ []) (low a ∷ [])
   pub ans-made : {M : Type 1} (𝓤 : URA M) (H : Heap 𝓤) (A : Atoms 𝓤) → Given 𝓤 H A → (a : Ans .Denot) → Is Ans a (low a ∷ []) → ent 𝓤 (emp 𝓤) (sem 𝓤 H A (Ans .own a (low a ∷ [])))
 
+-- a `Step`, whose answer is a number
 abbrev pub stepped : Answered
 stepped = record {
   Row = S.the-row;
@@ -68,6 +73,25 @@ stepped = record {
   typed = λ 𝓤 H A W s w is. LL.lawful S.the-type S′.the-laws 𝓤 H A W .typed s (w ∷ []) is;
   ans-typed = λ 𝓤 H A W a is. ((tt, record { fits = is .1 }), tt);
   ans-made = λ 𝓤 H A W a is. uint-makes 𝓤 H A W w8 a _ is;
+}
+
+-- a `Progress`, whose answer is a `Count`
+abbrev pub moved : Answered
+moved = record {
+  Row = P.the-row;
+  Ans = N.the-row;
+  rec = λ s. s .rec;
+  ans = λ s. s .count;
+  told = λ k a. (k .number ≡ number a) × (k .made ≡ count a);
+  name = P.struct .name;
+  sort = N′.mir;
+  low = N′.lowered;
+  tells = λ s w is. ap only (LL.tells P.the-type P′.the-laws s (w ∷ []) is);
+  rec-is = λ s w is. LL.owed P.the-type P′.the-laws s (w ∷ []) is .0;
+  ans-is = λ s w is. LL.owed P.the-type P′.the-laws s (w ∷ []) is .1 .0;
+  typed = λ 𝓤 H A W s w is. LL.lawful P.the-type P′.the-laws 𝓤 H A W .typed s (w ∷ []) is;
+  ans-typed = λ 𝓤 H A W a is. LL.lawful N.the-type N′.the-laws 𝓤 H A W .typed a _ is;
+  ans-made = λ 𝓤 H A W a is. LL.makes N.the-type N′.the-plain 𝓤 H A a _ is;
 }
 
 -- an open borrow of a record: its cell, what shuts it, and the two halves of the name

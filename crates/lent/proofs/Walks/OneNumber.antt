@@ -38,7 +38,7 @@ use Rattle.lent.proofs.Walks.Steps.{val, pointer, slice, lends-on, with
 use Rattle.lent.proofs.Walks.Changing.{struct, Answered, takes-out, puts-back}
 
 module _ (X : Answered) where
-  abbrev call-ended : Ended
+  abbrev pub call-ended : Ended
   call-ended = record {
     signature = record {
       lifetimes = 2;
@@ -92,7 +92,7 @@ module _ (X : Answered) where
     Leaves ys h n a r zs =
         sep 𝓤 (fact 𝓤 (X .told a (called (on (c n) ys []) h .answer))) (sep 𝓤 (fact 𝓤 (r ≡ called (on (c n) ys []) h .state)) (fact 𝓤 (zs ≡ called (on (c n) ys []) h .images)))
 
-    abbrev call-clauses : Clauses 𝓤 call-ended
+    abbrev pub call-clauses : Clauses 𝓤 call-ended
     call-clauses κs a = record { ghost = Unit {0}; requires = λ _. emp 𝓤; ensures = λ _ k e. Leaves (now (a .1 .0)) (now (a .0)) (a .1 .1 .0) k (now (e .0)) (now (e .1 .0)) }
 
     abbrev step-clauses : Clauses 𝓤 step-ended

@@ -1,20 +1,13 @@
--- `moved` meets its contract, by what its calls ensure. Assumes nothing.
-use mathlib.Core.Path.{_∙_}
-use borrow.Author.Needs.{needs}
+-- `moved` meets its contract, by the walk of `OneNumber`.
+use Rattle.array.specs.Call.{advance as #advance}
+use Rattle.lent.proofs.Walks.Changing.{moved}
+use Rattle.lent.proofs.advance.Symbol as lent
+use Rattle.lent.proofs.advance.Met as lent-thm
+use Rattle.show_view.proofs.Walks.OneNumber.{meets, counted}
+use Rattle.show_view.proofs.records.moved.Key as key
 use Rattle.show_view.proofs.records.moved.Statement.{statement}
-use Rattle.show_view.proofs.records.moved.Tie as tie
-
-advance-requires : tie.Need-advance-requires
-advance-requires c κs = search needs
-
-left-by-moves-requires : tie.Need-left-by-moves-requires
-left-by-moves-requires c κs = search needs
-
-same-length : tie.Need-same-length
-same-length c = search needs
-
-returns : tie.Need-returns
-returns c = (c .left-by-moves .ensures ∙ c .before .before .before .advance .ensures .1 .0, c .before .before .before .advance .ensures .1 .1)
+use Rattle.show_view.proofs.records.moved.Code as code
 
 pub moved-spec : {M : Type 1} → statement M
-moved-spec = tie.close (tie.spec advance-requires left-by-moves-requires same-length returns)
+unfolding code.routine
+moved-spec 𝓤 H 𝓜 𝓖 𝓡 = meets moved counted 𝓤 H 𝓜 𝓖 𝓡 #advance code.env key.name lent.name (code.unfolded 𝓤 H 𝓜 𝓡) lent.routine code.calls-lent·advance (lent-thm.met 𝓤 H 𝓜 𝓖 𝓡)

@@ -1,0 +1,2 @@
+-- Walks by hand: what the functions share that lend a record of their own.
+pub mod Walks
