@@ -36,6 +36,7 @@ const COMPUTED: &[(&str, &str, &[&str])] = &[
             "array/read_of_zeros",
             "array/rebuild_sums_itself",
             "array/second_out_kept",
+            "array/view_fills_always",
         ],
     ),
     (
