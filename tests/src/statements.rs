@@ -3,7 +3,7 @@
 
 use crate::definitions::{lines, of_proof_language, Kind};
 
-/// | `Demand1` | `array/specs/Theorem.antt` | `demand1` | `array/proofs/Theorem.antt` | what it says |
+/// | `Demand1` | `array/specs/Theorem.antt` | `demand1` | `array/proofs/Theorem.antt` | fingerprint | what it says |
 #[derive(Clone, Debug, PartialEq, Eq)]
 pub struct Row {
     pub statement: String,
@@ -12,6 +12,8 @@ pub struct Row {
     pub term: String,
     /// The file that has the term, below crates/.
     pub proofs: String,
+    /// Of the text of the statement and of all that it is made of.
+    pub fingerprint: String,
 }
 
 /// The rows of the table.
@@ -31,6 +33,7 @@ fn row(line: &str) -> Option<Row> {
         specs: name(1)?.to_string(),
         term: name(2)?.to_string(),
         proofs: name(3)?.to_string(),
+        fingerprint: cells.get(4)?.to_string(),
     })
 }
 
@@ -83,6 +86,78 @@ fn single_spaced(text: &str) -> String {
     text.split_whitespace().collect::<Vec<_>>().join(" ")
 }
 
+// ---- what a statement is made of
+
+/// A type of a file of specs/: a statement, a predicate or a record, with its text.
+pub struct Predicate {
+    /// The crate that has it.
+    pub of: String,
+    pub name: String,
+    pub text: String,
+}
+
+/// The types that a file of specs/ defines: what is declared as `.. → Type 0`, or as a record.
+pub fn predicates(of: &str, specs: &str) -> Vec<Predicate> {
+    let starts = ["abbrev ", "unfoldable ", "pub ", "use "];
+    let mut items: Vec<Vec<&str>> = Vec::new();
+    for line in lines(specs) {
+        match items.last_mut() {
+            Some(item) if !starts.iter().any(|s| line.starts_with(s)) => item.push(line),
+            _ => items.push(vec![line]),
+        }
+    }
+    items
+        .into_iter()
+        .filter_map(|item| {
+            // a signature may go on in the next lines
+            let more = item[1..].iter().take_while(|line| line.starts_with(' '));
+            let is_record = item[0].ends_with(" where");
+            let head: Vec<&str> = match is_record {
+                true => vec![item[0].trim_end_matches(" where")],
+                false => item[..1].iter().chain(more).copied().collect(),
+            };
+            let head = single_spaced(&head.join(" "));
+            let modifier = |word: &&str| ["abbrev", "unfoldable", "pub", "record"].contains(word);
+            let name = head.split(' ').find(|word| !modifier(word))?;
+            let is_type = head.ends_with(" Type 0") && !head.contains("pub data ");
+            is_type.then(|| Predicate {
+                of: of.to_string(),
+                name: name.to_string(),
+                text: single_spaced(&item.join(" ")),
+            })
+        })
+        .collect()
+}
+
+/// The fingerprint of a statement: of its text and that of every predicate that it reaches, in its own crate, or, where that has none of the
+/// name, in another one. A comment or a line's break is no part of it.
+pub fn fingerprint(of: &str, statement: &str, all: &[Predicate]) -> String {
+    let is_name = |c: char| c.is_alphanumeric() || "_-′".contains(c);
+    let mut reached: Vec<&Predicate> = Vec::new();
+    let mut left = vec![statement.to_string()];
+    while let Some(name) = left.pop() {
+        let own = all.iter().any(|p| p.of == of && p.name == name);
+        for p in all.iter().filter(|p| p.name == name) {
+            let is_new = !reached.iter().any(|r| r.of == p.of && r.name == p.name);
+            if is_new && (p.of == of || !own) {
+                let words = p.text.split(|c: char| !is_name(c));
+                left.extend(words.map(str::to_string));
+                reached.push(p);
+            }
+        }
+    }
+    reached.sort_by_key(|p| (&p.of, &p.name));
+    let text: String = reached.iter().map(|p| format!("{}\n", p.text)).collect();
+    format!("{:016x}", fnv(text.as_bytes()))
+}
+
+/// The hash of Fowler, Noll and Vo, FNV-1a, of 64 bits.
+fn fnv(bytes: &[u8]) -> u64 {
+    bytes.iter().fold(0xcbf2_9ce4_8422_2325, |hash, &byte| {
+        (hash ^ u64::from(byte)).wrapping_mul(0x0100_0000_01b3)
+    })
+}
+
 /// Why the texts do not bear a row out, if they do not.
 pub fn fault(row: &Row, specs: &str, proofs: &str) -> Option<String> {
     let Row {
@@ -130,19 +205,20 @@ pub fn fault(row: &Row, specs: &str, proofs: &str) -> Option<String> {
 
 /// A name that a file takes from another one.
 #[derive(Debug)]
-struct Use {
-    module: String,
-    original: String,
+pub struct Use {
+    pub module: String,
+    pub original: String,
     /// What it is called here.
-    name: String,
+    pub name: String,
 }
 
-/// `use Module.{a, b as c}`
-fn uses(text: &str) -> Vec<Use> {
+/// `use Module.{a, b as c}`; in Rattle `ghost use`
+pub fn uses(text: &str) -> Vec<Use> {
     let code: String = lines(text).map(|line| format!("{line}\n")).collect();
     let mut all = Vec::new();
     for (at, _) in code.match_indices("use ") {
-        let is_start = at == 0 || code[..at].ends_with('\n');
+        let before = code[..at].trim_end_matches("ghost ");
+        let is_start = before.is_empty() || before.ends_with('\n');
         let Some((module, rest)) = code[at + 4..].split_once(".{").filter(|_| is_start) else {
             continue;
         };

@@ -1,13 +1,16 @@
 //! Every function that another module can call says what it answers and what it leaves of everything that it is lent to write;
-//! entry points require nothing: they refuse; and the clauses of those that another crate can call have names.
+//! entry points require nothing: they refuse; the clauses of those that another crate can call have names; and the symbols mean what
+//! the library says.
 
 use std::fs;
 use std::path::{Path, PathBuf};
 use yuzkamide_tests::contracts::{
     equations, functions, handed_on, structs, Function, Structs, Visibility, RECORDS,
 };
+use yuzkamide_tests::definitions::{of_proof_language, Kind};
 use yuzkamide_tests::pbm::NAMES;
 use yuzkamide_tests::program::target;
+use yuzkamide_tests::statements::uses;
 
 /// The crates whose public functions are handed anything by anyone, and the program's function that is handed what was typed.
 const ENTRY_CRATES: &[&str] = &["array", "lent", "pbm"];
@@ -49,12 +52,13 @@ fn crates() -> PathBuf {
     target().join("../crates")
 }
 
-fn sources(folder: &Path, found: &mut Vec<PathBuf>) {
-    for entry in fs::read_dir(folder).unwrap() {
+/// The files of a folder with this ending; there may be no such folder.
+fn sources(folder: &Path, ending: &str, found: &mut Vec<PathBuf>) {
+    for entry in fs::read_dir(folder).into_iter().flatten() {
         let path = entry.unwrap().path();
         if path.is_dir() {
-            sources(&path, found);
-        } else if path.extension().is_some_and(|e| e == "rt") {
+            sources(&path, ending, found);
+        } else if path.extension().is_some_and(|e| e == ending) {
             found.push(path);
         }
     }
@@ -67,7 +71,7 @@ fn public_functions() -> (Vec<Found>, Structs) {
     for name in fs::read_dir(crates()).unwrap() {
         let folder = name.unwrap().path();
         let mut files = Vec::new();
-        sources(&folder.join("src"), &mut files);
+        sources(&folder.join("src"), "rt", &mut files);
         let lib = fs::read_to_string(folder.join("src/lib.rt")).unwrap_or_default();
         let handed_on = handed_on(&lib);
         for file in files {
@@ -379,4 +383,106 @@ pub extern \"C\" fn pbm_f(
     assert_eq!(sides(1), [["now ( rec .exit )", "g ( record { a = k } )"]]);
     assert_eq!(f.leaves_open(), [""; 0]);
     assert!(f.says_answer(&Structs::new()));
+}
+
+// ---- symbols
+
+/// Words that mean what the prover's library says, beside every operator.
+const LIBRARY_WORDS: &[&str] = &[
+    "ℕ",
+    "List",
+    "Bool",
+    "true",
+    "false",
+    "zero",
+    "suc",
+    "length",
+    "take",
+    "drop",
+    "getD",
+    "set",
+    "replicate",
+    "map",
+    "cond",
+    "not",
+    "eqb",
+    "ltb",
+    "leb",
+    "min",
+    "bitXor",
+];
+
+fn is_symbol(name: &str) -> bool {
+    LIBRARY_WORDS.contains(&name) || name.starts_with('_') || name.ends_with('_')
+}
+
+/// The symbols of a text that do not mean what the library says: taken from elsewhere, under another name, or defined here.
+fn strange_symbols(text: &str) -> Vec<String> {
+    let of_library = |module: &str| {
+        let root = module.split('.').next().unwrap();
+        ["Prim", "mathlib", "lib"].contains(&root)
+    };
+    let used = uses(text)
+        .into_iter()
+        .filter(|u| is_symbol(&u.name) && !(of_library(&u.module) && u.original == u.name))
+        .map(|u| format!("{} of {}", u.name, u.module));
+    let defined = of_proof_language(text)
+        .into_iter()
+        .filter(|(name, kind, _)| is_symbol(name) && *kind != Kind::Field)
+        .map(|(name, _, _)| name);
+    used.chain(defined).collect()
+}
+
+/// "A contract's symbols mean what the language's library says": in contracts, and in the definitions that they cite.
+#[test]
+fn symbols_mean_what_the_library_says() {
+    let mut files = Vec::new();
+    for entry in fs::read_dir(crates()).unwrap() {
+        let folder = entry.unwrap().path();
+        sources(&folder.join("src"), "rt", &mut files);
+        sources(&folder.join("specs"), "antt", &mut files);
+    }
+    let mut seen = 0;
+    for file in files {
+        let text = fs::read_to_string(&file).unwrap();
+        seen += uses(&text).iter().filter(|u| is_symbol(&u.name)).count();
+        let strange = match file.extension().is_some_and(|e| e == "rt") {
+            true => strange_symbols(&ghost_uses(&text)),
+            false => strange_symbols(&text),
+        };
+        assert!(strange.is_empty(), "{}: {strange:?}", file.display());
+    }
+    assert!(seen > 200, "the search finds the symbols: {seen}");
+}
+
+fn ghost_uses(text: &str) -> String {
+    let lines = text.lines().filter(|line| line.starts_with("ghost use "));
+    lines.map(|line| format!("{line}\n")).collect()
+}
+
+#[test]
+fn symbols_of_ones_own() {
+    for (text, says) in [
+        (
+            "use Rattle.array.specs.Call.{_≡_}\n",
+            "_≡_ of Rattle.array.specs.Call",
+        ),
+        (
+            "ghost use Rattle.array.specs.Call.{length};\n",
+            "length of Rattle.array.specs.Call",
+        ),
+        (
+            "use mathlib.Core.Path.{sym as _≡_}\n",
+            "_≡_ of mathlib.Core.Path",
+        ),
+        ("abbrev pub _≡_ : ℕ → ℕ → Type 0\na ≡ b = Unit\n", "_≡_"),
+        (
+            "unfoldable pub length : List ℕ → ℕ\nlength l = 0\n",
+            "length",
+        ),
+    ] {
+        assert_eq!(strange_symbols(text), [says], "{text}");
+    }
+    let right = "use mathlib.Core.Path.{_≡_, sym}\nuse lib.ListN.{length}\nuse Rattle.array.specs.Call.{Call}\n";
+    assert_eq!(strange_symbols(right), [""; 0]);
 }

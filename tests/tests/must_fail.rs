@@ -73,6 +73,12 @@ const BY_LAW: &[(&str, &str, &[&str])] = &[
         "`decode-encode`",
         &["state/stripes_backwards"],
     ),
+    // good bytes are those of a good record
+    (
+        "/proofs/Theorem.antt:",
+        "`good-bytes`",
+        &["state/unread_bytes_ignored"],
+    ),
 ];
 
 #[derive(Clone, Copy, Debug, PartialEq)]

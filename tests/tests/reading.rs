@@ -9,7 +9,9 @@ use yuzkamide_tests::definitions::{
 };
 use yuzkamide_tests::mentions::{blocks, faults, Sources};
 use yuzkamide_tests::program::target;
-use yuzkamide_tests::statements::{closed, definition, fault, quoted, rows, Row};
+use yuzkamide_tests::statements::{
+    closed, definition, fault, fingerprint, predicates, quoted, rows, Predicate, Row,
+};
 
 fn root() -> PathBuf {
     target().join("..")
@@ -49,12 +51,15 @@ const STATEMENTS: &[&str] = &[
     "OnBytes",
     "Alone",
     "OneMove",
+    "RecordOnly",
+    "Acts",
     "Demand2",
     "RoundTrip",
     "GoodIs",
     "Demand3",
     "MayBeLent",
     "FlatList",
+    "AlwaysFair",
     "LastGiven",
     "ZeroAtFirst",
     "SecondOut",
@@ -157,6 +162,69 @@ fn a_weakened_statement_is_not_the_quoted_one() {
     );
 }
 
+/// Every type of every file of specs/.
+fn all_predicates() -> Vec<Predicate> {
+    let mut all = Vec::new();
+    for entry in fs::read_dir(root().join("crates")).unwrap() {
+        let of = entry.unwrap().file_name().into_string().unwrap();
+        let Ok(folder) = fs::read_dir(root().join("crates").join(&of).join("specs")) else {
+            continue;
+        };
+        for file in folder {
+            let text = fs::read_to_string(file.unwrap().path()).unwrap();
+            all.extend(predicates(&of, &text));
+        }
+    }
+    all
+}
+
+/// The table has a fingerprint of what each statement says, down to the last predicate: who weakens one has to change the table.
+#[test]
+fn statements_say_what_they_said() {
+    let all = all_predicates();
+    let mut changed = Vec::new();
+    for row in rows(&document("READING.md")) {
+        let of = row.specs.split('/').next().unwrap();
+        let now = fingerprint(of, &row.statement, &all);
+        if now != row.fingerprint {
+            changed.push(format!(
+                "{} says something else: read it again, then note {now}",
+                row.statement
+            ));
+        }
+    }
+    assert!(changed.is_empty(), "{changed:#?}");
+}
+
+#[test]
+fn a_fingerprint_is_of_all_that_is_reached() {
+    let of = |specs: &str| {
+        let all = [
+            predicates("array", specs),
+            predicates("layout", "abbrev pub Far : ℕ → Type 0\nFar k = k ≡ k\n"),
+        ];
+        let all: Vec<Predicate> = all.into_iter().flatten().collect();
+        fingerprint("array", "Demand1", &all)
+    };
+    let before = of(SPECS);
+    assert_eq!(before.len(), 16);
+    // comments and breaks, and what is not reached, are no matter
+    let table = edited(SPECS, "pub first : Part 1", "pub first : Part 2");
+    let broken = edited(
+        SPECS,
+        "= (k : ℕ) → Part k\n",
+        "=\n    (k : ℕ)\n    → Part k  -- so\n",
+    );
+    assert_eq!((of(&table), of(&broken)), (before.clone(), before.clone()));
+    // the statement itself, what it is made of, here and in another crate
+    let head = edited(SPECS, "(k : ℕ) → Part k\n", "(k : ℕ) → k < 1 → Part k\n");
+    let part = edited(SPECS, "Part k = k ≡ k\n", "Part k = k < 1 → k ≡ k\n");
+    let far = edited(SPECS, "Part k = k ≡ k\n", "Part k = Far k\n");
+    for weakened in [head, part, far] {
+        assert_ne!(of(&weakened), before, "{weakened}");
+    }
+}
+
 /// "proved by `x`": a term of the table.
 #[test]
 fn proved_by_a_term_of_the_table() {
@@ -210,9 +278,9 @@ table = record { first = part 1 }
 ";
 
 fn sample_rows() -> Vec<Row> {
-    rows("# A document\n\n## What is proved\n\n| Statement | File | Term | File | |\n|---|---|---|---|---|
-| `Demand1` | `array/specs/Theorem.antt` | `demand1` | `array/proofs/Theorem.antt` | what it says |
-| `Table` | `array/specs/Theorem.antt` | `table` | `array/proofs/Theorem.antt` | a table |
+    rows("# A document\n\n## What is proved\n\n| Statement | File | Term | File | Fingerprint | |\n|---|---|---|---|---|---|
+| `Demand1` | `array/specs/Theorem.antt` | `demand1` | `array/proofs/Theorem.antt` | 0 | what it says |
+| `Table` | `array/specs/Theorem.antt` | `table` | `array/proofs/Theorem.antt` | 0 | a table |
 
 ## Another section
 

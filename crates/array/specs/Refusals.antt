@@ -69,12 +69,15 @@ of-stripes T = encode (record { old = 3; new = 0; health = Whole; block = 1; str
 abbrev pub grown : Health → ℕ → List ℕ
 grown h t = encode (record { old = 3; new = 2; health = h; block = 2; stripes = 15; moves = t })
 
--- not good, and good but for byte 6; lost; not 16 bytes long
+-- not good; good but for the health's bytes and bytes 6 and 7, and so for byte 6; lost; not 16 bytes long
 abbrev pub bad : List ℕ
 bad = encode (record { old = 2; new = 2; health = Lost; block = 2; stripes = 15; moves = 18 })
 
+abbrev pub spoilt : ℕ → ℕ → ℕ → ℕ → List ℕ
+spoilt health disk six seven = 3 ∷ 0 ∷ health ∷ disk ∷ 2 ∷ 0 ∷ six ∷ seven ∷ 15 ∷ 0 ∷ 0 ∷ 0 ∷ 0 ∷ 0 ∷ 0 ∷ 0 ∷ []
+
 abbrev pub sixth : List ℕ
-sixth = 3 ∷ 0 ∷ 0 ∷ 0 ∷ 2 ∷ 0 ∷ 1 ∷ 0 ∷ 15 ∷ 0 ∷ 0 ∷ 0 ∷ 0 ∷ 0 ∷ 0 ∷ 0 ∷ []
+sixth = spoilt 0 0 1 0
 
 abbrev pub lost : List ℕ
 lost = grown Lost 17
@@ -91,7 +94,12 @@ asks b c len room = refusalBytes b (record { call = c; images = len; room = room
 
 -- a call that would be let through, on each kind of record that 1 is for
 abbrev pub ones : Call → ℕ → ℕ → List ℕ
-ones c len room = asks short c len room ∷ asks long c len room ∷ asks bad c len room ∷ asks sixth c len room ∷ asks [] c len room ∷ []
+ones c len room =
+    asks short c len room ∷ asks long c len room ∷ asks [] c len room
+    ∷ asks bad c len room ∷ asks sixth c len room ∷ asks (spoilt 0 0 0 1) c len room
+    -- no such health; a disk beside whole and beside lost
+    ∷ asks (spoilt 3 0 0 0) c len room ∷ asks (spoilt 0 1 0 0) c len room ∷ asks (spoilt 2 1 0 0) c len room
+    ∷ []
 
 -- read, view and write have the same rows: a call for a block and a length of its room or data
 abbrev pub reads : (ℕ → ℕ → Call) → List ℕ
@@ -116,10 +124,10 @@ bytes len = take len (5 ∷ 5 ∷ 5 ∷ [])
 pub record Refusals : Type 0 where
   -- 1: all calls for its length, all but format for a record that is not good
   pub row-1 :
-      ones (read 29) 90 2 ++ ones (view 29) 90 2 ++ ones (write 29 (bytes 2)) 90 0 ++ ones (grow 2) 150 0 ++ ones (advance 1) 90 0 ++ ones (out 2) 0 0 ++ ones (rebuild 2) 90 0
-      ++ ones status 0 0 ++ ones (locate 29) 0 0 ++ ones (owner 14 2) 0 0
-      ≡ replicate 50 1
-  pub row-1-format : ones (format 3 2 15) 90 0 ≡ 1 ∷ 1 ∷ 0 ∷ 0 ∷ 1 ∷ []
+      ones (read 29) 90 2 ++ ones (view 29) 90 2 ++ ones (write 29 (bytes 2)) 90 0 ++ ones (grow 2) 150 0 ++ ones (advance 1) 90 0
+      ++ ones (out 2) 0 0 ++ ones (rebuild 2) 90 0 ++ ones status 0 0 ++ ones (locate 29) 0 0 ++ ones (owner 14 2) 0 0
+      ≡ replicate 90 1
+  pub row-1-format : ones (format 3 2 15) 90 0 ≡ 1 ∷ 1 ∷ 1 ∷ 0 ∷ 0 ∷ 0 ∷ 0 ∷ 0 ∷ 0 ∷ []
   -- 1 for its length alone; 6, 7; health lost, a bad record, m and t are no matter
   pub formats :
       asks short (format 2 2 15) 89 0 ∷ asks small (format 2 2 15) 89 0 ∷ asks small (format 3 2 15) 89 0 ∷ asks small (format 3 2 15) 90 0

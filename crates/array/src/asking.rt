@@ -1,4 +1,4 @@
-// Document 01: "**Status**: capacity, t, total, health. **Locate** (b): the stripe and disk of block b. **Owner** (S, d): the block number
+// Document 01: "**Status**: capacity, t, total, health.", "**Locate** (b): the stripe and disk of block b. **Owner** (S, d): the block number
 // there, or parity, or blank. Both read the record only."
 ghost use mathlib.Core.Path.{_≡_};
 ghost use mathlib.Core.List.{[]};

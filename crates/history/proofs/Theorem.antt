@@ -1,12 +1,16 @@
--- Demand 3, proved: `demand3`, `may-be-lent`, `flat-list`, `last-given`, `zero-at-first` and `second-out`. Assumes nothing.
+-- Demand 3, proved: `demand3`, `may-be-lent`, `flat-list`, `always-fair`, `last-given`, `zero-at-first` and `second-out`. Assumes nothing.
 use Prim.Native.Nat.{ℕ}
-use mathlib.Core.Path.{_≡_, refl}
+use mathlib.Core.Path.{_≡_, refl, ap, _∙_}
 use mathlib.Core.List.{List, [], _∷_, map}
+use lib.ListN.{length}
 use Rattle.blocks.specs.Block.{zeros}
+use Rattle.state.specs.declared.Record.{Record}
+use Rattle.state.proofs.Laws.Bytes.{decode-encode}
 use Rattle.array.specs.Call.{format, write, out, Event, fed, Answer}
+use Rattle.array.specs.Images.{size}
 use Rattle.history.specs.Flat.{Flat, flatStep}
 use Rattle.history.specs.Lent.{Form, asBytes, asRecord, Cabinet, leaves, next}
-use Rattle.history.specs.Theorem.{tally, Claims, opening, Demand3On, Demand3, MayBeLent, Fair, outcomes, flatOutcomes, FlatListOn, FlatList, LastGiven, ZeroAtFirst, SecondOut}
+use Rattle.history.specs.Theorem.{tally, Claim, Claims, opening, Demand3On, Demand3, MayBeLent, Fair, outcomes, flatOutcomes, FlatListOn, FlatList, LentAsLeft, AlwaysFairOn, AlwaysFair, LastGiven, ZeroAtFirst, SecondOut}
 use Rattle.history.proofs.Laws.Claim.{on-bytes}
 use Rattle.history.proofs.Laws.Records.{on-records}
 use Rattle.history.proofs.Laws.Lending.{free-to-lend}
@@ -36,6 +40,34 @@ same-list x d a f n B T img room u es l = same-outcomes x (opening n B T img roo
 
 pub flat-list : FlatList
 flat-list = (same-list asBytes (demand3 .0), same-list asRecord (demand3 .1))
+
+-- ---- what stands may always be lent
+
+module _ {R : Type 0} (x : Form R) (back : (r : Record) → x .decoded (x .encoded r) ≡ r) where
+  -- the images that stand are as long as the flat list's numbers say
+  stays-long : (e : Event) (a : Cabinet R) (f : Flat) (sum : ℕ) → Claim x e a f sum → length (next x e a .img) ≡ size (flatStep (fed e) f .1 .numbers)
+  stays-long e a f sum c = c .long ∙ ap (λ (r : Record). size r) (ap (x .decoded) (c .fields) ∙ back (flatStep (fed e) f .1 .numbers))
+
+  fair-on : (es : List Event) (a : Cabinet R) (f : Flat) (sum : ℕ) → Claims x es a f sum → length (a .img) ≡ size (f .numbers) → LentAsLeft x es a → Fair x es a f
+  unfolding Claims LentAsLeft Fair
+  fair-on [] a f sum c long l = tt
+  fair-on (e ∷ es) a f sum c long l =
+      let lends = may-be-lent e (f .numbers) (a .img) .what-stands (l .0 .0) long (l .0 .1) in
+      let after : ℕ = tally (e .call) (leaves x e a .answer) sum in
+      let z = c lends in
+      (lends, fair-on es (next x e a) (flatStep (fed e) f .1) after (z .1) (stays-long e a f after (z .0)) (l .1))
+
+  all-fair : Demand3On x → AlwaysFairOn x
+  unfolding Claims Fair
+  all-fair d a f n B T img room u es l =
+      let e : Event = opening n B T img room in
+      let lends = may-be-lent e (f .numbers) (a .img) .any-format n B T refl in
+      let after : ℕ = tally (e .call) (leaves x e a .answer) 0 in
+      let z = d a f 0 n B T img room u es lends in
+      (lends, fair-on es (next x e a) (flatStep (fed e) f .1) after (z .1) (stays-long e a f after (z .0)) l)
+
+pub always-fair : AlwaysFair
+always-fair = (all-fair asBytes decode-encode (demand3 .0), all-fair asRecord (λ r. refl) (demand3 .1))
 
 -- ---- what a block was last given
 

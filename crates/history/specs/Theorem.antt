@@ -4,8 +4,9 @@
 -- refusal is exactly that of document 01's flat list, zero at first, of what each block was last given; each move keeps its
 -- stripe's parity value; and growth is over exactly when the moves reported since it began are T × n × m / (n + m) .. A second
 -- disk out while the first is not rebuilt refuses all reads until a new format."
--- The statement is `Demand3`; behind it stand `MayBeLent`, `FlatList`, `LastGiven`, `ZeroAtFirst` and `SecondOut`. `demand3`,
--- `may-be-lent`, `flat-list`, `last-given`, `zero-at-first` and `second-out` of proofs/Theorem.antt prove them, and assume nothing.
+-- The statement is `Demand3`; behind it stand `MayBeLent`, `FlatList`, `AlwaysFair`, `LastGiven`, `ZeroAtFirst` and
+-- `SecondOut`. `demand3`, `may-be-lent`, `flat-list`, `always-fair`, `last-given`, `zero-at-first` and `second-out` of proofs/Theorem.antt
+-- prove them, and assume nothing.
 use Prim.Native.Nat.{ℕ, suc, _+_, _<_}
 use mathlib.Core.Path.{_≡_}
 use mathlib.Core.Bool.{true, false, cond}
@@ -24,7 +25,7 @@ use Rattle.array.specs.Table.{idle, refusal}
 use Rattle.array.specs.Effect.{placeOf, parityAfter}
 use Rattle.array.specs.Sound.{Sound}
 use Rattle.history.specs.Flat.{Flat, flatStep}
-use Rattle.history.specs.Lent.{Form, asBytes, asRecord, Cabinet, nothing, takes, Lends, leaves, next}
+use Rattle.history.specs.Lent.{Form, asBytes, asRecord, Cabinet, nothing, those, takes, Lends, leaves, next}
 
 -- "The moves of a growth are the sum of the counts that advance reported since that grow was accepted, no format and no further
 -- grow accepted since": the sum after an accepted call that reported k, and after any call
@@ -82,6 +83,8 @@ pub record Claim {R : Type 0} (x : Form R) (e : Event) (a : Cabinet R) (f : Flat
   -- "From a format on, unless health is lost, all stripes are sound, the out disk taken as the xor of the others."
   pub sound : let r = x .decoded (leaves x e a .state) in
       isLost (r .health) ≡ false → (S : ℕ) → S < r .stripes → Sound r (next x e a .img) S
+  -- what stands after a call is as long as the record left says: it may be lent to the next one (`FreeToLend.what-stands`)
+  pub long : length (next x e a .img) ≡ size (x .decoded (leaves x e a .state))
   -- "Our service bench reads drawers from a stopped line by the published layout": the place where Layout has block b, seen through a disk
   -- that is out, holds the flat list's block b; and "capacity is that list's length"
   pub capacity-is : capacity (geometry (x .decoded (leaves x e a .state))) ≡ length (flatStep (fed e) f .1 .blocks)
@@ -119,8 +122,10 @@ pub record FreeToLend (e : Event) (r : Record) (left : List ℕ) : Type 0 where
   pub what-stands : (behind : List ℕ) → length left ≡ size r → e .images ≡ left ++ behind → Lends e r left
   -- "Format may be lent any images instead"
   pub any-format : (n B T : ℕ) → e .call ≡ format n B T → Lends e r left
-  -- "any call that is lent images may be lent a length that refusal 7 turns away"
-  pub any-length : (c : ℕ) → refusal r c (fed e) ≡ 7 → Lends e r left
+  -- "any call that is lent images may be lent a length that refusal 7 turns away": one that it does not ask for, whichever number the
+  -- call is then given; and so wherever that is 7
+  pub any-length : (len : ℕ) → takes (e .call) r ≡ those len → length (e .images) ≢ len → Lends e r left
+  pub turned-away : (c : ℕ) → refusal r c (fed e) ≡ 7 → Lends e r left
   -- "disk d may hold any bytes"
   pub any-out : (o : ℕ) → r .health ≡ Out o
       → ((S d : ℕ) → S < r .stripes → d < disksOf r → d ≢ o → placeIn r (e .images) S d ≡ placeIn r left S d) → Lends e r left
@@ -154,6 +159,20 @@ FlatListOn {R} x =
 
 abbrev pub FlatList : Type 0
 FlatList = FlatListOn asBytes × FlatListOn asRecord
+
+-- ---- a controller that lends each call what stands, with any bytes behind it, is fair: any list of calls has such a history
+
+unfoldable pub LentAsLeft : {R : Type 0} → Form R → List Event → Cabinet R → Type 0
+LentAsLeft x [] a = Unit
+LentAsLeft x (e ∷ es) a = ((behind : List ℕ) × (e .images ≡ a .img ++ behind)) × LentAsLeft x es (next x e a)
+
+abbrev pub AlwaysFairOn : {R : Type 0} → Form R → Type 0
+AlwaysFairOn {R} x =
+    (a : Cabinet R) (f : Flat) (n B T : ℕ) (img room : List ℕ) → accepted (leaves x (opening n B T img room) a .answer) ≡ true
+    → (es : List Event) → LentAsLeft x es (next x (opening n B T img room) a) → Fair x (opening n B T img room ∷ es) a f
+
+abbrev pub AlwaysFair : Type 0
+AlwaysFair = AlwaysFairOn asBytes × AlwaysFairOn asRecord
 
 -- ---- in the mills' words: the flat list is, "zero at first, of what each block was last given". (This and the rest is
 -- said of the flat list; by `FlatList` it holds of the array.)

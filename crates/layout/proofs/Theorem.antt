@@ -8,7 +8,7 @@ use lib.ListN.{length}
 use Rattle.layout.specs.declared.Geometry.{Geometry}
 use Rattle.layout.specs.declared.Role.the-variants.{Data, Parity, Blank}
 use Rattle.layout.specs.declared.Role.{Role}
-use Rattle.layout.specs.Home.{homeStripe}
+use Rattle.layout.specs.Home.{homeStripe, homeDisk}
 use Rattle.layout.specs.Moves.{stands}
 use Rattle.layout.specs.Closed.{diskAt, source, taken}
 use Rattle.layout.specs.Blanks.{blanksBelow, newBlock}
@@ -122,7 +122,7 @@ module _ (g : Geometry) (good : Good g) where
       cc (lawful g good .owner-block b hb, lawful g good .owner-block c hc, ap (λ p. layout g .owner (p .stripe) (p .disk)) q)
 
   placed : Placed g
-  unfolding grownParity
+  unfolding grownParity homeStripe homeDisk
   placed = record {
     replayed = λ b l. low (home g) g b l ∙ ap (λ x. record { stripe = homeStripe (g .old) b; disk = x }) (replay _ _ (home-full g good .lawful .disk-lt b l));
     parity-replayed = λ S l. replay S _ (home-full g good .lawful .parity-lt S l);

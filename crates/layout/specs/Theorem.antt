@@ -1,26 +1,29 @@
 -- DEMAND 2: "Every data and parity block stands, after each count of moves from none to all, where the parity-based migration paper
 -- (document 000) puts it, moves taken in document 01's order, from number to place and from place to number."
 -- The statement is `Demand2`, at the end; `demand2` of proofs/Theorem.antt proves it, and assumes nothing.
-use Prim.Native.Nat.{ℕ, suc, _+_, _-_, _*_, _%_, _≤_, _<_}
+use Prim.Native.Nat.{ℕ, suc, _+_, _-_, _*_, _/_, _%_, _≤_, _<_}
 use mathlib.Core.Path.{_≡_}
 use mathlib.Core.Logic.{_≢_}
 use lib.ListN.{length, getD}
 use Rattle.layout.specs.declared.Geometry.{Geometry}
 use Rattle.layout.specs.declared.Role.the-variants.{Data, Parity, Blank}
-use Rattle.layout.specs.Home.{placeAt, homeStripe, homeDisk, dataDisk, rankOf, parityDisk}
+use Rattle.layout.specs.Home.{placeAt, dataDisk, rankOf}
 use Rattle.layout.specs.Moves.{zoneOf, withinZone, zones, groups, moveIndex, moveZone, moveTo, moveLag, moveStripe, moveFrom, carry, stands}
 use Rattle.layout.specs.Closed.{diskAt}
 use Rattle.layout.specs.Blanks.{blanks}
-use Rattle.layout.specs.Layout.{disks, totalOf, oldBlocks, capacity, layout, nextStripe, nextFrom, nextTo, after}
+use Rattle.layout.specs.Layout.{disks, totalOf, capacity, layout, nextStripe, nextFrom, nextTo, after}
 use Rattle.layout.specs.Limits.{Good}
 
--- ---- before growth: ranks count the data disks of a stripe from the highest down, skipping parity
+-- Where document 01 has a formula for a place of before the growth, it stands here in bare numbers, and not by its name, so that the name
+-- cannot come to mean another one.
+
+-- ---- before growth: "its rank .. counts data disks from the highest down, skipping parity", which is on disk S mod n
 
 pub record Ranks (n : ℕ) : Type 0 where
   pub disk-lt : (S r : ℕ) → r < n - 1 → dataDisk n S r < n
-  pub skips-parity : (S r : ℕ) → r < n - 1 → dataDisk n S r ≢ parityDisk n S
+  pub skips-parity : (S r : ℕ) → r < n - 1 → dataDisk n S r ≢ S % n
   pub falling : (S q r : ℕ) → q < r → r < n - 1 → dataDisk n S r < dataDisk n S q
-  pub none-missed : (S d : ℕ) → d < n → d ≢ parityDisk n S → (rankOf n S d < n - 1) × (dataDisk n S (rankOf n S d) ≡ d)
+  pub none-missed : (S d : ℕ) → d < n → d ≢ S % n → (rankOf n S d < n - 1) × (dataDisk n S (rankOf n S d) ≡ d)
 
 -- ---- the moves: one for each zone, each p from n to n + m − 1 and each i from 0 to n − 1; zone, then p, then i, rising
 
@@ -45,8 +48,8 @@ pub record Order (n m : ℕ) : Type 0 where
   pub from-lt : (k : ℕ) → moveFrom n m k < n
   pub from-rule : (k : ℕ) → (moveFrom n m k + 2 * moveLag n k) % n ≡ (moveTo n m k + moveZone n m k * m) % n
   -- "i = 0 is the parity block", and no other i
-  pub parity-first : (k : ℕ) → moveLag n k ≡ 0 → moveFrom n m k ≡ parityDisk n (moveStripe n m k)
-  pub parity-only : (k : ℕ) → moveFrom n m k ≡ parityDisk n (moveStripe n m k) → moveLag n k ≡ 0
+  pub parity-first : (k : ℕ) → moveLag n k ≡ 0 → moveFrom n m k ≡ moveStripe n m k % n
+  pub parity-only : (k : ℕ) → moveFrom n m k ≡ moveStripe n m k % n → moveLag n k ≡ 0
   -- "A group is n zones": from one to the next the moves are the same, n zones further on
   pub next-group : (k : ℕ) → let j = k + n * m * n in
       (moveZone n m j ≡ moveZone n m k + n) × (moveTo n m j ≡ moveTo n m k)
@@ -79,11 +82,12 @@ pub record Numbers (g : Geometry) : Type 0 where
 -- ---- number to place and place to number, after any count of moves
 
 pub record Placed (g : Geometry) : Type 0 where
-  -- a block of before the growth, and each stripe's parity, stand where the replay of the moves puts them
-  pub replayed : (b : ℕ) → b < oldBlocks g →
-      let S = homeStripe (g .old) b in
-      layout g .place b ≡ placeAt S (stands (g .old) (g .new) (g .moves) S (homeDisk (g .old) b))
-  pub parity-replayed : (S : ℕ) → S < g .stripes → layout g .parity S ≡ stands (g .old) (g .new) (g .moves) S (parityDisk (g .old) S)
+  -- a block of before the growth, "in stripe b div (n − 1)" with "its rank b mod (n − 1)", and each stripe's parity, "on disk S mod n", stand
+  -- where the replay of the moves puts them
+  pub replayed : (b : ℕ) → b < g .stripes * (g .old - 1) →
+      let S = b / (g .old - 1) in
+      layout g .place b ≡ placeAt S (stands (g .old) (g .new) (g .moves) S (dataDisk (g .old) S (b % (g .old - 1))))
+  pub parity-replayed : (S : ℕ) → S < g .stripes → layout g .parity S ≡ stands (g .old) (g .new) (g .moves) S (S % g .old)
   -- every block has its place ..
   pub stripe-lt : (b : ℕ) → b < capacity g → layout g .place b .stripe < g .stripes
   pub disk-lt : (b : ℕ) → b < capacity g → layout g .place b .disk < disks g

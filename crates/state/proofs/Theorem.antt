@@ -2,6 +2,7 @@
 use Prim.Native.Nat.{ℕ, _+_, _*_, _≤_}
 use mathlib.Core.Path.{_≡_, refl, subst}
 use mathlib.Core.Bool.{true}
+use mathlib.Core.Logic.{_↔_}
 use mathlib.Core.List.{List}
 use native.Mathlib.Nat.{div-le-self}
 use native.Mathlib.Omega.{arith}
@@ -12,9 +13,10 @@ use Rattle.layout.proofs.Laws.Bounds.{products}
 use Rattle.state.specs.declared.Health.the-variants.{Whole, Out, Lost}
 use Rattle.state.specs.declared.Health.{Health}
 use Rattle.state.specs.declared.Record.{Record}
-use Rattle.state.specs.Good.{geometry, OutBelow, Limits}
-use Rattle.state.specs.Bytes.{plain, encode}
+use Rattle.state.specs.Good.{geometry, good, OutBelow, Limits}
+use Rattle.state.specs.Bytes.{decode, plain, goodBytes, encode, AreBytes}
 use Rattle.state.specs.Theorem.{RoundTrip, GoodIs}
+use Rattle.state.proofs.Laws.Tests.{both}
 use Rattle.state.proofs.Laws.Good.{limits, within-limits}
 use Rattle.state.proofs.Laws.Bytes.{decode-encode, length-encode, plain-encode, Fits, bytes-encode, encode-decode}
 
@@ -51,5 +53,15 @@ module _ (r : Record) (l : Limits r) where
         moves-fits = omega (arith, l .array .moves, total-small);
       }
 
+-- good bytes are those of a good record
+good-bytes : (b : List ℕ) → AreBytes b → length b ≡ 16 → (goodBytes b ≡ true) ↔ ((r : Record) × (good r ≡ true) × (encode r ≡ b))
+good-bytes b are long = (to, from)
+  where
+    to : goodBytes b ≡ true → (r : Record) × (good r ≡ true) × (encode r ≡ b)
+    to q = let z = both (plain b) (good (decode b)) q in (decode b, z .1, encode-decode b are long (z .0))
+
+    from : ((r : Record) × (good r ≡ true) × (encode r ≡ b)) → goodBytes b ≡ true
+    from x = subst (λ (y : List ℕ). goodBytes y ≡ true) (x .2) (rw (plain-encode (x .0), decode-encode (x .0)) (x .1))
+
 pub good-is : GoodIs
-good-is = record { exactly = λ r. (limits r, within-limits r); fits = λ r l. bytes-encode r (fits r l) }
+good-is = record { exactly = λ r. (limits r, within-limits r); fits = λ r l. bytes-encode r (fits r l); bytes = good-bytes }

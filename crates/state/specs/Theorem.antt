@@ -8,7 +8,7 @@ use lib.ListN.{length}
 use Rattle.state.specs.declared.Health.the-variants.{Whole, Out, Lost}
 use Rattle.state.specs.declared.Record.{Record}
 use Rattle.state.specs.Good.{good, Limits}
-use Rattle.state.specs.Bytes.{decode, plain, healthByte, diskByte, encode, AreBytes}
+use Rattle.state.specs.Bytes.{decode, plain, goodBytes, healthByte, diskByte, encode, AreBytes}
 
 -- "with the record as 16 bytes": in and out
 pub record RoundTrip : Type 0 where
@@ -26,3 +26,5 @@ pub record GoodIs : Type 0 where
   pub exactly : (r : Record) → (good r ≡ true) ↔ Limits r
   -- its bytes are bytes
   pub fits : (r : Record) → Limits r → AreBytes (encode r)
+  -- and 16 bytes are good exactly if they are those of a good record: "bytes 6–7 zero included"
+  pub bytes : (b : List ℕ) → AreBytes b → length b ≡ 16 → (goodBytes b ≡ true) ↔ ((r : Record) × (good r ≡ true) × (encode r ≡ b))

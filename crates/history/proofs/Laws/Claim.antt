@@ -127,6 +127,7 @@ claim e a f sum s h p =
       parity-last = ends e a;
       over = over-bytes (leaves asBytes e a .state) (y .1 .numbers) sum (s .fields) h;
       sound = sound-bytes (leaves asBytes e a .state) (y .1 .numbers) (next asBytes e a .img) (y .1 .blocks) (s .fields) (s .holding);
+      long = rw (read-back (leaves asBytes e a .state) (y .1 .numbers) (s .fields)) (s .holding .long);
       capacity-is = rw (read-back (leaves asBytes e a .state) (y .1 .numbers) (s .fields)) (sym (s .holding .count));
       bench = bench-bytes (leaves asBytes e a .state) (y .1 .numbers) (next asBytes e a .img) (y .1 .blocks) (s .fields) (s .holding);
     }

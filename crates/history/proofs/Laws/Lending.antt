@@ -57,6 +57,14 @@ module _ (e : Event) (r : Record) (left : List ℕ) where
       go anything q = tt
       go (those len) q = λ z. absurd (ne len q z)
 
+  same-length : {m n : ℕ} → those m ≡ those n → m ≡ n
+  same-length q = ap asked-length q
+    where
+      asked-length : Takes → ℕ
+      asked-length nothing = 0
+      asked-length anything = 0
+      asked-length (those len) = len
+
   -- a disk that is not out is another one
   others : (o : ℕ) → r .health ≡ Out o → (S d : ℕ) → absent (r .health) S d ≡ false → d ≢ o
   others o h S d u = eqb-false d o (ap (λ (x : Health). absent x S d) (sym h) ∙ u)
@@ -67,7 +75,8 @@ module _ (e : Event) (r : Record) (left : List ℕ) where
       record {
         what-stands = λ behind long q. by-keeping (subst (Keeps r left) (sym q) (keeps r left behind long));
         any-format = λ n B T q. subst (λ (c : Call). Lent (takes c r) r left (e .images)) (sym q) tt;
-        any-length = λ c z. by-length (λ n q. asked r c (length (e .images)) (length (e .room)) n (e .call) q z);
+        any-length = λ len q ne. by-length (λ n p z. ne (z ∙ same-length (sym p ∙ q)));
+        turned-away = λ c z. by-length (λ n q. asked r c (length (e .images)) (length (e .room)) n (e .call) q z);
         any-out = λ o h k. by-keeping (λ S d lS ld u. k S d lS ld (others o h S d u));
         any-lost = λ h. by-keeping (λ S d lS ld u. absurd (let w : _≡_ {A = ℕ} 0 1 = cc (ap (λ (x : Health). absent x S d) h) in omega arith));
         no-images = λ q. subst (λ (t : Takes). Lent t r left (e .images)) (sym q) tt;

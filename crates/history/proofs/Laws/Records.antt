@@ -52,6 +52,7 @@ module _ (e : Event) (a : Cabinet Record) where
         parity-last = rw (left-is, before, after) at (c .parity-last);
         over = rw (left-is, after) at (c .over);
         sound = rw (left-is, next-is, after) at (c .sound);
+        long = rw (left-is, next-is, after) at (c .long);
         capacity-is = rw (left-is, after) at (c .capacity-is);
         bench = rw (left-is, next-is, after) at (c .bench);
       }
