@@ -41,44 +41,44 @@ module _ (r : Record) (e : Event) where
   img = e .images
 
   -- the table lets call c through
-  abbrev Passed : Call → Type 0
+  abbrev pub Passed : Call → Type 0
   Passed c = word (table c false (not (good r)) r (capacity (geometry r)) (length (e .images)) (length (e .room))) ≡ 0
 
   -- and so it has passed
-  bounds : not (good r) ≡ false → Limits r
+  pub bounds : not (good r) ≡ false → Limits r
   bounds g = limits r (not-false _ g)
 
-  formatting : (n B T : ℕ) → Passed (format n B T) → Formats n B T (length img)
+  pub formatting : (n B T : ℕ) → Passed (format n B T) → Formats n B T (length img)
   formatting = passed.formats false (not (good r)) r (capacity (geometry r)) (length img) (length (e .room))
 
-  writing : (b : ℕ) (v : List ℕ) → Passed (write b v) → Reaches (not (good r)) r (capacity (geometry r)) (length img) b (length v)
+  pub writing : (b : ℕ) (v : List ℕ) → Passed (write b v) → Reaches (not (good r)) r (capacity (geometry r)) (length img) b (length v)
   writing = passed.writes false (not (good r)) r (capacity (geometry r)) (length img) (length (e .room))
 
-  growing : (m : ℕ) → Passed (grow m) → Grows (not (good r)) r (length img) m
+  pub growing : (m : ℕ) → Passed (grow m) → Grows (not (good r)) r (length img) m
   growing = passed.grows false (not (good r)) r (capacity (geometry r)) (length img) (length (e .room))
 
-  moving : (k : ℕ) → Passed (advance k) → Moves (not (good r)) r (length img)
+  pub moving : (k : ℕ) → Passed (advance k) → Moves (not (good r)) r (length img)
   moving = passed.moves false (not (good r)) r (capacity (geometry r)) (length img) (length (e .room))
 
-  rebuilding : (d : ℕ) → Passed (rebuild d) → Rebuilds (not (good r)) r (length img) d
+  pub rebuilding : (d : ℕ) → Passed (rebuild d) → Rebuilds (not (good r)) r (length img) d
   rebuilding = passed.rebuilds false (not (good r)) r (capacity (geometry r)) (length img) (length (e .room))
 
   -- the disk that is out is below N
-  below-N : (d : ℕ) → Rebuilds (not (good r)) r (length img) d → d < disksOf r
+  pub below-N : (d : ℕ) → Rebuilds (not (good r)) r (length img) d → d < disksOf r
   below-N d q = subst (λ (x : Health). OutBelow (disksOf r) x) (q .is-out) (bounds (q .good) .out)
 
   -- ---- the stores of each call that makes any
 
-  abbrev zeroed : ℕ → List Store
+  abbrev pub zeroed : ℕ → List Store
   zeroed m = zeroDisks (r .block) (r .stripes) (r .old) m
 
-  abbrev rebuilt : ℕ → List Store
+  abbrev pub rebuilt : ℕ → List Store
   rebuilt d = fillDisk (r .stripes) d (λ S. othersIn r img S d)
 
-  within-grow : (m : ℕ) → Within (r .old + m) (r .block) (r .stripes) (zeroed m)
+  pub within-grow : (m : ℕ) → Within (r .old + m) (r .block) (r .stripes) (zeroed m)
   within-grow m = within-zero (r .block) (r .stripes) (r .old) (r .old + m) m (omega arith)
 
-  within-rebuild : (d : ℕ) → d < disksOf r → Within (disksOf r) (r .block) (r .stripes) (rebuilt d)
+  pub within-rebuild : (d : ℕ) → d < disksOf r → Within (disksOf r) (r .block) (r .stripes) (rebuilt d)
   within-rebuild d ld =
       within-fill d (λ S. othersIn r img S d) (disksOf r) (r .block) (r .stripes) ld (λ S. length-others (r .block) (r .stripes) img S (disksOf r) d) (r .stripes) (omega arith)
 
@@ -155,7 +155,7 @@ module _ (r : Record) (e : Event) where
   room-long-of (owner S d) z = refl
 
   -- the images that call c leaves
-  abbrev left : Call → List ℕ
+  abbrev pub left : Call → List ℕ
   left c = stored (effect c r e .shape .block) (effect c r e .shape .stripes) (effect c r e .stores) img
 
   images-of : (c : Call) → ((n B T : ℕ) → c ≢ format n B T) → ((b : ℕ) (v : List ℕ) → c ≢ write b v) → ((m : ℕ) → c ≢ grow m) → ((k : ℕ) → c ≢ advance k)
@@ -175,7 +175,7 @@ module _ (r : Record) (e : Event) where
 
   -- ---- the places that write, grow and rebuild leave
 
-  long-of : (c : Call) → length (left c) ≡ length img
+  pub long-of : (c : Call) → length (left c) ≡ length img
   long-of c = length-stored (effect c r e .shape .block) (effect c r e .shape .stripes) (effect c r e .stores) img
 
   module _ (b : ℕ) (v : List ℕ) (z : Passed (write b v)) (S d : ℕ) (lS : S < r .stripes) (ld : d < disksOf r) where

@@ -6,3 +6,4 @@ pub mod Calls
 pub mod Theorem
 pub mod Alone
 pub mod OneMove
+pub mod Acts

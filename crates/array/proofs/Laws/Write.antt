@@ -135,7 +135,7 @@ module _ (r : Record) (img : List ℕ) (limits : Limits r) (long : length img �
   in-stripes : Sb < r .stripes
   in-stripes = lS (geometry r) (limits .array) b lb
 
-  length-w : length w ≡ r .block
+  pub length-w : length w ≡ r .block
   length-w =
       length-xorB (xorB (seen r img Sb pb) (seen r img Sb db)) v (r .block)
       (length-xorB (seen r img Sb pb) (seen r img Sb db) (r .block) (length-seen r img Sb pb long in-stripes (lp (geometry r) (limits .array) b lb))
