@@ -28,5 +28,13 @@ paper = record {
   wide-parities = refl;
   wide-new = refl;
   wide-new-owners = refl;
-  totals = (refl, refl, refl);
+  most-moves = refl;
+  most-home = refl;
+  most-places = refl;
+  most-owners = (refl, refl);
+  most-parities = refl;
+  most-new = refl;
+  most-last = refl;
+  most-new-owners = refl;
+  totals = (refl, refl, refl, refl);
 }

@@ -1,5 +1,5 @@
--- Worked cases over the definitions; `paper` of proofs/Paper.antt computes them: the paper's table 2, figure 5 and figure 6(a), and two
--- growths whose values were found by replaying the moves of document 01's rule one by one on a table of places.
+-- Worked cases over the definitions; `paper` of proofs/Paper.antt computes them: the paper's table 2, figure 5 and figure 6(a), and
+-- three growths whose values were found by replaying the moves of document 01's rule one by one on a table of places.
 -- (Document 01's cases are one table over the calls: crate `array`, specs/Bench.antt.)
 use Prim.Native.Nat.{ℕ, zero, suc}
 use mathlib.Core.Path.{_≡_}
@@ -13,7 +13,7 @@ use Rattle.layout.specs.Home.{placeAt}
 use Rattle.layout.specs.Moves.{moveOf}
 use Rattle.layout.specs.Layout.{totalOf, layout}
 
--- ---- three arrays, after t moves: 3 disks grown by 2 (18 moves), 4 by 1 (16), 5 by 3 (75)
+-- ---- four arrays, after t moves: 3 disks grown by 2 (18 moves), 4 by 1 (16), 5 by 3 (75), and the most disks there may be, 16, by 3 (768)
 
 abbrev pub mill : ℕ → Geometry
 mill t = record { old = 3; new = 2; stripes = 15; moves = t }
@@ -23,6 +23,9 @@ even t = record { old = 4; new = 1; stripes = 20; moves = t }
 
 abbrev pub wide : ℕ → Geometry
 wide t = record { old = 5; new = 3; stripes = 40; moves = t }
+
+abbrev pub most : ℕ → Geometry
+most t = record { old = 16; new = 3; stripes = 304; moves = t }
 
 -- ---- the words of the table
 
@@ -126,4 +129,40 @@ pub record Paper : Type 0 where
       ≡ placeAt 16 5 ∷ placeAt 16 6 ∷ placeAt 16 7 ∷ placeAt 17 3 ∷ placeAt 17 6 ∷ placeAt 17 7 ∷ placeAt 18 0 ∷ placeAt 18 4 ∷
       placeAt 18 7 ∷ placeAt 19 0 ∷ placeAt 19 1 ∷ placeAt 19 2 ∷ placeAt 20 2 ∷ placeAt 20 3 ∷ placeAt 20 4 ∷ []
   pub wide-new-owners : row (wide 75) 2 16 8 ≡ Data 66 ∷ Parity ∷ Data 73 ∷ Data 219 ∷ Data 220 ∷ Data 86 ∷ Data 227 ∷ Data 93 ∷ []
-  pub totals : (totalOf (mill 0) ≡ 18) × (totalOf (even 0) ≡ 16) × (totalOf (wide 0) ≡ 75)
+  -- n = 16, m = 3: some moves of zone 1 to disk 17
+  pub most-moves :
+      moves 16 3 68 8
+      ≡ move 1 13 32 12 17 ∷ move 1 12 31 10 17 ∷ move 1 11 30 8 17 ∷ move 1 10 29 6 17 ∷
+      move 1 9 28 4 17 ∷ move 1 8 27 2 17 ∷ move 1 7 26 0 17 ∷ move 1 6 25 14 17 ∷ []
+  -- no move made: all blocks of stripe 29
+  pub most-home :
+      places (most 0) 435 15
+      ≡ placeAt 29 15 ∷ placeAt 29 14 ∷ placeAt 29 12 ∷ placeAt 29 11 ∷ placeAt 29 10 ∷ placeAt 29 9 ∷ placeAt 29 8 ∷ placeAt 29 7 ∷
+      placeAt 29 6 ∷ placeAt 29 5 ∷ placeAt 29 4 ∷ placeAt 29 3 ∷ placeAt 29 2 ∷ placeAt 29 1 ∷ placeAt 29 0 ∷ []
+  -- after 72 of its 768 moves, the first four of these eight made: the blocks of stripe 28, which waits for the fifth, and of stripe 29
+  pub most-places :
+      places (most 72) 420 30
+      ≡ placeAt 28 15 ∷ placeAt 28 14 ∷ placeAt 28 13 ∷ placeAt 28 11 ∷ placeAt 28 10 ∷ placeAt 28 9 ∷ placeAt 28 8 ∷ placeAt 28 7 ∷
+      placeAt 28 6 ∷ placeAt 28 16 ∷ placeAt 28 4 ∷ placeAt 28 3 ∷ placeAt 28 2 ∷ placeAt 28 1 ∷ placeAt 28 0 ∷
+      placeAt 29 15 ∷ placeAt 29 14 ∷ placeAt 29 12 ∷ placeAt 29 11 ∷ placeAt 29 10 ∷ placeAt 29 9 ∷ placeAt 29 8 ∷ placeAt 29 16 ∷
+      placeAt 29 17 ∷ placeAt 29 5 ∷ placeAt 29 4 ∷ placeAt 29 3 ∷ placeAt 29 2 ∷ placeAt 29 1 ∷ placeAt 29 0 ∷ []
+  -- an old disk and a new one, stripes 20 to 37
+  pub most-owners :
+      (row (most 72) 6 20 18
+      ≡ Data 309 ∷ Data 324 ∷ Parity ∷ Data 353 ∷ Data 368 ∷ Data 383 ∷ Data 398 ∷ Data 413 ∷ Data 428 ∷
+      Blank ∷ Data 458 ∷ Data 473 ∷ Data 489 ∷ Data 504 ∷ Data 519 ∷ Data 534 ∷ Data 549 ∷ Data 564 ∷ []) ×
+      (row (most 72) 17 20 18
+      ≡ Blank ∷ Blank ∷ Blank ∷ Blank ∷ Blank ∷ Blank ∷ Blank ∷ Blank ∷ Blank ∷
+      Data 443 ∷ Data 456 ∷ Data 469 ∷ Data 483 ∷ Data 496 ∷ Data 524 ∷ Data 537 ∷ Parity ∷ Blank ∷ [])
+  pub most-parities :
+      parities (most 72) 20 18 ≡ 4 ∷ 5 ∷ 6 ∷ 7 ∷ 8 ∷ 9 ∷ 10 ∷ 11 ∷ 12 ∷ 13 ∷ 14 ∷ 15 ∷ 0 ∷ 1 ∷ 2 ∷ 16 ∷ 17 ∷ 5 ∷ []
+  -- all moves made: the new blocks of stripes 27 to 30, and the last three of all
+  pub most-new :
+      places (most 768) 4641 12
+      ≡ placeAt 27 1 ∷ placeAt 27 2 ∷ placeAt 27 3 ∷ placeAt 28 3 ∷ placeAt 28 4 ∷ placeAt 28 5 ∷
+      placeAt 29 5 ∷ placeAt 29 6 ∷ placeAt 29 7 ∷ placeAt 30 7 ∷ placeAt 30 8 ∷ placeAt 30 9 ∷ []
+  pub most-last : places (most 768) 5469 3 ≡ placeAt 303 15 ∷ placeAt 303 16 ∷ placeAt 303 17 ∷ []
+  pub most-new-owners :
+      row (most 768) 6 20 10
+      ≡ Data 309 ∷ Data 4623 ∷ Parity ∷ Data 353 ∷ Data 368 ∷ Data 383 ∷ Data 398 ∷ Data 413 ∷ Data 428 ∷ Data 4648 ∷ []
+  pub totals : (totalOf (mill 0) ≡ 18) × (totalOf (even 0) ≡ 16) × (totalOf (wide 0) ≡ 75) × (totalOf (most 0) ≡ 768)
