@@ -24,7 +24,7 @@ const COMPUTED: &[(&str, &str, &[&str])] = &[
     (
         "/proofs/Exact.antt:",
         "`computed`",
-        &["zone_moves/zone_of_three"],
+        &["zone_moves/thousands_dropped", "zone_moves/zone_of_three"],
     ),
     (
         "/proofs/Drawers.antt:",

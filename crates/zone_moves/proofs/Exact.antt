@@ -3,7 +3,7 @@ use Prim.Native.Nat.{ℕ, _+_, _≤_, _<_}
 use mathlib.Core.Path.{_≡_, refl, sym, ap, _∙_}
 use mathlib.Core.Bool.{and-false}
 use mathlib.Core.List.{List, [], _∷_, _++_, append-assoc}
-use mathlib.Core.Logic.{inl, inr, _≢_}
+use mathlib.Core.Logic.{inl, inr, _↔_, _≢_}
 use native.Mathlib.Omega.{arith}
 use lib.ListN.{length, getD, take, drop}
 use lib.Seq.{drop-append-seam, getD-take}
@@ -15,10 +15,11 @@ use Rattle.zone_moves.specs.declared.parse.Request.{Request}
 use Rattle.zone_moves.specs.Decimal.{spell, decimal}
 use Rattle.zone_moves.specs.Request.{Limited, isDigit, inLimits, fieldOf, fieldAt, askZone, askNew, askOld, requestOf}
 use Rattle.zone_moves.specs.Listing.{column, moveLine, linesOf, indices, zoneMoves, refusal, answered, answer}
-use Rattle.zone_moves.specs.Exact.{line, ZoneMoves, asked, listed, asked-of-four, listed-of-four, Exact}
+use Rattle.zone_moves.specs.Exact.{line, ZoneMoves, text, Examples, Exact}
 use Rattle.zone_moves.proofs.Laws.Fields.{limited, limits-pass, zone-asked, Seen, one, two, none, look, Ends, ends, nowhere, field-ends, Line, asks, other, look-line}
 use Rattle.zone_moves.proofs.Laws.Reading.{field-text, field-reads, drop-more}
 use Rattle.zone_moves.proofs.Laws.Indices.{zone-moves}
+use Rattle.zone_moves.proofs.Laws.Decimals.{spelled}
 use Rattle.layout.proofs.Laws.Basics.{le-or-lt}
 
 -- ---- what is meant is read
@@ -157,15 +158,52 @@ module _ (s : List ℕ) (k : ℕ) (feed : getD s k 0 ≡ 10) where
   line-enough : requestOf (take (k + 1) s) ≡ requestOf s
   line-enough = request-same (take (k + 1) s) s k k (omega arith) feed-field feed-ends (feed-ends 0 (omega arith))
 
+-- ---- the limits
+
+limits-are : (n m z : ℕ) → Limited n m z ↔ ((3 ≤ n) × (n ≤ 16) × (1 ≤ m) × (m ≤ 16) × (z < n))
+limits-are n m z = (
+  λ l. (l .disks .n-low, l .disks .n-high, l .new, l .disks .m-high, l .zone),
+  λ (a, b, c, d, e). record { disks = record { n-low = a; n-high = b; m-high = d }; new = c; zone = e },
+)
+
+-- ---- the text of a line
+
+cons-append : (x : ℕ) (xs ys : List ℕ) → (x ∷ xs) ++ ys ≡ x ∷ (xs ++ ys)
+cons-append x xs ys = refl
+
+asked-is : (n m z : ℕ) → line n m z ≡ decimal n ++ (32 ∷ decimal m) ++ (32 ∷ decimal z) ++ (10 ∷ [])
+unfolding line column
+asked-is n m z = simp append-assoc
+
+printed-is : (n m k : ℕ) (ks : List ℕ) → linesOf n m (k ∷ ks)
+    ≡ decimal k ++ (32 ∷ decimal (moveZone n m k)) ++ (32 ∷ decimal (moveWithin n m k)) ++ (32 ∷ decimal (moveFrom n m k))
+    ++ (32 ∷ decimal (moveTo n m k)) ++ (10 ∷ linesOf n m ks)
+unfolding linesOf moveLine column
+printed-is n m k ks = simp (append-assoc, cons-append)
+
+no-more-is : (n m : ℕ) → linesOf n m [] ≡ []
+unfolding linesOf
+no-more-is n m = refl
+
 -- ---- the examples
 
-computed : (answer asked ≡ listed) × (answer asked-of-four ≡ listed-of-four)
-unfolding answer answered requestOf askOld askNew askZone fieldAt fieldOf isDigit inLimits zoneMoves indices linesOf moveLine column decimal spell moveZone moveWithin moveFrom moveTo moveLag
-computed = (refl, refl)
-
-five : zoneMoves 5 3 2 ≡ 30 ∷ 31 ∷ 32 ∷ 33 ∷ 34 ∷ 35 ∷ 36 ∷ 37 ∷ 38 ∷ 39 ∷ 40 ∷ 41 ∷ 42 ∷ 43 ∷ 44 ∷ []
-unfolding zoneMoves indices
-five = refl
+computed : Examples
+unfolding answer answered requestOf askOld askNew askZone fieldAt fieldOf isDigit inLimits zoneMoves indices linesOf moveLine column decimal spell moveZone moveWithin moveFrom moveTo moveLag text
+computed =
+    record {
+      numbers = (refl, refl, refl, refl, refl, refl, refl, refl);
+      example = refl;
+      first-zone = refl;
+      last-zone = refl;
+      example-of-four = refl;
+      zone-of-five = refl;
+      largest-first = refl;
+      largest-last = refl;
+      largest-length = refl;
+      words = refl;
+      past-limits = (refl, refl, refl, refl, refl);
+      other-lines = (refl, refl, refl, refl, refl, refl, refl, refl);
+    }
 
 pub exact : Exact
 exact =
@@ -176,7 +214,10 @@ exact =
       refused = line-refused;
       first-nine = λ s. answer-of (take 9 s) s (nine s);
       first-line = λ s k e. answer-of (take (k + 1) s) s (line-enough s k e);
-      example = computed .0;
-      example-of-four = computed .1;
-      zone-of-five = five;
+      limits = limits-are;
+      decimals = spelled;
+      asked = asked-is;
+      printed = printed-is;
+      no-more = no-more-is;
+      examples = computed;
     }

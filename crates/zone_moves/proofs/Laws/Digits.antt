@@ -10,11 +10,11 @@ use Rattle.zone_moves.specs.Decimal.{digit, spell, decimal}
 use Rattle.zone_moves.specs.Listing.{column}
 use Rattle.layout.proofs.Laws.Basics.{le-or-lt}
 
-spell-one : (w x : ℕ) → x < 10 → spell (suc w) x ≡ digit x ∷ []
+pub spell-one : (w x : ℕ) → x < 10 → spell (suc w) x ≡ digit x ∷ []
 unfolding spell
 spell-one w x h = simp (lt-ltb x 10 h)
 
-spell-more : (w x : ℕ) → 10 ≤ x → spell (suc w) x ≡ spell w (x / 10) ++ (digit (x % 10) ∷ [])
+pub spell-more : (w x : ℕ) → 10 ≤ x → spell (suc w) x ≡ spell w (x / 10) ++ (digit (x % 10) ∷ [])
 unfolding spell
 spell-more w x h = simp (le-ltb x 10 h)
 
