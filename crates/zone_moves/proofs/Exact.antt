@@ -15,7 +15,7 @@ use Rattle.zone_moves.specs.declared.parse.Request.{Request}
 use Rattle.zone_moves.specs.Decimal.{spell, decimal}
 use Rattle.zone_moves.specs.Request.{Limited, isDigit, inLimits, fieldOf, fieldAt, askZone, askNew, askOld, requestOf}
 use Rattle.zone_moves.specs.Listing.{column, moveLine, linesOf, indices, zoneMoves, refusal, answered, answer}
-use Rattle.zone_moves.specs.Exact.{line, ZoneMoves, text, Examples, Exact}
+use Rattle.zone_moves.specs.Exact.{line, ZoneMoves, text, Exact}
 use Rattle.zone_moves.proofs.Laws.Fields.{limited, limits-pass, zone-asked, Seen, one, two, none, look, Ends, ends, nowhere, field-ends, Line, asks, other, look-line}
 use Rattle.zone_moves.proofs.Laws.Reading.{field-text, field-reads, drop-more}
 use Rattle.zone_moves.proofs.Laws.Indices.{zone-moves}
@@ -181,31 +181,10 @@ printed-is : (n m k : ℕ) (ks : List ℕ) → linesOf n m (k ∷ ks)
 unfolding linesOf moveLine column
 printed-is n m k ks = simp (append-assoc, cons-append)
 
-no-more-is : (n m : ℕ) → linesOf n m [] ≡ []
-unfolding linesOf
-no-more-is n m = refl
-
--- ---- the examples
-
-computed : Examples
-unfolding answer answered requestOf askOld askNew askZone fieldAt fieldOf isDigit inLimits zoneMoves indices linesOf moveLine column decimal spell moveZone moveWithin moveFrom moveTo moveLag text
-computed =
-    record {
-      numbers = (refl, refl, refl, refl, refl, refl, refl, refl);
-      example = refl;
-      first-zone = refl;
-      last-zone = refl;
-      example-of-four = refl;
-      zone-of-five = refl;
-      largest-first = refl;
-      largest-last = refl;
-      largest-length = refl;
-      words = refl;
-      past-limits = (refl, refl, refl, refl, refl);
-      other-lines = (refl, refl, refl, refl, refl, refl, refl, refl);
-    }
+-- ---- the theorem
 
 pub exact : Exact
+unfolding answer answered requestOf askOld askNew askZone fieldAt fieldOf isDigit inLimits zoneMoves indices linesOf moveLine column decimal spell moveZone moveWithin moveFrom moveTo moveLag text
 exact =
     record {
       reads = line-reads;
@@ -218,6 +197,17 @@ exact =
       decimals = spelled;
       asked = asked-is;
       printed = printed-is;
-      no-more = no-more-is;
-      examples = computed;
+      no-more = λ n m. refl;
+      numbers = (refl, refl, refl, refl, refl, refl, refl, refl);
+      example = refl;
+      first-zone = refl;
+      last-zone = refl;
+      example-of-four = refl;
+      zone-of-five = refl;
+      largest-first = refl;
+      largest-last = refl;
+      largest-length = refl;
+      words = refl;
+      past-limits = (refl, refl, refl, refl, refl);
+      other-lines = (refl, refl, refl, refl, refl, refl, refl, refl);
     }
