@@ -30,7 +30,7 @@ said x (d ∷ ds) = said (10 * x + (d - 48)) ds
 -- ds is x in decimal: digits that say x, at least one, and the first is `0` only if it stands alone
 pub record Spelled (x : ℕ) (ds : List ℕ) : Type 0 where
   pub some : 0 < length ds
-  pub digits : (j : ℕ) → j < length ds → (48 ≤ getD ds j 0) × (getD ds j 0 ≤ 57)
+  pub bytes : (j : ℕ) → j < length ds → (48 ≤ getD ds j 0) × (getD ds j 0 ≤ 57)
   pub says : said 0 ds ≡ x
   pub no-zero : getD ds 0 0 ≡ 48 → length ds ≡ 1
 

@@ -34,7 +34,7 @@ said-alone (d ∷ d′ ∷ ds) e = absurd (omega arith)
 one-spelled : (x : ℕ) → x < 10 → Spelled x (digit x ∷ [])
 one-spelled x h = record {
   some = omega arith;
-  digits = λ j k. let e : j ≡ 0 = omega arith in rw e (omega arith, omega arith);
+  bytes = λ j k. let e : j ≡ 0 = omega arith in rw e (omega arith, omega arith);
   says = said-one (digit x) ∙ omega arith;
   no-zero = λ e. refl;
 }
@@ -42,11 +42,11 @@ one-spelled x h = record {
 more-spelled : (x : ℕ) (ds : List ℕ) (d : ℕ) → 0 < x → d < 10 → Spelled x ds → Spelled (10 * x + d) (ds ++ (digit d ∷ []))
 more-spelled x ds d p h s = record {
   some = omega (arith, length-append ds (digit d ∷ []));
-  digits = λ j k. elim (le-or-lt (length ds) j) [
+  bytes = λ j k. elim (le-or-lt (length ds) j) [
     | inl l ↦
         let e : getD (ds ++ (digit d ∷ [])) j 0 ≡ digit d = getD-at ds (digit d) [] 0 j (omega (arith, length-append ds (digit d ∷ []))) in
         (omega arith, omega arith)
-    | inr l ↦ rw (List·getD-append ds (digit d ∷ []) 0 j l) (s .digits j l)
+    | inr l ↦ rw (List·getD-append ds (digit d ∷ []) 0 j l) (s .bytes j l)
   ];
   says = said-more 0 ds (digit d) ∙ omega (arith, s .says);
   no-zero = λ e.
