@@ -23,7 +23,7 @@ const COMPUTED: &[(&str, &str, &[&str])] = &[
     ),
     (
         "/proofs/Exact.antt:",
-        "`exact`",
+        "`computed`",
         &["zone_moves/thousands_dropped", "zone_moves/zone_of_three"],
     ),
     (

@@ -15,7 +15,7 @@ use Rattle.zone_moves.specs.declared.parse.Request.{Request}
 use Rattle.zone_moves.specs.Decimal.{spell, decimal}
 use Rattle.zone_moves.specs.Request.{Limited, isDigit, inLimits, fieldOf, fieldAt, askZone, askNew, askOld, requestOf}
 use Rattle.zone_moves.specs.Listing.{column, moveLine, linesOf, indices, zoneMoves, refusal, answered, answer}
-use Rattle.zone_moves.specs.Exact.{line, ZoneMoves, text, Exact}
+use Rattle.zone_moves.specs.Exact.{line, ZoneMoves, text, Examples, Exact}
 use Rattle.zone_moves.proofs.Laws.Fields.{limited, limits-pass, zone-asked, Seen, one, two, none, look, Ends, ends, nowhere, field-ends, Line, asks, other, look-line}
 use Rattle.zone_moves.proofs.Laws.Reading.{field-text, field-reads, drop-more}
 use Rattle.zone_moves.proofs.Laws.Indices.{zone-moves}
@@ -181,23 +181,16 @@ printed-is : (n m k : ℕ) (ks : List ℕ) → linesOf n m (k ∷ ks)
 unfolding linesOf moveLine column
 printed-is n m k ks = simp (append-assoc, cons-append)
 
--- ---- the theorem
+no-more-is : (n m : ℕ) → linesOf n m [] ≡ []
+unfolding linesOf
+no-more-is n m = refl
 
-pub exact : Exact
+-- ---- the examples
+
+pub computed : Examples
 unfolding answer answered requestOf askOld askNew askZone fieldAt fieldOf isDigit inLimits zoneMoves indices linesOf moveLine column decimal spell moveZone moveWithin moveFrom moveTo moveLag text
-exact =
+computed =
     record {
-      reads = line-reads;
-      zone = line-zone;
-      only = λ s n m z e. line-only (look-line s) e;
-      refused = line-refused;
-      first-nine = λ s. answer-of (take 9 s) s (nine s);
-      first-line = λ s k e. answer-of (take (k + 1) s) s (line-enough s k e);
-      limits = limits-are;
-      decimals = spelled;
-      asked = asked-is;
-      printed = printed-is;
-      no-more = λ n m. refl;
       numbers = (refl, refl, refl, refl, refl, refl, refl, refl);
       example = refl;
       first-zone = refl;
@@ -210,4 +203,23 @@ exact =
       words = refl;
       past-limits = (refl, refl, refl, refl, refl);
       other-lines = (refl, refl, refl, refl, refl, refl, refl, refl);
+    }
+
+-- ---- the theorem
+
+pub exact : Exact
+exact =
+    record {
+      reads = line-reads;
+      zone = line-zone;
+      only = λ s n m z e. line-only (look-line s) e;
+      refused = line-refused;
+      first-nine = λ s. answer-of (take 9 s) s (nine s);
+      first-line = λ s k e. answer-of (take (k + 1) s) s (line-enough s k e);
+      limits = limits-are;
+      decimals = spelled;
+      asked = asked-is;
+      printed = printed-is;
+      no-more = no-more-is;
+      examples = computed;
     }

@@ -63,31 +63,7 @@ asks n m z = text (n ∷ sp ∷ m ∷ sp ∷ z ∷ lf ∷ [])
 abbrev pub largest : List ℕ
 largest = text (1 ∷ 6 ∷ sp ∷ 1 ∷ 6 ∷ sp ∷ 1 ∷ 5 ∷ lf ∷ [])
 
-pub record Exact : Type 0 where
-  -- a line with numbers in the limits asks for their zone, whatever stands behind it
-  pub reads : (n m z : ℕ) (rest : List ℕ) → Limited n m z → requestOf (line n m z ++ rest) ≡ Zone n m z
-  -- and is answered by the lines of that zone's moves
-  pub zone : (n m z : ℕ) (rest : List ℕ) → Limited n m z
-      → (ks : List ℕ) × ZoneMoves n m z ks × (answer (line n m z ++ rest) ≡ linesOf n m ks)
-  -- nothing else asks for a zone
-  pub only : (s : List ℕ) (n m z : ℕ) → requestOf s ≡ Zone n m z → Limited n m z × (s ≡ line n m z ++ drop (length (line n m z)) s)
-  -- and what is no such line is refused
-  pub refused : (s : List ℕ) → ((n m z : ℕ) (rest : List ℕ) → Limited n m z → s ≢ line n m z ++ rest) → answer s ≡ refusal
-  -- nine bytes of the input are enough
-  pub first-nine : (s : List ℕ) → answer (take 9 s) ≡ answer s
-  -- what stands behind a line feed does not matter
-  pub first-line : (s : List ℕ) (k : ℕ) → getD s k 0 ≡ 10 → answer (take (k + 1) s) ≡ answer s
-  -- the limits: "n, the old disks, is 3 to 16; m, the new ones, 1 to 16", "z from 0 to n − 1"
-  pub limits : (n m z : ℕ) → Limited n m z ↔ ((3 ≤ n) × (n ≤ 16) × (1 ≤ m) × (m ≤ 16) × (z < n))
-  -- numbers are read and printed in decimal: the law holds below 10²⁰, so of every u64
-  pub decimals : (x : ℕ) → x < 100000000000000000000 → Spelled x (decimal x)
-  -- such a line, and what is printed of a move: "index, zone, stripe within the zone, old disk, new disk"
-  pub asked : (n m z : ℕ) → line n m z ≡ decimal n ++ (sp ∷ decimal m) ++ (sp ∷ decimal z) ++ (lf ∷ [])
-  pub printed : (n m k : ℕ) (ks : List ℕ) → linesOf n m (k ∷ ks)
-      ≡ decimal k ++ (sp ∷ decimal (moveZone n m k)) ++ (sp ∷ decimal (moveWithin n m k)) ++ (sp ∷ decimal (moveFrom n m k))
-      ++ (sp ∷ decimal (moveTo n m k)) ++ (lf ∷ linesOf n m ks)
-  pub no-more : (n m : ℕ) → linesOf n m [] ≡ []
-  -- ---- computed
+pub record Examples : Type 0 where
   -- numbers
   pub numbers :
       (decimal 0 ≡ text (0 ∷ [])) × (decimal 9 ≡ text (9 ∷ [])) × (decimal 10 ≡ text (1 ∷ 0 ∷ [])) × (decimal 99 ≡ text (9 ∷ 9 ∷ [])) ×
@@ -121,3 +97,30 @@ pub record Exact : Type 0 where
       (answer (text (3 ∷ sp ∷ sp ∷ 2 ∷ sp ∷ 1 ∷ lf ∷ [])) ≡ refusal) × (answer (text (sp ∷ 3 ∷ sp ∷ 2 ∷ sp ∷ 1 ∷ lf ∷ [])) ≡ refusal) ×
       (answer (text (3 ∷ sp ∷ 2 ∷ sp ∷ 1 ∷ sp ∷ lf ∷ [])) ≡ refusal) × (answer (text (3 ∷ sp ∷ 2 ∷ sp ∷ 1 ∷ 13 ∷ lf ∷ [])) ≡ refusal) ×
       (answer (text (3 ∷ sp ∷ 2 ∷ lf ∷ [])) ≡ refusal) × (answer [] ≡ refusal)
+
+pub record Exact : Type 0 where
+  -- a line with numbers in the limits asks for their zone, whatever stands behind it
+  pub reads : (n m z : ℕ) (rest : List ℕ) → Limited n m z → requestOf (line n m z ++ rest) ≡ Zone n m z
+  -- and is answered by the lines of that zone's moves
+  pub zone : (n m z : ℕ) (rest : List ℕ) → Limited n m z
+      → (ks : List ℕ) × ZoneMoves n m z ks × (answer (line n m z ++ rest) ≡ linesOf n m ks)
+  -- nothing else asks for a zone
+  pub only : (s : List ℕ) (n m z : ℕ) → requestOf s ≡ Zone n m z → Limited n m z × (s ≡ line n m z ++ drop (length (line n m z)) s)
+  -- and what is no such line is refused
+  pub refused : (s : List ℕ) → ((n m z : ℕ) (rest : List ℕ) → Limited n m z → s ≢ line n m z ++ rest) → answer s ≡ refusal
+  -- nine bytes of the input are enough
+  pub first-nine : (s : List ℕ) → answer (take 9 s) ≡ answer s
+  -- what stands behind a line feed does not matter
+  pub first-line : (s : List ℕ) (k : ℕ) → getD s k 0 ≡ 10 → answer (take (k + 1) s) ≡ answer s
+  -- the limits: "n, the old disks, is 3 to 16; m, the new ones, 1 to 16", "z from 0 to n − 1"
+  pub limits : (n m z : ℕ) → Limited n m z ↔ ((3 ≤ n) × (n ≤ 16) × (1 ≤ m) × (m ≤ 16) × (z < n))
+  -- numbers are read and printed in decimal: the law holds below 10²⁰, so of every u64
+  pub decimals : (x : ℕ) → x < 100000000000000000000 → Spelled x (decimal x)
+  -- such a line, and what is printed of a move: "index, zone, stripe within the zone, old disk, new disk"
+  pub asked : (n m z : ℕ) → line n m z ≡ decimal n ++ (sp ∷ decimal m) ++ (sp ∷ decimal z) ++ (lf ∷ [])
+  pub printed : (n m k : ℕ) (ks : List ℕ) → linesOf n m (k ∷ ks)
+      ≡ decimal k ++ (sp ∷ decimal (moveZone n m k)) ++ (sp ∷ decimal (moveWithin n m k)) ++ (sp ∷ decimal (moveFrom n m k))
+      ++ (sp ∷ decimal (moveTo n m k)) ++ (lf ∷ linesOf n m ks)
+  pub no-more : (n m : ℕ) → linesOf n m [] ≡ []
+  -- the examples, computed
+  pub examples : Examples
