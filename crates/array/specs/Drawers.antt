@@ -41,7 +41,7 @@ standing = disk0 ++ disk1 ++ disk2 ++ disk3
 abbrev pub degraded : List ℕ
 degraded = disk0 ++ disk1 ++ garbage ++ disk3
 
--- disk 3 too, so that no stripe is sound, and every blank place there is not zero
+-- disk 3 too, so that its blank places are not zero
 abbrev pub spoilt : List ℕ
 spoilt = disk0 ++ disk1 ++ garbage ++ garbage
 
@@ -152,7 +152,7 @@ pub record Drawers : Type 0 where
       (disk0 ++ disk1 ++ (76 ∷ 78 ∷ 75 ∷ 69 ∷ 68 ∷ 74 ∷ 64 ∷ 93 ∷ 78 ∷ 94 ∷ 88 ∷ 66 ∷ []) ++ garbage)
       (9 ∷ []) done
   -- ---- blocks of two bytes: place (S, d) begins at byte (d × 12 + S) × 2
-  -- moves 4 and 5: block 12, stripe 6, disk 2 to 3; block 10, stripe 5, disk 0 to 3
+  -- moves 4 and 5: block 12, stripe 6, disk 2 to 3; block 11, stripe 5, disk 0 to 3
   pub wide-moves : onWide wideStanding (wide Whole 4) (advance 2)
       ≡ leftWide (wide Whole 6)
       ((3 ∷ 2 ∷ 4 ∷ 57 ∷ 6 ∷ 53 ∷ 0 ∷ 0 ∷ 10 ∷ 45 ∷ 0 ∷ 0 ∷ 3 ∷ 2 ∷ 16 ∷ 33 ∷ 18 ∷ 29 ∷ 7 ∷ 2 ∷ 22 ∷ 21 ∷ 24 ∷ 17 ∷ [])
