@@ -28,11 +28,11 @@ spell-small v w x h =
 
 pub decimal-one : (x : ℕ) → x < 10 → decimal x ≡ digit x ∷ []
 unfolding decimal
-decimal-one x h = spell-one 19 x h
+decimal-one x h = spell-one _ x h
 
 pub decimal-two : (x : ℕ) → 10 ≤ x → x < 100 → decimal x ≡ digit (x / 10) ∷ digit (x % 10) ∷ []
 unfolding decimal
-decimal-two x h k = spell-two 18 x h k
+decimal-two x h k = spell-two _ x h k
 
 pub decimal-four : (x : ℕ) → 100 ≤ x → x < 10000 → decimal x ≡ decimal (x / 100) ++ (digit (x / 10 % 10) ∷ []) ++ (digit (x % 10) ∷ [])
 unfolding decimal
