@@ -64,6 +64,7 @@ const STATEMENTS: &[&str] = &[
     "ZeroAtFirst",
     "SecondOut",
     "Exact",
+    "Examples",
     "Paper",
     "Bench",
     "Unmarked",

@@ -59,7 +59,7 @@ teen a b c d e = 49 ∷ digits a b c d e
 abbrev pub asks : ℕ → ℕ → ℕ → List ℕ
 asks n m z = text (n ∷ sp ∷ m ∷ sp ∷ z ∷ lf ∷ [])
 
--- "16 16 15": the most disks, and their last zone
+-- `16 16 15`: the most disks, and their last zone
 abbrev pub largest : List ℕ
 largest = text (1 ∷ 6 ∷ sp ∷ 1 ∷ 6 ∷ sp ∷ 1 ∷ 5 ∷ lf ∷ [])
 
