@@ -79,7 +79,8 @@ OneMove = (r : Record) (img : List ℕ) → good r ≡ true → idle (geometry r
 -- ---- locate and owner: "Both read the record only." So does status: whatever else a call of these were lent, it answers the same
 
 pub record RecordOnly : Type 0 where
-  pub of-status : (r : Record) (img img′ room room′ : List ℕ) → called (on status img room) r .answer ≡ called (on status img′ room′) r .answer
+  pub of-status : (r : Record) (img img′ room room′ : List ℕ)
+      → called (on status img room) r .answer ≡ called (on status img′ room′) r .answer
   pub of-locate : (r : Record) (b : ℕ) (img img′ room room′ : List ℕ)
       → called (on (locate b) img room) r .answer ≡ called (on (locate b) img′ room′) r .answer
   pub of-owner : (r : Record) (S d : ℕ) (img img′ room room′ : List ℕ)

@@ -82,8 +82,8 @@ pub record Numbers (g : Geometry) : Type 0 where
 -- ---- number to place and place to number, after any count of moves
 
 pub record Placed (g : Geometry) : Type 0 where
-  -- a block of before the growth, "in stripe b div (n − 1)" with "its rank b mod (n − 1)", and each stripe's parity, "on disk S mod n", stand
-  -- where the replay of the moves puts them
+  -- a block of before the growth, "in stripe b div (n − 1)" with "its rank b mod (n − 1)", and each stripe's parity, "on disk S mod n",
+  -- stand where the replay of the moves puts them
   pub replayed : (b : ℕ) → b < g .stripes * (g .old - 1) →
       let S = b / (g .old - 1) in
       layout g .place b ≡ placeAt S (stands (g .old) (g .new) (g .moves) S (dataDisk (g .old) S (b % (g .old - 1))))
