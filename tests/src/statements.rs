@@ -12,7 +12,7 @@ pub struct Row {
     pub term: String,
     /// The file that has the term, below crates/.
     pub proofs: String,
-    /// Of the text of the statement and of all that it is made of.
+    /// Of the text of the statement and of every definition that it is made of.
     pub fingerprint: String,
 }
 
@@ -88,40 +88,37 @@ fn single_spaced(text: &str) -> String {
 
 // ---- what a statement is made of
 
-/// A type of a file of specs/: a statement, a predicate or a record, with its text.
-pub struct Predicate {
-    /// The crate that has it.
-    pub of: String,
+/// A definition of a file of specs/, with its text.
+pub struct Item {
+    /// The file that has it, below crates/.
+    pub file: String,
     pub name: String,
     pub text: String,
 }
 
-/// The types that a file of specs/ defines: what is declared as `.. → Type 0`, or as a record.
-pub fn predicates(of: &str, specs: &str) -> Vec<Predicate> {
+impl Item {
+    fn of(&self) -> &str {
+        self.file.split('/').next().unwrap()
+    }
+}
+
+/// What a file of specs/ defines: statements, predicates, records, data types and functions.
+pub fn items(file: &str, specs: &str) -> Vec<Item> {
     let starts = ["abbrev ", "unfoldable ", "pub ", "use "];
-    let mut items: Vec<Vec<&str>> = Vec::new();
+    let mut all: Vec<Vec<&str>> = Vec::new();
     for line in lines(specs) {
-        match items.last_mut() {
+        match all.last_mut() {
             Some(item) if !starts.iter().any(|s| line.starts_with(s)) => item.push(line),
-            _ => items.push(vec![line]),
+            _ => all.push(vec![line]),
         }
     }
-    items
-        .into_iter()
+    let modifier = |word: &&str| ["abbrev", "unfoldable", "pub", "record", "data"].contains(word);
+    all.into_iter()
+        .filter(|item| !item[0].starts_with("use ") && !item[0].starts_with("pub mod "))
         .filter_map(|item| {
-            // a signature may go on in the next lines
-            let more = item[1..].iter().take_while(|line| line.starts_with(' '));
-            let is_record = item[0].ends_with(" where");
-            let head: Vec<&str> = match is_record {
-                true => vec![item[0].trim_end_matches(" where")],
-                false => item[..1].iter().chain(more).copied().collect(),
-            };
-            let head = single_spaced(&head.join(" "));
-            let modifier = |word: &&str| ["abbrev", "unfoldable", "pub", "record"].contains(word);
-            let name = head.split(' ').find(|word| !modifier(word))?;
-            let is_type = head.ends_with(" Type 0") && !head.contains("pub data ");
-            is_type.then(|| Predicate {
-                of: of.to_string(),
+            let name = item[0].split(' ').find(|word| !modifier(word))?;
+            Some(Item {
+                file: file.to_string(),
                 name: name.to_string(),
                 text: single_spaced(&item.join(" ")),
             })
@@ -129,25 +126,28 @@ pub fn predicates(of: &str, specs: &str) -> Vec<Predicate> {
         .collect()
 }
 
-/// The fingerprint of a statement: of its text and that of every predicate that it reaches, in its own crate, or, where that has none of the
-/// name, in another one. A comment or a line's break is no part of it.
-pub fn fingerprint(of: &str, statement: &str, all: &[Predicate]) -> String {
+/// The fingerprint of a statement: of its text and that of every definition that it reaches, in its own crate, or, where that has none
+/// of the name, in another one. A comment or a line's break is no part of it.
+pub fn fingerprint(of: &str, statement: &str, all: &[Item]) -> String {
     let is_name = |c: char| c.is_alphanumeric() || "_-′".contains(c);
-    let mut reached: Vec<&Predicate> = Vec::new();
+    let mut reached: Vec<&Item> = Vec::new();
     let mut left = vec![statement.to_string()];
     while let Some(name) = left.pop() {
-        let own = all.iter().any(|p| p.of == of && p.name == name);
-        for p in all.iter().filter(|p| p.name == name) {
-            let is_new = !reached.iter().any(|r| r.of == p.of && r.name == p.name);
-            if is_new && (p.of == of || !own) {
-                let words = p.text.split(|c: char| !is_name(c));
+        let own = all.iter().any(|item| item.of() == of && item.name == name);
+        for item in all.iter().filter(|item| item.name == name) {
+            let is_new = !reached.iter().any(|r| std::ptr::eq(*r, item));
+            if is_new && (item.of() == of || !own) {
+                let words = item.text.split(|c: char| !is_name(c));
                 left.extend(words.map(str::to_string));
-                reached.push(p);
+                reached.push(item);
             }
         }
     }
-    reached.sort_by_key(|p| (&p.of, &p.name));
-    let text: String = reached.iter().map(|p| format!("{}\n", p.text)).collect();
+    reached.sort_by_key(|item| (&item.file, &item.name, &item.text));
+    let text: String = reached
+        .iter()
+        .map(|item| format!("{}\n", item.text))
+        .collect();
     format!("{:016x}", fnv(text.as_bytes()))
 }
 

@@ -10,7 +10,7 @@ use yuzkamide_tests::definitions::{
 use yuzkamide_tests::mentions::{blocks, faults, Sources};
 use yuzkamide_tests::program::target;
 use yuzkamide_tests::statements::{
-    closed, definition, fault, fingerprint, predicates, quoted, rows, Predicate, Row,
+    closed, definition, fault, fingerprint, items, quoted, rows, uses, Item, Row,
 };
 
 fn root() -> PathBuf {
@@ -163,26 +163,30 @@ fn a_weakened_statement_is_not_the_quoted_one() {
     );
 }
 
-/// Every type of every file of specs/.
-fn all_predicates() -> Vec<Predicate> {
+/// Every file of specs/, by its path below crates/, with its text.
+fn specs() -> Vec<(String, String)> {
     let mut all = Vec::new();
     for entry in fs::read_dir(root().join("crates")).unwrap() {
         let of = entry.unwrap().file_name().into_string().unwrap();
-        let Ok(folder) = fs::read_dir(root().join("crates").join(&of).join("specs")) else {
-            continue;
-        };
-        for file in folder {
-            let text = fs::read_to_string(file.unwrap().path()).unwrap();
-            all.extend(predicates(&of, &text));
+        let folder = fs::read_dir(root().join("crates").join(&of).join("specs"));
+        for file in folder.into_iter().flatten() {
+            let name = file.unwrap().file_name().into_string().unwrap();
+            let path = format!("{of}/specs/{name}");
+            let text = source(&path);
+            all.push((path, text));
         }
     }
     all
 }
 
-/// The table has a fingerprint of what each statement says, down to the last predicate: who weakens one has to change the table.
+/// The table has a fingerprint of what each statement says, down to the last definition: who weakens one has to change the table.
 #[test]
 fn statements_say_what_they_said() {
-    let all = all_predicates();
+    let all: Vec<Item> = specs()
+        .iter()
+        .flat_map(|(file, text)| items(file, text))
+        .collect();
+    assert!(all.len() > 200, "the search finds the definitions");
     let mut changed = Vec::new();
     for row in rows(&document("READING.md")) {
         let of = row.specs.split('/').next().unwrap();
@@ -197,33 +201,51 @@ fn statements_say_what_they_said() {
     assert!(changed.is_empty(), "{changed:#?}");
 }
 
+/// A name means the same in every file of specs/: none is changed where it is taken from another file.
+#[test]
+fn names_are_not_changed_on_the_way() {
+    let mut seen = 0;
+    for (file, text) in specs() {
+        for u in uses(&text) {
+            assert_eq!(u.original, u.name, "{file}: {u:?}");
+            seen += 1;
+        }
+    }
+    assert!(seen > 500, "the search finds the names: {seen}");
+}
+
 #[test]
 fn a_fingerprint_is_of_all_that_is_reached() {
-    let of = |specs: &str| {
-        let all = [
-            predicates("array", specs),
-            predicates("layout", "abbrev pub Far : ℕ → Type 0\nFar k = k ≡ k\n"),
-        ];
-        let all: Vec<Predicate> = all.into_iter().flatten().collect();
+    let far = "abbrev pub Far : ℕ → Type 0\nFar k = k ≡ near k\n\nunfoldable pub near : ℕ → ℕ\nnear k = k\n";
+    let of = |specs: &str, far: &str| {
+        let mut all = items("array/specs/Theorem.antt", specs);
+        all.extend(items("layout/specs/Far.antt", far));
         fingerprint("array", "Demand1", &all)
     };
-    let before = of(SPECS);
+    let specs = edited(SPECS, "Part k = k ≡ k\n", "Part k = Far k\n");
+    let before = of(&specs, far);
     assert_eq!(before.len(), 16);
     // comments and breaks, and what is not reached, are no matter
-    let table = edited(SPECS, "pub first : Part 1", "pub first : Part 2");
+    let table = edited(&specs, "pub first : Part 1", "pub first : Part 2");
     let broken = edited(
-        SPECS,
+        &specs,
         "= (k : ℕ) → Part k\n",
         "=\n    (k : ℕ)\n    → Part k  -- so\n",
     );
-    assert_eq!((of(&table), of(&broken)), (before.clone(), before.clone()));
-    // the statement itself, what it is made of, here and in another crate
-    let head = edited(SPECS, "(k : ℕ) → Part k\n", "(k : ℕ) → k < 1 → Part k\n");
-    let part = edited(SPECS, "Part k = k ≡ k\n", "Part k = k < 1 → k ≡ k\n");
-    let far = edited(SPECS, "Part k = k ≡ k\n", "Part k = Far k\n");
-    for weakened in [head, part, far] {
-        assert_ne!(of(&weakened), before, "{weakened}");
-    }
+    assert_eq!(of(&table, far), before);
+    assert_eq!(of(&broken, far), before);
+    // the statement itself, a predicate, one of another crate, a function, and a second definition of a name
+    let head = edited(&specs, "(k : ℕ) → Part k\n", "(k : ℕ) → k < 1 → Part k\n");
+    let part = edited(&specs, "Part k = Far k\n", "Part k = k < 1 → Far k\n");
+    assert_ne!(of(&head, far), before);
+    assert_ne!(of(&part, far), before);
+    assert_ne!(of(&specs, &edited(far, "Far k = k", "Far k = 0")), before);
+    assert_ne!(
+        of(&specs, &edited(far, "near k = k\n", "near k = 0\n")),
+        before
+    );
+    let twice = format!("{far}\nunfoldable pub near : ℕ → ℕ\nnear k = 0\n");
+    assert_ne!(of(&specs, &twice), before);
 }
 
 /// "proved by `x`": a term of the table.

@@ -8,7 +8,7 @@ use lib.ListN.{length, getD}
 use Rattle.layout.specs.declared.Geometry.{Geometry}
 use Rattle.layout.specs.declared.Role.the-variants.{Data, Parity, Blank}
 use Rattle.layout.specs.Home.{placeAt, dataDisk, rankOf}
-use Rattle.layout.specs.Moves.{zoneOf, withinZone, zones, groups, moveIndex, moveZone, moveTo, moveLag, moveStripe, moveFrom, carry, stands}
+use Rattle.layout.specs.Moves.{zones, groups, moveIndex, moveZone, moveTo, moveLag, moveStripe, moveFrom, carry, stands}
 use Rattle.layout.specs.Closed.{diskAt}
 use Rattle.layout.specs.Blanks.{blanks}
 use Rattle.layout.specs.Layout.{disks, totalOf, capacity, layout, nextStripe, nextFrom, nextTo, after}
@@ -42,8 +42,8 @@ pub record Order (n m : ℕ) : Type 0 where
   pub by-to : (Z p p′ i i′ : ℕ) → n ≤ p → p < p′ → i < n → moveIndex n m Z p i < moveIndex n m Z p′ i′
   pub by-lag : (Z p i i′ : ℕ) → i < i′ → moveIndex n m Z p i < moveIndex n m Z p i′
   -- a move's stripe is p − i of its zone
-  pub stripe-zone : (k : ℕ) → zoneOf n m (moveStripe n m k) ≡ moveZone n m k
-  pub stripe-within : (k : ℕ) → withinZone n m (moveStripe n m k) + moveLag n k ≡ moveTo n m k
+  pub stripe-zone : (k : ℕ) → moveStripe n m k / (n + m) ≡ moveZone n m k
+  pub stripe-within : (k : ℕ) → moveStripe n m k % (n + m) + moveLag n k ≡ moveTo n m k
   -- its old disk is p + Z × m − 2i modulo n, not negative: the number below n that with 2i added is p + Z × m modulo n
   pub from-lt : (k : ℕ) → moveFrom n m k < n
   pub from-rule : (k : ℕ) → (moveFrom n m k + 2 * moveLag n k) % n ≡ (moveTo n m k + moveZone n m k * m) % n
