@@ -1,5 +1,5 @@
-// Document 01: "**Status**: capacity, t, total, health.", "**Locate** (b): the stripe and disk of block b. **Owner** (S, d): the block number
-// there, or parity, or blank. Both read the record only."
+// Document 01: "**Status**: capacity, t, total, health.", "**Locate** (b): the stripe and disk of block b. **Owner** (S, d): the block
+// number there, or parity, or blank. Both read the record only."
 ghost use mathlib.Core.Path.{_≡_};
 ghost use mathlib.Core.List.{[]};
 ghost use Rattle.array.specs.Answers.{reportAnswer, locatedAnswer, ownedAnswer};
