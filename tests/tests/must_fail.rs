@@ -30,13 +30,13 @@ const COMPUTED: &[(&str, &str, &[&str])] = &[
         "/proofs/Drawers.antt:",
         "`drawers`",
         &[
-            "array/parity_on_old_disk",
-            "array/parity_skipped",
-            "array/place_left_full",
-            "array/read_of_zeros",
-            "array/rebuild_sums_itself",
-            "array/second_out_kept",
-            "array/view_fills_always",
+            "calls/parity_on_old_disk",
+            "calls/parity_skipped",
+            "calls/place_left_full",
+            "calls/read_of_zeros",
+            "calls/rebuild_sums_itself",
+            "calls/second_out_kept",
+            "calls/view_fills_always",
         ],
     ),
     (
@@ -59,7 +59,7 @@ const BY_LAW: &[(&str, &str, &[&str])] = &[
     (
         "/proofs/Theorem.antt:",
         "`kept`",
-        &["array/refusal_clears_block"],
+        &["calls/refusal_clears_block"],
     ),
     // the part of the images that is returned begins where the definition has it
     (

@@ -16,8 +16,8 @@ use Rattle.array.specs.declared.Owned.{Owned}
 use Rattle.array.specs.declared.Owned.the-variants as owning
 use Rattle.array.specs.declared.Choice.{Choice}
 use Rattle.array.specs.declared.Choice.the-variants as choice
-use Rattle.array.specs.Call.{Answer, refused, done, bytes, made, figures, placed, owned}
-use Rattle.array.specs.Effect.{View, part, scratch}
+use Rattle.calls.specs.Call.{Answer, refused, done, bytes, made, figures, placed, owned}
+use Rattle.calls.specs.Effect.{View, part, scratch}
 
 -- format, grow, out and rebuild: the answer, and the record that is left of r
 abbrev pub changedAnswer : Changed → Answer

@@ -1,17 +1,2 @@
--- The calls, in document 01's order: what each is given, what the health of an array means for a place, the images and the stores into
--- them, the table of refusals, what each call answers and leaves, what the functions' enums say, and when a stripe is sound. `Theorem`,
--- `Alone` and `Acts` say what is proved of every single call; what is proved of every list of them is crate `history`. `Bench`,
--- `Refusals` and `Drawers` are computed cases.
-pub mod Call
-pub mod Health
-pub mod Images
-pub mod Table
-pub mod Effect
+-- What the functions' enums say in document 01's terms. What each call answers and leaves is crate `calls`.
 pub mod Answers
-pub mod Sound
-pub mod Theorem
-pub mod Alone
-pub mod Acts
-pub mod Bench
-pub mod Refusals
-pub mod Drawers

@@ -3,8 +3,8 @@
 ghost use mathlib.Core.Path.{_≡_};
 ghost use mathlib.Core.List.{[]};
 ghost use Rattle.array.specs.Answers.{reportAnswer, locatedAnswer, ownedAnswer};
-ghost use Rattle.array.specs.Call.{status, locate, owner, on};
-ghost use Rattle.array.specs.Effect.{called};
+ghost use Rattle.calls.specs.Call.{status, locate, owner, on};
+ghost use Rattle.calls.specs.Effect.{called};
 use crate::Located;
 use crate::Owned;
 use crate::Report;

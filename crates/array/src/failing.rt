@@ -2,8 +2,8 @@
 ghost use mathlib.Core.Path.{_≡_};
 ghost use mathlib.Core.List.{[]};
 ghost use Rattle.array.specs.Answers.{changedAnswer, changedRecord};
-ghost use Rattle.array.specs.Call.{out, on};
-ghost use Rattle.array.specs.Effect.{called};
+ghost use Rattle.calls.specs.Call.{out, on};
+ghost use Rattle.calls.specs.Effect.{called};
 use crate::Changed;
 use crate::health::after_out;
 use crate::health::with_health;

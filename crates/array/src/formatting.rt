@@ -2,8 +2,8 @@
 ghost use mathlib.Core.Path.{_≡_};
 ghost use mathlib.Core.List.{[]};
 ghost use Rattle.array.specs.Answers.{changedAnswer, changedRecord};
-ghost use Rattle.array.specs.Call.{format, on};
-ghost use Rattle.array.specs.Effect.{called};
+ghost use Rattle.calls.specs.Call.{format, on};
+ghost use Rattle.calls.specs.Effect.{called};
 use crate::Changed;
 use crate::refusal::of_format;
 use blocks::zero_block;

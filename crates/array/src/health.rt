@@ -1,6 +1,6 @@
 // What the health of an array means for a disk.
 ghost use mathlib.Core.Path.{_≡_};
-ghost use Rattle.array.specs.Health.{isLost, isDegraded, isOut, absent, afterOut, withMoves, withHealth};
+ghost use Rattle.calls.specs.Health.{isLost, isDegraded, isOut, absent, afterOut, withMoves, withHealth};
 use state::Health;
 use state::Record;
 

@@ -1,5 +1,5 @@
 // The eleven calls on a record by value and lent slices. None requires anything: each refuses as the table of document 01 says,
-// and its contract sets answer, record and every lent slice at exit equal to what `called` of specs/Effect.antt has, refused calls
+// and its contract sets answer, record and every lent slice at exit equal to what `called` of crate `calls` has, refused calls
 // included. What the enums say in document 01's numbers and values is specs/Answers.antt.
 mod advancing;
 mod asking;

@@ -4,7 +4,7 @@ ghost use Prim.Native.Nat.{_<_};
 ghost use lib.ListN.{length};
 ghost use Rattle.blocks.specs.Stripe.{offset};
 ghost use Rattle.state.specs.Good.{Limits};
-ghost use Rattle.array.specs.Images.{disksOf, size, othersIn};
+ghost use Rattle.calls.specs.Images.{disksOf, size, othersIn};
 use crate::refusal::disks_of;
 use blocks::offset_of;
 use blocks::xor_others;

@@ -7,9 +7,9 @@ use Rattle.layout.specs.Blanks.{blanksBelow, blanks, newStripe, newDisk, newBlo
 use Rattle.layout.specs.Layout.{openStripes, capacity, grownPlace, grownParity, newOwner, grownOwner}
 use Rattle.state.specs.Good.{newGood, movesGood, good}
 use Rattle.state.specs.Bytes.{decode, plain, encode}
-use Rattle.array.specs.Images.{seen, stored, recorded, fillDisk, zeroDisks}
-use Rattle.array.specs.Table.{idle, formable, table, rowsBytes, refusal, refusalBytes}
-use Rattle.array.specs.Effect.{viewOf, scratchLeft, writeStores, moveStores, advanceStores, effect, calledBytes}
+use Rattle.calls.specs.Images.{seen, stored, recorded, fillDisk, zeroDisks}
+use Rattle.calls.specs.Table.{idle, formable, table, rowsBytes, refusal, refusalBytes}
+use Rattle.calls.specs.Effect.{viewOf, scratchLeft, writeStores, moveStores, advanceStores, effect, calledBytes}
 use Rattle.history.specs.Flat.{flatAct, flatStep}
 use Rattle.history.specs.Lent.{asBytes, takes, next}
 use Rattle.history.specs.Theorem.{outcomes, flatOutcomes}

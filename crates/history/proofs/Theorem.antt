@@ -6,8 +6,8 @@ use lib.ListN.{length}
 use Rattle.blocks.specs.Block.{zeros}
 use Rattle.state.specs.declared.Record.{Record}
 use Rattle.state.proofs.Laws.Bytes.{decode-encode}
-use Rattle.array.specs.Call.{format, write, out, Event, fed, Answer}
-use Rattle.array.specs.Images.{size}
+use Rattle.calls.specs.Call.{format, write, out, Event, fed, Answer}
+use Rattle.calls.specs.Images.{size}
 use Rattle.history.specs.Flat.{Flat, flatStep}
 use Rattle.history.specs.Lent.{Form, asBytes, asRecord, Cabinet, leaves, next}
 use Rattle.history.specs.Theorem.{tally, Claim, Claims, opening, Demand3On, Demand3, MayBeLent, Fair, outcomes, flatOutcomes, FlatListOn, FlatList, LentAsLeft, AlwaysFairOn, AlwaysFair, LastGiven, ZeroAtFirst, SecondOut}

@@ -12,8 +12,8 @@ use Rattle.state.specs.declared.Health.the-variants.{Whole, Out, Lost}
 use Rattle.state.specs.declared.Health.{Health}
 use Rattle.state.specs.declared.Record.{Record}
 use Rattle.state.specs.Good.{geometry}
-use Rattle.array.specs.Call.{Call, format, read, view, write, grow, advance, out, rebuild, status, locate, owner, Fed, Answer, refused, done, bytes, made, figures, placed, owned}
-use Rattle.array.specs.Table.{refusal}
+use Rattle.calls.specs.Call.{Call, format, read, view, write, grow, advance, out, rebuild, status, locate, owner, Fed, Answer, refused, done, bytes, made, figures, placed, owned}
+use Rattle.calls.specs.Table.{refusal}
 
 pub record Flat : Type 0 where
   pub numbers : Record

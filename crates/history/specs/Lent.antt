@@ -10,10 +10,10 @@ use lib.ListN.{length}
 use Rattle.state.specs.declared.Record.{Record}
 use Rattle.state.specs.Good.{good}
 use Rattle.state.specs.Bytes.{decode, goodBytes, encode}
-use Rattle.array.specs.Call.{Call, format, read, view, write, grow, advance, out, rebuild, status, locate, owner, Event, accepted}
-use Rattle.array.specs.Health.{absent}
-use Rattle.array.specs.Images.{disksOf, size, sizeWith, placeIn}
-use Rattle.array.specs.Effect.{Left, called, calledBytes}
+use Rattle.calls.specs.Call.{Call, format, read, view, write, grow, advance, out, rebuild, status, locate, owner, Event, accepted}
+use Rattle.calls.specs.Health.{absent}
+use Rattle.calls.specs.Images.{disksOf, size, sizeWith, placeIn}
+use Rattle.calls.specs.Effect.{Left, called, calledBytes}
 
 -- ---- the record in one of its two forms: what a call on it leaves, which record it is, how a record is written in it, when it is good
 

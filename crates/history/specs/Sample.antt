@@ -9,7 +9,7 @@ use Rattle.layout.specs.declared.Role.the-variants.{Data, Parity, Blank}
 use Rattle.layout.specs.Home.{placeAt}
 use Rattle.state.specs.declared.Health.the-variants.{Whole, Out, Lost}
 use Rattle.state.specs.Bytes.{decode}
-use Rattle.array.specs.Call.{Call, format, read, view, write, grow, advance, out, rebuild, status, locate, owner, Event, fed, Answer, refused, done, bytes, made, figures, placed, owned}
+use Rattle.calls.specs.Call.{Call, format, read, view, write, grow, advance, out, rebuild, status, locate, owner, Event, fed, Answer, refused, done, bytes, made, figures, placed, owned}
 use Rattle.history.specs.Flat.{Flat, flat}
 use Rattle.history.specs.Lent.{asBytes, Cabinet, next}
 use Rattle.history.specs.Theorem.{Fair, outcomes, flatOutcomes}

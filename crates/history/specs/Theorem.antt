@@ -18,12 +18,12 @@ use Rattle.blocks.specs.Block.{zeros}
 use Rattle.state.specs.declared.Health.the-variants.{Out, Lost}
 use Rattle.state.specs.declared.Record.{Record}
 use Rattle.state.specs.Good.{geometry, good}
-use Rattle.array.specs.Call.{Call, format, read, view, write, grow, advance, out, rebuild, status, locate, owner, Event, Fed, fed, Answer, refused, bytes, accepted, count}
-use Rattle.array.specs.Health.{isLost, absent}
-use Rattle.array.specs.Images.{disksOf, size, placeIn, seen}
-use Rattle.array.specs.Table.{idle, refusal}
-use Rattle.array.specs.Effect.{placeOf, parityAfter}
-use Rattle.array.specs.Sound.{Sound}
+use Rattle.calls.specs.Call.{Call, format, read, view, write, grow, advance, out, rebuild, status, locate, owner, Event, Fed, fed, Answer, refused, bytes, accepted, count}
+use Rattle.calls.specs.Health.{isLost, absent}
+use Rattle.calls.specs.Images.{disksOf, size, placeIn, seen}
+use Rattle.calls.specs.Table.{idle, refusal}
+use Rattle.calls.specs.Effect.{placeOf, parityAfter}
+use Rattle.calls.specs.Sound.{Sound}
 use Rattle.history.specs.Flat.{Flat, flatStep}
 use Rattle.history.specs.Lent.{Form, asBytes, asRecord, Cabinet, nothing, those, takes, Lends, leaves, next}
 
@@ -63,7 +63,7 @@ pub record Claim {R : Type 0} (x : Form R) (e : Event) (a : Cabinet R) (f : Flat
   pub fields : leaves x e a .state ≡ x .encoded (flatStep (fed e) f .1 .numbers)
   -- which is good, so that refusal 1 is never given
   pub good-left : x .isGood (leaves x e a .state) ≡ true
-  -- a refused call leaves the record, the images and the block or scratch as they were lent (`Demand1` of crate `array`, said again)
+  -- a refused call leaves the record, the images and the block or scratch as they were lent (`Demand1` of crate `calls`, said again)
   pub refused : accepted (leaves x e a .answer) ≡ false
       → (leaves x e a .state ≡ a .rec) × (leaves x e a .images ≡ e .images) × (leaves x e a .room ≡ e .room)
   -- "After a refused call the next is lent what stood before it"

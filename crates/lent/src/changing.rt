@@ -1,8 +1,8 @@
 // The calls that change the record.
 ghost use mathlib.Core.Path.{_≡_};
 ghost use mathlib.Core.List.{[]};
-ghost use Rattle.array.specs.Call.{format, grow, advance, out, rebuild, on, number, count};
-ghost use Rattle.array.specs.Effect.{called};
+ghost use Rattle.calls.specs.Call.{format, grow, advance, out, rebuild, on, number, count};
+ghost use Rattle.calls.specs.Effect.{called};
 use crate::Count;
 use crate::steps::advance_step;
 use crate::steps::format_step;

@@ -2,8 +2,8 @@
 ghost use mathlib.Core.Path.{_≡_};
 ghost use mathlib.Core.List.{[]};
 ghost use Rattle.array.specs.Answers.{choiceOf, begins};
-ghost use Rattle.array.specs.Call.{read, view, write, on, number, shown};
-ghost use Rattle.array.specs.Effect.{viewOf, called};
+ghost use Rattle.calls.specs.Call.{read, view, write, on, number, shown};
+ghost use Rattle.calls.specs.Effect.{viewOf, called};
 use state::Record;
 
 pub fn read(rec: &Record, images: &[u8], b: u64, block: &mut [u8]) -> u8

@@ -2,8 +2,8 @@
 ghost use mathlib.Core.Path.{_≡_};
 ghost use mathlib.Core.List.{[]};
 ghost use Rattle.array.specs.Answers.{changedAnswer, changedRecord, advancedAnswer, advancedRecord};
-ghost use Rattle.array.specs.Call.{format, grow, advance, out, rebuild, on, number, count};
-ghost use Rattle.array.specs.Effect.{called};
+ghost use Rattle.calls.specs.Call.{format, grow, advance, out, rebuild, on, number, count};
+ghost use Rattle.calls.specs.Effect.{called};
 use crate::Count;
 use array::Advanced;
 use array::Changed;

@@ -9,9 +9,9 @@ use Rattle.array.specs.declared.Changed.the-variants as changed
 use Rattle.array.specs.declared.Advanced.{Advanced}
 use Rattle.array.specs.declared.Advanced.the-variants as advanced
 use Rattle.array.specs.Answers.{changedAnswer, changedRecord, advancedAnswer, advancedRecord}
-use Rattle.array.specs.Call.{Answer, number, count, beside, accepted}
-use Rattle.array.specs.Effect.{Left}
-use Rattle.array.proofs.Laws.OnBytes.{Seals}
+use Rattle.calls.specs.Call.{Answer, number, count, beside, accepted}
+use Rattle.calls.specs.Effect.{Left}
+use Rattle.calls.proofs.Laws.OnBytes.{Seals}
 use Rattle.pbm.specs.Closing.{changedBytes, advancedBytes}
 
 module _ {b : List ℕ} {X : Left (List ℕ)} {Y : Left Record} (s : Seals b X Y) (r : Record) where

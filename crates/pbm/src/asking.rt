@@ -1,8 +1,8 @@
 // The calls that answer from the record alone. The numbers are 0 until the call is known to be accepted.
 ghost use mathlib.Core.Path.{_≡_};
 ghost use mathlib.Core.List.{[], _∷_};
-ghost use Rattle.array.specs.Call.{status, locate, owner, on, number, roleNumber, roleBlock, beside};
-ghost use Rattle.array.specs.Effect.{calledBytes};
+ghost use Rattle.calls.specs.Call.{status, locate, owner, on, number, roleNumber, roleBlock, beside};
+ghost use Rattle.calls.specs.Effect.{calledBytes};
 use crate::opening::is_readable;
 use array::Located;
 use array::Owned;

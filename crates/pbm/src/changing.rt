@@ -1,8 +1,8 @@
 // The calls that change the record.
 ghost use mathlib.Core.Path.{_≡_};
 ghost use mathlib.Core.List.{[], _∷_};
-ghost use Rattle.array.specs.Call.{format, grow, advance, out, rebuild, on, number, beside};
-ghost use Rattle.array.specs.Effect.{calledBytes};
+ghost use Rattle.calls.specs.Call.{format, grow, advance, out, rebuild, on, number, beside};
+ghost use Rattle.calls.specs.Effect.{calledBytes};
 use crate::closing::close;
 use crate::closing::close_advance;
 use crate::opening::RECORD_LENGTH;

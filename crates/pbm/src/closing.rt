@@ -2,7 +2,7 @@
 ghost use mathlib.Core.Path.{_≡_};
 ghost use lib.ListN.{length};
 ghost use Rattle.array.specs.Answers.{changedAnswer, advancedAnswer};
-ghost use Rattle.array.specs.Call.{number, count};
+ghost use Rattle.calls.specs.Call.{number, count};
 ghost use Rattle.pbm.specs.Closing.{changedBytes, advancedBytes};
 use array::Advanced;
 use array::Changed;

@@ -1,8 +1,8 @@
 // The calls that reach one block.
 ghost use mathlib.Core.Path.{_≡_};
 ghost use mathlib.Core.List.{[]};
-ghost use Rattle.array.specs.Call.{read, write, on, number};
-ghost use Rattle.array.specs.Effect.{calledBytes};
+ghost use Rattle.calls.specs.Call.{read, write, on, number};
+ghost use Rattle.calls.specs.Effect.{calledBytes};
 use crate::opening::is_readable;
 use array::RECORD;
 use state::decode;

@@ -2,8 +2,8 @@
 use Prim.Native.Nat.{ℕ, zero, suc, _+_}
 use mathlib.Core.List.{List, [], _∷_}
 use Rattle.state.specs.declared.Record.{Record}
-use Rattle.array.specs.Call.{write, on}
-use Rattle.array.specs.Effect.{called}
+use Rattle.calls.specs.Call.{write, on}
+use Rattle.calls.specs.Effect.{called}
 
 -- four bytes that tell block b from every other
 abbrev pub mark : ℕ → List ℕ

@@ -1,8 +1,8 @@
 // Calls of `lent` on a record that stands in a local: it is lent, and what the call leaves in it is returned.
 ghost use mathlib.Core.Path.{_≡_};
 ghost use mathlib.Core.List.{[]};
-ghost use Rattle.array.specs.Call.{format, grow, advance, out, rebuild, on};
-ghost use Rattle.array.specs.Effect.{called};
+ghost use Rattle.calls.specs.Call.{format, grow, advance, out, rebuild, on};
+ghost use Rattle.calls.specs.Effect.{called};
 use state::Record;
 
 // With m disks more.

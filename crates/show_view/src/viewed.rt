@@ -1,8 +1,8 @@
 // The view of `lent` on a record that stands in a local: it is lent, and only read.
 ghost use mathlib.Core.Path.{_≡_};
 ghost use Rattle.array.specs.Answers.{choiceOf, begins};
-ghost use Rattle.array.specs.Call.{view, on, number, shown};
-ghost use Rattle.array.specs.Effect.{viewOf, called};
+ghost use Rattle.calls.specs.Call.{view, on, number, shown};
+ghost use Rattle.calls.specs.Effect.{viewOf, called};
 use state::Record;
 
 pub fn view<'a>(

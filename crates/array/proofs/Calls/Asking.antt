@@ -10,9 +10,9 @@ use Rattle.layout.specs.Limits.{Good}
 use Rattle.state.specs.declared.Record.{Record}
 use Rattle.state.specs.Good.{geometry, good}
 use Rattle.state.proofs.Laws.Good.{limits}
-use Rattle.array.specs.Call.{out, status, locate, owner, feed}
-use Rattle.array.specs.Table.{refusal}
-use Rattle.array.proofs.Laws.Passed.{falls, asks, locates, owns}
+use Rattle.calls.specs.Call.{out, status, locate, owner, feed}
+use Rattle.calls.specs.Table.{refusal}
+use Rattle.calls.proofs.Laws.Passed.{falls, asks, locates, owns}
 
 pub out-asks : (r : Record) (d : ℕ) → refusal r (capacity (geometry r)) (feed (out d) 0 0) ≡ 0 → d < 32
 unfolding refusal

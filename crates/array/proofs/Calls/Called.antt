@@ -5,9 +5,9 @@ use mathlib.Core.Logic.{_≢_}
 use Rattle.layout.specs.Layout.{capacity}
 use Rattle.state.specs.declared.Record.{Record}
 use Rattle.state.specs.Good.{geometry}
-use Rattle.array.specs.Call.{Event, fed}
-use Rattle.array.specs.Table.{refusal}
-use Rattle.array.specs.Effect.{act, untouched, called}
+use Rattle.calls.specs.Call.{Event, fed}
+use Rattle.calls.specs.Table.{refusal}
+use Rattle.calls.specs.Effect.{act, untouched, called}
 
 module _ (e : Event) (r : Record) where
   pub called-refused : (k : ℕ) → refusal r (capacity (geometry r)) (fed e) ≡ k → k ≢ 0 → called e r ≡ untouched e r k

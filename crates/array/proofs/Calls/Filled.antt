@@ -18,13 +18,13 @@ use Rattle.state.specs.declared.Health.{Health}
 use Rattle.state.specs.declared.Record.{Record}
 use Rattle.state.specs.Good.{geometry, good, OutBelow, Limits}
 use Rattle.state.proofs.Laws.Good.{limits}
-use Rattle.array.specs.Call.{rebuild, feed, on, done}
-use Rattle.array.specs.Health.{withHealth}
-use Rattle.array.specs.Images.{disksOf, size, othersIn, block, stored, fillDisk}
-use Rattle.array.specs.Table.{refusal}
-use Rattle.array.specs.Effect.{effect, called}
-use Rattle.array.proofs.Laws.Stores.{length-stored, stored-append, stored-last, recorded-last}
-use Rattle.array.proofs.Laws.Passed.{Rebuilds, rebuilds}
+use Rattle.calls.specs.Call.{rebuild, feed, on, done}
+use Rattle.calls.specs.Health.{withHealth}
+use Rattle.calls.specs.Images.{disksOf, size, othersIn, block, stored, fillDisk}
+use Rattle.calls.specs.Table.{refusal}
+use Rattle.calls.specs.Effect.{effect, called}
+use Rattle.calls.proofs.Laws.Stores.{length-stored, stored-append, stored-last, recorded-last}
+use Rattle.calls.proofs.Laws.Passed.{Rebuilds, rebuilds}
 use Rattle.array.proofs.Calls.Called.{called-done}
 
 module _ (B T N d : ℕ) (img : List ℕ) where

@@ -22,16 +22,16 @@ use Rattle.blocks.proofs.Laws.Stripe.{place-in}
 use Rattle.state.specs.declared.Record.{Record}
 use Rattle.state.specs.Good.{geometry, good, Limits}
 use Rattle.state.proofs.Laws.Good.{limits}
-use Rattle.array.specs.Call.{advance, feed, on, made}
-use Rattle.array.specs.Health.{withMoves}
-use Rattle.array.specs.Images.{disksOf, size, Store, stored, recorded}
-use Rattle.array.specs.Table.{idle, refusal}
-use Rattle.array.specs.Effect.{moveStores, advanceStores, effect, Left, called}
-use Rattle.array.proofs.Laws.Stores.{length-stored, stored-append}
-use Rattle.array.proofs.Laws.Table.{some-new, some-left, none-left, over}
-use Rattle.array.proofs.Laws.Passed.{Moves, moves}
+use Rattle.calls.specs.Call.{advance, feed, on, made}
+use Rattle.calls.specs.Health.{withMoves}
+use Rattle.calls.specs.Images.{disksOf, size, Store, stored, recorded}
+use Rattle.calls.specs.Table.{idle, refusal}
+use Rattle.calls.specs.Effect.{moveStores, advanceStores, effect, Left, called}
+use Rattle.calls.proofs.Laws.Stores.{length-stored, stored-append}
+use Rattle.calls.proofs.Laws.Table.{some-new, some-left, none-left, over}
+use Rattle.calls.proofs.Laws.Passed.{Moves, moves}
 use Rattle.array.proofs.Calls.Called.{called-done}
-use Rattle.array.proofs.Laws.Advance.{advanced, carried, idle-none, advance-split}
+use Rattle.calls.proofs.Laws.Advance.{advanced, carried, idle-none, advance-split}
 
 -- no array has more moves
 pub total-high : (g : Geometry) → Good g → totalOf g ≤ 268435456

@@ -15,11 +15,11 @@ use Rattle.blocks.proofs.Laws.Block.{length-store}
 use Rattle.blocks.proofs.Laws.Stripe.{place-in, places-apart}
 use Rattle.state.specs.declared.Record.{Record}
 use Rattle.state.specs.Good.{geometry}
-use Rattle.array.specs.Health.{absent}
-use Rattle.array.specs.Images.{disksOf, seen, stored}
-use Rattle.array.specs.Effect.{writeStores}
-use Rattle.array.proofs.Laws.Column.{Single}
-use Rattle.array.proofs.Laws.Holding.{single}
+use Rattle.calls.specs.Health.{absent}
+use Rattle.calls.specs.Images.{disksOf, seen, stored}
+use Rattle.calls.specs.Effect.{writeStores}
+use Rattle.calls.proofs.Laws.Column.{Single}
+use Rattle.calls.proofs.Laws.Holding.{single}
 use Rattle.array.proofs.Calls.Reach.{Reached, inside, short, summed}
 
 -- a write of v to the block at q, with the parity on disk p

@@ -19,13 +19,13 @@ use Rattle.state.specs.Good.{geometry, good, Limits}
 use Rattle.state.proofs.Laws.Good.{limits}
 use Rattle.array.specs.declared.Choice.the-variants.{Part, Scratch}
 use Rattle.array.specs.Answers.{choiceOf}
-use Rattle.array.specs.Call.{read, view, write, feed}
-use Rattle.array.specs.Health.{isLost, absent}
-use Rattle.array.specs.Images.{disksOf, size, othersIn, seen}
-use Rattle.array.specs.Table.{table, refusal}
-use Rattle.array.specs.Effect.{placeOf, blockOf, viewOf, scratchLeft}
-use Rattle.array.proofs.Laws.Passed.{Reaches, reads}
-use Rattle.array.proofs.Laws.Write.{lS, ld, lp, parity-apart}
+use Rattle.calls.specs.Call.{read, view, write, feed}
+use Rattle.calls.specs.Health.{isLost, absent}
+use Rattle.calls.specs.Images.{disksOf, size, othersIn, seen}
+use Rattle.calls.specs.Table.{table, refusal}
+use Rattle.calls.specs.Effect.{placeOf, blockOf, viewOf, scratchLeft}
+use Rattle.calls.proofs.Laws.Passed.{Reaches, reads}
+use Rattle.calls.proofs.Laws.Write.{lS, ld, lp, parity-apart}
 use Rattle.array.proofs.Calls.Bounds.{bounded}
 
 -- a place of the images begins below 2^64

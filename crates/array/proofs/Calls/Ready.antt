@@ -8,9 +8,9 @@ use borrow.Author.Tests.{not-false}
 use Rattle.state.specs.declared.Record.{Record}
 use Rattle.state.specs.Good.{good, Limits}
 use Rattle.state.proofs.Laws.Good.{limits}
-use Rattle.array.specs.Health.{isLost}
-use Rattle.array.specs.Table.{badRecord, lost, word}
-use Rattle.array.proofs.Laws.Table.{passes}
+use Rattle.calls.specs.Health.{isLost}
+use Rattle.calls.specs.Table.{badRecord, lost, word}
+use Rattle.calls.proofs.Laws.Table.{passes}
 
 pub record Ready (r : Record) : Type 0 where
   pub good : good r ≡ true

@@ -13,10 +13,10 @@ use Rattle.state.specs.Good.{geometry}
 use Rattle.array.specs.declared.Choice.{Choice}
 use Rattle.array.specs.declared.Choice.the-variants.{Refused}
 use Rattle.array.specs.Answers.{choiceOf, choiceAnswer, ends}
-use Rattle.array.specs.Call.{view, Event, on, fed, Answer, bytes, number}
-use Rattle.array.specs.Health.{absent}
-use Rattle.array.specs.Table.{refusal}
-use Rattle.array.specs.Effect.{placeOf, View, part, scratch, viewOf, scratchLeft, viewed, effect, called}
+use Rattle.calls.specs.Call.{view, Event, on, fed, Answer, bytes, number}
+use Rattle.calls.specs.Health.{absent}
+use Rattle.calls.specs.Table.{refusal}
+use Rattle.calls.specs.Effect.{placeOf, View, part, scratch, viewOf, scratchLeft, viewed, effect, called}
 use Rattle.array.proofs.Calls.Called.{called-refused, called-done}
 use Rattle.array.proofs.Calls.Reach.{as-view, Reached, reached, inside}
 

@@ -10,11 +10,11 @@ use lib.ListN.{length}
 use borrow.Author.Tests.{eqb-false, not-true}
 use Rattle.state.specs.declared.Record.{Record}
 use Rattle.state.specs.Good.{newGood, good}
-use Rattle.array.specs.Call.{Call, format, read, view, write, grow, advance, out, rebuild, status, locate, owner}
-use Rattle.array.specs.Health.{isOut}
-use Rattle.array.specs.Images.{size, sizeWith}
-use Rattle.array.specs.Table.{Row, badRecord, lost, degraded, grown, nothingToMove, badGeometry, images, pastEnd, blockLength, disk, word, table}
-use Rattle.array.proofs.Laws.Rows.{rises, given}
+use Rattle.calls.specs.Call.{Call, format, read, view, write, grow, advance, out, rebuild, status, locate, owner}
+use Rattle.calls.specs.Health.{isOut}
+use Rattle.calls.specs.Images.{size, sizeWith}
+use Rattle.calls.specs.Table.{Row, badRecord, lost, degraded, grown, nothingToMove, badGeometry, images, pastEnd, blockLength, disk, word, table}
+use Rattle.calls.proofs.Laws.Rows.{rises, given}
 use Rattle.history.specs.Lent.{those, takes}
 
 module _ (r : Record) (cap len room n : ℕ) where

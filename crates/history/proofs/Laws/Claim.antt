@@ -14,20 +14,20 @@ use Rattle.state.specs.Good.{geometry}
 use Rattle.state.specs.Bytes.{decode, encode, goodBytes}
 use Rattle.state.proofs.Laws.Good.{within-limits}
 use Rattle.state.proofs.Laws.Bytes.{decode-encode}
-use Rattle.array.specs.Call.{Call, format, read, view, advance, Event, fed, Answer, bytes, accepted}
-use Rattle.array.specs.Health.{isLost, absent}
-use Rattle.array.specs.Images.{placeIn}
-use Rattle.array.specs.Table.{idle, word, table, refusal, rowsBytes, refusalBytes}
-use Rattle.array.specs.Effect.{placeOf, blockOf, parityAfter, Left, act, untouched, settle, sealed, calledBytes}
-use Rattle.array.specs.Sound.{Sound}
-use Rattle.array.proofs.Theorem.{demand1}
-use Rattle.array.proofs.Laws.Acting.{fills, shows, parity-first, parity-last}
-use Rattle.array.proofs.Laws.OnBytes.{good-encode}
-use Rattle.array.proofs.Laws.Table.{some-new}
-use Rattle.array.proofs.Laws.Passed.{moves}
-use Rattle.array.proofs.Laws.Holding.{Holding, block-is}
-use Rattle.array.proofs.Laws.Sound.{sound}
-use Rattle.array.proofs.Laws.Advance.{parity-kept}
+use Rattle.calls.specs.Call.{Call, format, read, view, advance, Event, fed, Answer, bytes, accepted}
+use Rattle.calls.specs.Health.{isLost, absent}
+use Rattle.calls.specs.Images.{placeIn}
+use Rattle.calls.specs.Table.{idle, word, table, refusal, rowsBytes, refusalBytes}
+use Rattle.calls.specs.Effect.{placeOf, blockOf, parityAfter, Left, act, untouched, settle, sealed, calledBytes}
+use Rattle.calls.specs.Sound.{Sound}
+use Rattle.calls.proofs.Theorem.{demand1}
+use Rattle.calls.proofs.Laws.Acting.{fills, shows, parity-first, parity-last}
+use Rattle.calls.proofs.Laws.OnBytes.{good-encode}
+use Rattle.calls.proofs.Laws.Table.{some-new}
+use Rattle.calls.proofs.Laws.Passed.{moves}
+use Rattle.calls.proofs.Laws.Holding.{Holding, block-is}
+use Rattle.calls.proofs.Laws.Sound.{sound}
+use Rattle.calls.proofs.Laws.Advance.{parity-kept}
 use Rattle.history.specs.Flat.{Flat, flatAct, flatSettle, flatStep}
 use Rattle.history.specs.Lent.{asBytes, Cabinet, takes, leaves, imagesAfter, next}
 use Rattle.history.specs.Theorem.{tally, Claim, Claims, opening, Demand3On}

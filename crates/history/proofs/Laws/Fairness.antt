@@ -10,9 +10,9 @@ use lib.ListN.{length}
 use borrow.Author.Tests.{eqb-true, eq-eqb}
 use Rattle.state.specs.declared.Record.{Record}
 use Rattle.state.proofs.Laws.Tests.{both}
-use Rattle.array.specs.Call.{Event, fed}
-use Rattle.array.specs.Health.{absent}
-use Rattle.array.specs.Images.{disksOf, placeIn}
+use Rattle.calls.specs.Call.{Event, fed}
+use Rattle.calls.specs.Health.{absent}
+use Rattle.calls.specs.Images.{disksOf, placeIn}
 use Rattle.history.specs.Flat.{Flat, flatStep}
 use Rattle.history.specs.Lent.{Form, Cabinet, Takes, nothing, anything, those, takes, Keeps, Lent, Lends, next}
 use Rattle.history.specs.Theorem.{Fair}

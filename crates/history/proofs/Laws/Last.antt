@@ -13,9 +13,9 @@ use Rattle.layout.specs.Layout.{totalOf}
 use Rattle.blocks.specs.Block.{zeros}
 use Rattle.state.specs.declared.Record.{Record}
 use Rattle.state.specs.Good.{geometry, good}
-use Rattle.array.specs.Call.{Call, format, read, view, write, grow, advance, out, rebuild, status, locate, owner, Fed, Answer, bytes, accepted}
-use Rattle.array.specs.Table.{word, table, refusal}
-use Rattle.array.proofs.Laws.Passed as passed
+use Rattle.calls.specs.Call.{Call, format, read, view, write, grow, advance, out, rebuild, status, locate, owner, Fed, Answer, bytes, accepted}
+use Rattle.calls.specs.Table.{word, table, refusal}
+use Rattle.calls.proofs.Laws.Passed as passed
 use Rattle.history.specs.Flat.{Flat, zeroBlocks, lengthened, flatAct, flatSettle, flatStep}
 use Rattle.history.specs.Theorem.{NotGiven, behind, Gives}
 

@@ -13,10 +13,10 @@ use Rattle.blocks.proofs.Laws.Stripe.{place-in, length-place, getD-place}
 use Rattle.state.specs.declared.Health.the-variants.{Out}
 use Rattle.state.specs.declared.Health.{Health}
 use Rattle.state.specs.declared.Record.{Record}
-use Rattle.array.specs.Call.{Call, Event}
-use Rattle.array.specs.Health.{absent}
-use Rattle.array.specs.Images.{disksOf, size, placeIn}
-use Rattle.array.specs.Table.{refusal}
+use Rattle.calls.specs.Call.{Call, Event}
+use Rattle.calls.specs.Health.{absent}
+use Rattle.calls.specs.Images.{disksOf, size, placeIn}
+use Rattle.calls.specs.Table.{refusal}
 use Rattle.history.specs.Lent.{Takes, nothing, anything, those, takes, Keeps, Lent, Lends}
 use Rattle.history.specs.Theorem.{FreeToLend}
 use Rattle.history.proofs.Laws.Asked.{asked}

@@ -5,9 +5,9 @@ use mathlib.Core.List.{List, [], _∷_}
 use Rattle.state.specs.declared.Record.{Record}
 use Rattle.state.specs.Bytes.{decode, encode}
 use Rattle.state.proofs.Laws.Bytes.{decode-encode}
-use Rattle.array.specs.Call.{Event, fed}
-use Rattle.array.specs.Effect.{sealed}
-use Rattle.array.proofs.Laws.OnBytes.{good-encode, on-bytes}
+use Rattle.calls.specs.Call.{Event, fed}
+use Rattle.calls.specs.Effect.{sealed}
+use Rattle.calls.proofs.Laws.OnBytes.{good-encode, on-bytes}
 use Rattle.history.specs.Flat.{Flat, flatStep}
 use Rattle.history.specs.Lent.{asBytes, asRecord, Cabinet, leaves, next}
 use Rattle.history.specs.Theorem.{tally, Claim, Claims, opening, Demand3On}

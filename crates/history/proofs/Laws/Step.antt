@@ -14,20 +14,20 @@ use Rattle.state.specs.declared.Record.{Record}
 use Rattle.state.specs.Good.{geometry, good}
 use Rattle.state.specs.Bytes.{decode, encode}
 use Rattle.state.proofs.Laws.Bytes.{decode-encode}
-use Rattle.array.specs.Call.{Call, format, read, view, write, grow, advance, out, rebuild, status, locate, owner, Event, fed, Answer, accepted}
-use Rattle.array.specs.Health.{afterOut, withHealth}
-use Rattle.array.specs.Images.{size, stored, recorded}
-use Rattle.array.specs.Table.{word, table, refusal, rowsBytes, refusalBytes}
-use Rattle.array.specs.Effect.{effect, Left, act, untouched, settle, sealed, calledBytes}
-use Rattle.array.proofs.Laws.OnBytes.{refusal-encode}
-use Rattle.array.proofs.Laws.Holding.{Holding, Leaves, Kept, relends}
-use Rattle.array.proofs.Laws.Format.{formats}
-use Rattle.array.proofs.Laws.Read.{reads, views}
-use Rattle.array.proofs.Laws.Write.{writes}
-use Rattle.array.proofs.Laws.Grow.{grows}
-use Rattle.array.proofs.Laws.Advance.{advances}
-use Rattle.array.proofs.Laws.Out.{outs}
-use Rattle.array.proofs.Laws.Rebuild.{rebuilds}
+use Rattle.calls.specs.Call.{Call, format, read, view, write, grow, advance, out, rebuild, status, locate, owner, Event, fed, Answer, accepted}
+use Rattle.calls.specs.Health.{afterOut, withHealth}
+use Rattle.calls.specs.Images.{size, stored, recorded}
+use Rattle.calls.specs.Table.{word, table, refusal, rowsBytes, refusalBytes}
+use Rattle.calls.specs.Effect.{effect, Left, act, untouched, settle, sealed, calledBytes}
+use Rattle.calls.proofs.Laws.OnBytes.{refusal-encode}
+use Rattle.calls.proofs.Laws.Holding.{Holding, Leaves, Kept, relends}
+use Rattle.calls.proofs.Laws.Format.{formats}
+use Rattle.calls.proofs.Laws.Read.{reads, views}
+use Rattle.calls.proofs.Laws.Write.{writes}
+use Rattle.calls.proofs.Laws.Grow.{grows}
+use Rattle.calls.proofs.Laws.Advance.{advances}
+use Rattle.calls.proofs.Laws.Out.{outs}
+use Rattle.calls.proofs.Laws.Rebuild.{rebuilds}
 use Rattle.history.specs.Flat.{Flat, flat, fallen, flatAct, flatSettle, flatStep}
 use Rattle.history.specs.Lent.{asBytes, Cabinet, takes, Keeps, Lends, leaves, imagesAfter, next}
 

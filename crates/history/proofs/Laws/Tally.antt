@@ -8,9 +8,9 @@ use lib.ListN.{length}
 use Rattle.layout.specs.declared.Geometry.{Geometry}
 use Rattle.layout.specs.Layout.{totalOf}
 use Rattle.state.specs.declared.Record.{Record}
-use Rattle.array.specs.Call.{Call, format, read, view, write, grow, advance, out, rebuild, status, locate, owner, Fed, Answer}
-use Rattle.array.specs.Table.{idle, refusal}
-use Rattle.array.proofs.Laws.Table.{none-left, over}
+use Rattle.calls.specs.Call.{Call, format, read, view, write, grow, advance, out, rebuild, status, locate, owner, Fed, Answer}
+use Rattle.calls.specs.Table.{idle, refusal}
+use Rattle.calls.proofs.Laws.Table.{none-left, over}
 use Rattle.history.specs.Flat.{Flat, flatAct, flatSettle, flatStep}
 use Rattle.history.specs.Theorem.{tallied, tally}
 

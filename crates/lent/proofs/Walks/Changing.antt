@@ -26,7 +26,7 @@ use denote.Struct.Laws as LL
 use Rattle.state.specs.declared.Record.{Record}
 use Rattle.state.proofs.Record as T
 use Rattle.state.proofs.Record.Laws as T′
-use Rattle.array.specs.Call.{Answer, number, count}
+use Rattle.calls.specs.Call.{Answer, number, count}
 use Rattle.lent.proofs.Count as N
 use Rattle.lent.proofs.Count.Laws as N′
 use Rattle.lent.proofs.steps.Step as S

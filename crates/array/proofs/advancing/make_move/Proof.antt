@@ -3,7 +3,7 @@ use borrow.Author.Needs.{needs}
 use native.Mathlib.Omega.{arith}
 use Rattle.state.specs.Good.{geometry}
 use Rattle.layout.proofs.Laws.Numbers.{has-new}
-use Rattle.array.proofs.Laws.Table.{some-left}
+use Rattle.calls.proofs.Laws.Table.{some-left}
 use Rattle.array.proofs.Calls.Moving.{total-high, Step, step, stepped}
 use Rattle.array.proofs.advancing.make_move.Statement.{statement}
 use Rattle.array.proofs.advancing.make_move.Tie as tie

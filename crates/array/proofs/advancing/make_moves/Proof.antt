@@ -4,8 +4,8 @@ use mathlib.Core.Path.{ap, _∙_}
 use native.Mathlib.Nat.{le-antisymm}
 use native.Mathlib.Omega.{arith}
 use Rattle.state.specs.Good.{geometry}
-use Rattle.array.specs.Images.{stored}
-use Rattle.array.specs.Effect.{advanceStores}
+use Rattle.calls.specs.Images.{stored}
+use Rattle.calls.specs.Effect.{advanceStores}
 use Rattle.array.proofs.Calls.Moving.{total-high, Made, made-none, made-next, made-more}
 use Rattle.array.proofs.advancing.make_moves.Statement.{statement}
 use Rattle.array.proofs.advancing.make_moves.Tie as tie

@@ -4,9 +4,9 @@ use mathlib.Core.List.{[]}
 use borrow.Author.Needs.{needs}
 use Rattle.layout.specs.Layout.{capacity}
 use Rattle.state.specs.Good.{geometry}
-use Rattle.array.specs.Call.{locate, feed, on}
-use Rattle.array.specs.Table.{refusal}
-use Rattle.array.specs.Effect.{effect}
+use Rattle.calls.specs.Call.{locate, feed, on}
+use Rattle.calls.specs.Table.{refusal}
+use Rattle.calls.specs.Effect.{effect}
 use Rattle.array.proofs.Calls.Asking.{locate-asks}
 use Rattle.array.proofs.Calls.Called.{called-refused, called-done}
 use Rattle.array.proofs.asking.locate.Statement.{statement}

@@ -5,11 +5,11 @@ use native.Mathlib.Omega.{arith}
 use borrow.Author.Needs.{needs}
 use Rattle.layout.specs.Layout.{capacity}
 use Rattle.state.specs.Good.{geometry}
-use Rattle.array.specs.Call.{out, feed, on}
-use Rattle.array.specs.Health.{withHealth}
-use Rattle.array.specs.Images.{recorded}
-use Rattle.array.specs.Table.{refusal}
-use Rattle.array.specs.Effect.{effect}
+use Rattle.calls.specs.Call.{out, feed, on}
+use Rattle.calls.specs.Health.{withHealth}
+use Rattle.calls.specs.Images.{recorded}
+use Rattle.calls.specs.Table.{refusal}
+use Rattle.calls.specs.Effect.{effect}
 use Rattle.array.proofs.Calls.Asking.{out-asks}
 use Rattle.array.proofs.Calls.Called.{called-refused, called-done}
 use Rattle.array.proofs.failing.out.Statement.{statement}

@@ -4,9 +4,9 @@ use mathlib.Core.List.{[]}
 use borrow.Author.Needs.{needs}
 use native.Mathlib.Omega.{arith}
 use Rattle.state.specs.Good.{Limits}
-use Rattle.array.specs.Call.{format, Event, on}
-use Rattle.array.specs.Health.{formatted}
-use Rattle.array.proofs.Laws.Format.{limits}
+use Rattle.calls.specs.Call.{format, Event, on}
+use Rattle.calls.specs.Health.{formatted}
+use Rattle.calls.proofs.Laws.Format.{limits}
 use Rattle.array.proofs.Calls.Called.{called-refused}
 use Rattle.array.proofs.Calls.Zeroed.{format-passed, format-done}
 use Rattle.array.proofs.formatting.format.Statement.{statement}

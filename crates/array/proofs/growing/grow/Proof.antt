@@ -4,7 +4,7 @@ use mathlib.Core.List.{[]}
 use borrow.Author.Needs.{needs}
 use native.Mathlib.Omega.{arith}
 use lib.ListN.{length}
-use Rattle.array.specs.Call.{grow, on}
+use Rattle.calls.specs.Call.{grow, on}
 use Rattle.array.proofs.Calls.Called.{called-refused}
 use Rattle.array.proofs.Calls.Zeroed.{Sizes, grow-sizes, grow-done}
 use Rattle.array.proofs.growing.grow.Statement.{statement}

@@ -4,7 +4,7 @@ use mathlib.Core.Path.{ap₂, _∙_}
 use native.Mathlib.Omega.{arith}
 use borrow.Author.Needs.{needs}
 use Rattle.blocks.specs.Stripe.{others}
-use Rattle.array.specs.Images.{disksOf}
+use Rattle.calls.specs.Images.{disksOf}
 use Rattle.array.proofs.places.sum_others.Statement.{statement}
 use Rattle.array.proofs.places.sum_others.Tie as tie
 

@@ -1,8 +1,8 @@
 -- `read` meets its contract. Assumes nothing.
 use mathlib.Core.Path.{refl, sym, _∙_}
 use borrow.Author.Needs.{needs}
-use Rattle.array.specs.Call.{read, on}
-use Rattle.array.specs.Effect.{effect}
+use Rattle.calls.specs.Call.{read, on}
+use Rattle.calls.specs.Effect.{effect}
 use Rattle.array.proofs.Calls.Called.{called-refused, called-done}
 use Rattle.array.proofs.reading.read.Statement.{statement}
 use Rattle.array.proofs.reading.read.Tie as tie

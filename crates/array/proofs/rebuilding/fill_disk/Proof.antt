@@ -5,7 +5,7 @@ use borrow.Author.Needs.{needs}
 use native.Mathlib.Omega.{arith}
 use lib.ListN.{length}
 use Rattle.blocks.specs.Stripe.{others}
-use Rattle.array.specs.Images.{stored, fillDisk}
+use Rattle.calls.specs.Images.{stored, fillDisk}
 use Rattle.array.proofs.Calls.Filled.{Filled, filled-none, filled-more, filled-all}
 use Rattle.array.proofs.rebuilding.fill_disk.Statement.{statement}
 use Rattle.array.proofs.rebuilding.fill_disk.Tie as tie

@@ -2,7 +2,7 @@
 use mathlib.Core.Path.{refl, sym, _∙_}
 use mathlib.Core.List.{[]}
 use borrow.Author.Needs.{needs}
-use Rattle.array.specs.Call.{rebuild, on}
+use Rattle.calls.specs.Call.{rebuild, on}
 use Rattle.array.proofs.Calls.Called.{called-refused}
 use Rattle.array.proofs.Calls.Filled.{rebuild-passed, rebuild-done}
 use Rattle.array.proofs.rebuilding.rebuild.Statement.{statement}

@@ -2,7 +2,7 @@
 use mathlib.Core.Path.{refl}
 use borrow.Author.Needs.{needs}
 use Rattle.state.proofs.Laws.Tests.{went-on, returned}
-use Rattle.array.specs.Table.{formable}
+use Rattle.calls.specs.Table.{formable}
 use Rattle.array.proofs.refusal.is_formable.Statement.{statement}
 use Rattle.array.proofs.refusal.is_formable.Tie as tie
 

@@ -9,7 +9,7 @@ use Rattle.layout.specs.declared.Geometry.{Geometry}
 use Rattle.layout.specs.Layout.{totalOf}
 use Rattle.layout.specs.Limits.{Good}
 use Rattle.layout.proofs.Laws.Zones.{total-none}
-use Rattle.array.specs.Table.{idle}
+use Rattle.calls.specs.Table.{idle}
 use Rattle.array.proofs.refusal.is_idle.Statement.{statement}
 use Rattle.array.proofs.refusal.is_idle.Tie as tie
 

@@ -4,10 +4,10 @@ use mathlib.Core.Bool.{true}
 use native.Mathlib.Omega.{arith}
 use borrow.Author.Needs.{needs}
 use Rattle.state.proofs.Laws.Tests.{went-on, returned}
-use Rattle.array.specs.Table.{formable, table, refusal}
+use Rattle.calls.specs.Table.{formable, table, refusal}
 use Rattle.array.proofs.Calls.Asked.{same, other}
 use Rattle.array.proofs.Calls.Bounds.{Bounded, bounded}
-use Rattle.array.proofs.Laws.Format.{limits}
+use Rattle.calls.proofs.Laws.Format.{limits}
 use Rattle.array.proofs.refusal.of_format.Statement.{statement}
 use Rattle.array.proofs.refusal.of_format.Tie as tie
 

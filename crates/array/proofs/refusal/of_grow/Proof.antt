@@ -3,7 +3,7 @@ use mathlib.Core.Path.{refl}
 use borrow.Author.Needs.{needs}
 use Rattle.state.proofs.Laws.Good.{new-good}
 use Rattle.state.proofs.Laws.Tests.{went-on, returned}
-use Rattle.array.specs.Table.{table, refusal}
+use Rattle.calls.specs.Table.{table, refusal}
 use Rattle.array.proofs.Calls.Asked.{same, other, told}
 use Rattle.array.proofs.Calls.Ready.{Ready, ready, unready}
 use Rattle.array.proofs.refusal.of_grow.Statement.{statement}

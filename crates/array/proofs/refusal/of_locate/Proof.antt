@@ -5,7 +5,7 @@ use borrow.Author.Needs.{needs}
 use Rattle.state.specs.Good.{good}
 use Rattle.state.proofs.Laws.Good.{limits}
 use Rattle.state.proofs.Laws.Tests.{went-on, returned}
-use Rattle.array.specs.Table.{table, refusal}
+use Rattle.calls.specs.Table.{table, refusal}
 use Rattle.array.proofs.Calls.Asked.{under, over}
 use Rattle.array.proofs.refusal.of_locate.Statement.{statement}
 use Rattle.array.proofs.refusal.of_locate.Tie as tie

@@ -1,7 +1,7 @@
 -- `of_reach` meets its contract. Assumes nothing.
 use mathlib.Core.Path.{refl}
 use borrow.Author.Needs.{needs}
-use Rattle.array.specs.Table.{table, refusal}
+use Rattle.calls.specs.Table.{table, refusal}
 use Rattle.array.proofs.Calls.Asked.{same, other, under, over}
 use Rattle.array.proofs.Calls.Ready.{Ready, ready, unready}
 use Rattle.array.proofs.refusal.of_reach.Statement.{statement}

@@ -2,7 +2,7 @@
 use mathlib.Core.Path.{refl}
 use borrow.Author.Needs.{needs}
 use Rattle.state.proofs.Laws.Tests.{went-on, returned}
-use Rattle.array.specs.Table.{table, refusal}
+use Rattle.calls.specs.Table.{table, refusal}
 use Rattle.array.proofs.refusal.of_status.Statement.{statement}
 use Rattle.array.proofs.refusal.of_status.Tie as tie
 

@@ -5,7 +5,7 @@ use mathlib.Core.List.{List}
 use borrow.Author.Needs.{needs}
 use Rattle.array.specs.declared.Choice.{Choice}
 use Rattle.array.specs.Answers.{choiceAnswer, begins}
-use Rattle.array.specs.Call.{number, shown}
+use Rattle.calls.specs.Call.{number, shown}
 use Rattle.array.proofs.Calls.Shown.{shows}
 use Rattle.array.proofs.viewing.view.Statement.{statement}
 use Rattle.array.proofs.viewing.view.Tie as tie

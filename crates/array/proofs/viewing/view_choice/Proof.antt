@@ -1,8 +1,8 @@
 -- `view_choice` meets its contract. Assumes nothing.
 use mathlib.Core.Path.{refl, sym, _∙_}
 use borrow.Author.Needs.{needs}
-use Rattle.array.specs.Call.{view, on}
-use Rattle.array.specs.Effect.{effect}
+use Rattle.calls.specs.Call.{view, on}
+use Rattle.calls.specs.Effect.{effect}
 use Rattle.array.proofs.Calls.Called.{called-refused, called-done}
 use Rattle.array.proofs.Calls.Reach.{as-view}
 use Rattle.array.proofs.Calls.Shown.{choice-refused}

@@ -6,8 +6,8 @@ use lib.ListN.{length}
 use borrow.Author.Needs.{needs}
 use Rattle.blocks.specs.Block.{store}
 use Rattle.state.proofs.Laws.Tests.{went-on, returned}
-use Rattle.array.specs.Images.{stored}
-use Rattle.array.specs.Effect.{writeStores}
+use Rattle.calls.specs.Images.{stored}
+use Rattle.calls.specs.Effect.{writeStores}
 use Rattle.array.proofs.Calls.Asked.{told}
 use Rattle.array.proofs.Calls.Reach.{as-write, Reached, asked, reached, inside, short, parity-asked}
 use Rattle.array.proofs.Calls.Put.{Aimed, aimed, parity-lt, sums, folds, data-out, both-in, parity-out}

@@ -5,9 +5,9 @@ use borrow.Author.Needs.{needs}
 use lib.ListN.{length}
 use Rattle.layout.specs.Layout.{capacity}
 use Rattle.state.specs.Good.{geometry}
-use Rattle.array.specs.Call.{read, write, feed, on}
-use Rattle.array.specs.Table.{refusal}
-use Rattle.array.specs.Effect.{effect}
+use Rattle.calls.specs.Call.{read, write, feed, on}
+use Rattle.calls.specs.Table.{refusal}
+use Rattle.calls.specs.Effect.{effect}
 use Rattle.array.proofs.Calls.Called.{called-refused, called-done}
 use Rattle.array.proofs.Calls.Reach.{as-write}
 use Rattle.array.proofs.writing.write.Statement.{statement}

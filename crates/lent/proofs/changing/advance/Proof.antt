@@ -1,5 +1,5 @@
 -- `advance` meets its contract, by the walk of `OneNumber`. Its step returns a `Progress`, whose answer is a `Count`.
-use Rattle.array.specs.Call.{advance as #advance}
+use Rattle.calls.specs.Call.{advance as #advance}
 use Rattle.lent.proofs.Walks.Changing.{moved}
 use Rattle.lent.proofs.Walks.OneNumber.{meets}
 use Rattle.lent.proofs.steps.advance_step.Symbol as step

@@ -1,5 +1,5 @@
 -- `rebuild` meets its contract, by the walk of `OneNumber`.
-use Rattle.array.specs.Call.{rebuild as #rebuild}
+use Rattle.calls.specs.Call.{rebuild as #rebuild}
 use Rattle.lent.proofs.Walks.Changing.{stepped}
 use Rattle.lent.proofs.Walks.OneNumber.{meets}
 use Rattle.lent.proofs.steps.rebuild_step.Symbol as step

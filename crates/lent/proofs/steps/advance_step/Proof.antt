@@ -1,7 +1,7 @@
 -- What `array::advance` ensures, through `moved`.
 use mathlib.Core.Path.{ap, _∙_}
 use borrow.Author.Needs.{needs}
-use Rattle.array.specs.Call.{number, count}
+use Rattle.calls.specs.Call.{number, count}
 use Rattle.lent.proofs.steps.advance_step.Statement.{statement}
 use Rattle.lent.proofs.steps.advance_step.Tie as tie
 

@@ -1,7 +1,7 @@
 -- What `array::format` ensures of every record, at this one, through `stepped`.
 use mathlib.Core.Path.{ap, _∙_}
 use borrow.Author.Needs.{needs}
-use Rattle.array.specs.Call.{number}
+use Rattle.calls.specs.Call.{number}
 use Rattle.lent.proofs.steps.format_step.Statement.{statement}
 use Rattle.lent.proofs.steps.format_step.Tie as tie
 

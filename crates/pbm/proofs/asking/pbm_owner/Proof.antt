@@ -5,8 +5,8 @@ use mathlib.Core.List.{[]}
 use borrow.Author.Needs.{needs}
 use Rattle.state.proofs.Laws.Tests.{went-on, returned}
 use Rattle.array.specs.Answers.{ownedAnswer}
-use Rattle.array.specs.Call.{owner, Event, on}
-use Rattle.array.specs.Effect.{calledBytes}
+use Rattle.calls.specs.Call.{owner, Event, on}
+use Rattle.calls.specs.Effect.{calledBytes}
 use Rattle.pbm.specs.Opening.{readable}
 use Rattle.pbm.proofs.Opened.{long, unreadable, opened}
 use Rattle.pbm.proofs.asking.pbm_owner.Statement.{statement}

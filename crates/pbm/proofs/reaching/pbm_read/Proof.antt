@@ -3,7 +3,7 @@ use mathlib.Core.Path.{_≡_, refl, sym, ap, _∙_}
 use mathlib.Core.Bool.{true}
 use borrow.Author.Needs.{needs}
 use Rattle.state.proofs.Laws.Tests.{went-on, returned}
-use Rattle.array.specs.Call.{read, on, Event, number}
+use Rattle.calls.specs.Call.{read, on, Event, number}
 use Rattle.pbm.specs.Opening.{readable}
 use Rattle.pbm.proofs.Opened.{long, unreadable, opened}
 use Rattle.pbm.proofs.reaching.pbm_read.Statement.{statement}

@@ -7,8 +7,8 @@ use borrow.Author.Needs.{needs}
 use native.Mathlib.Numerals.{add-one}
 use native.Mathlib.Omega.{arith}
 use Rattle.state.specs.declared.Record.{Record}
-use Rattle.array.specs.Call.{write, on}
-use Rattle.array.specs.Effect.{called}
+use Rattle.calls.specs.Call.{write, on}
+use Rattle.calls.specs.Effect.{called}
 use Rattle.show_view.specs.Marks.{mark, marked}
 use Rattle.show_view.proofs.marks.write_marks.Statement.{statement}
 use Rattle.show_view.proofs.marks.write_marks.Tie as tie

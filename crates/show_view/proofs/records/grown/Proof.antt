@@ -1,5 +1,5 @@
 -- `grown` meets its contract, by the walk of `OneNumber`.
-use Rattle.array.specs.Call.{grow as #grow}
+use Rattle.calls.specs.Call.{grow as #grow}
 use Rattle.lent.proofs.Walks.Changing.{stepped}
 use Rattle.lent.proofs.grow.Symbol as lent
 use Rattle.lent.proofs.grow.Met as lent-thm

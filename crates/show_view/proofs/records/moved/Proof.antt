@@ -1,5 +1,5 @@
 -- `moved` meets its contract, by the walk of `OneNumber`.
-use Rattle.array.specs.Call.{advance as #advance}
+use Rattle.calls.specs.Call.{advance as #advance}
 use Rattle.lent.proofs.Walks.Changing.{moved}
 use Rattle.lent.proofs.advance.Symbol as lent
 use Rattle.lent.proofs.advance.Met as lent-thm

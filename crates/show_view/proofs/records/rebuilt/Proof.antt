@@ -1,5 +1,5 @@
 -- `rebuilt` meets its contract, by the walk of `OneNumber`.
-use Rattle.array.specs.Call.{rebuild as #rebuild}
+use Rattle.calls.specs.Call.{rebuild as #rebuild}
 use Rattle.lent.proofs.Walks.Changing.{stepped}
 use Rattle.lent.proofs.rebuild.Symbol as lent
 use Rattle.lent.proofs.rebuild.Met as lent-thm

@@ -30,8 +30,8 @@ use denote.Exit.{yes}
 use Rattle.state.specs.declared.Record.{Record}
 use Rattle.state.proofs.Record as T
 use Rattle.state.proofs.Record.Laws as T′
-use Rattle.array.specs.Call.{out as #out, on, number}
-use Rattle.array.specs.Effect.{called}
+use Rattle.calls.specs.Call.{out as #out, on, number}
+use Rattle.calls.specs.Effect.{called}
 use Rattle.lent.proofs.Walks.OneCall.{Walk, by-walk}
 use Rattle.lent.proofs.Walks.Steps.{val, pointer, without as skips, takes, calls, lets-go, ends}
 use Rattle.lent.proofs.out as asked

@@ -1,0 +1,311 @@
+-- What an accepted call does, whatever bytes it is lent: `acts`. Assumes nothing.
+use Prim.Native.Nat.{ℕ, suc, _+_, _-_, _*_, _≤_, _<_, min}
+use mathlib.Core.Path.{_≡_, refl, sym, ap, _∙_, subst}
+use mathlib.Core.Bool.{Bool, true, false, not}
+use mathlib.Core.Logic.{_≢_}
+use mathlib.Core.List.{List, [], _++_}
+use native.Mathlib.Nat.{zero-mul}
+use native.Mathlib.Omega.{arith}
+use lib.ListN.{length, getD, length-replicate}
+use lib.Seq.{ext-getD}
+use Rattle.layout.specs.Layout.{totalOf, capacity, layout}
+use Rattle.blocks.specs.Block.{store, zeros}
+use Rattle.blocks.specs.Stripe.{place}
+use Rattle.blocks.specs.Xor.{xorB}
+use Rattle.blocks.proofs.Laws.Block.{store-whole}
+use Rattle.blocks.proofs.Laws.Grid.{Grid, storeAt-same}
+use Rattle.blocks.proofs.Laws.Rows.{put-same}
+use Rattle.blocks.proofs.Laws.Stripe.{cell, length-place, getD-place, length-others}
+use Rattle.blocks.proofs.Laws.Xor.{getD-zeros}
+use Rattle.state.specs.declared.Health.the-variants.{Whole, Out, Lost}
+use Rattle.state.specs.declared.Health.{Health}
+use Rattle.state.specs.declared.Record.{Record}
+use Rattle.state.specs.Good.{geometry, good, Limits}
+use Rattle.calls.specs.Call.{Call, format, read, view, write, grow, advance, out, rebuild, status, locate, owner}
+use Rattle.calls.specs.Call.{Event, Answer, bytes, made}
+use Rattle.calls.specs.Health.{absent, afterOut, formatted, grownBy, withMoves, withHealth}
+use Rattle.calls.specs.Images.{disksOf, size, sizeWith, placeIn, othersIn, seen, Store, stored, recorded, zeroDisks}
+use Rattle.calls.specs.Table.{idle, refusal}
+use Rattle.calls.specs.Effect.{placeOf, scratchLeft, moveStores, advanceStores, effect}
+use Rattle.calls.specs.Alone.{movedOn}
+use Rattle.calls.specs.Acts.{Acts}
+use Rattle.calls.proofs.Laws.Column.{Mask, storeIf}
+use Rattle.calls.proofs.Laws.Stores.{length-stored, cell-stored, stored-append, stored-last, recorded-last, column-fill, column-zero}
+use Rattle.calls.proofs.Laws.Holding.{cellIn}
+use Rattle.calls.proofs.Laws.Read.{viewed-is}
+use Rattle.calls.proofs.Laws.Write.{parity-apart, lS, ld, lp, length-w, recorded-write, cell-write}
+use Rattle.calls.proofs.Laws.Passed.{Reaches}
+use Rattle.calls.proofs.Laws.Kept.{storeIf-other}
+use Rattle.calls.proofs.Laws.Table.{some-new}
+use Rattle.calls.proofs.Laws.Advance.{moved, Carried, carried, idle-none}
+use Rattle.calls.proofs.Laws.Runs as runs
+use Rattle.calls.proofs.Alone.{Passed, bounds, formatting, writing, growing, moving, rebuilding, below-N}
+use Rattle.calls.proofs.Alone.{zeroed, rebuilt, within-grow, within-rebuild, left, long-of}
+
+-- a place is what it is byte by byte
+place-is : (N B T : ℕ) (J : List ℕ) → length J ≡ N * (T * B) → (S d : ℕ) → S < T → d < N → (v : List ℕ) → length v ≡ B
+    → ((j : ℕ) → j < B → cell B T J j S d ≡ getD v j 0) → place B T J S d ≡ v
+place-is N B T J long S d lS ld v lv same =
+    let full : length (place B T J S d) ≡ B = length-place B T J S d N lS ld (rw long (omega arith)) in
+    ext-getD 0 (place B T J S d) v (full ∙ sym lv) (λ j l. let lj : j < B = rw full at l in getD-place B T J S d j lj ∙ same j lj)
+
+-- a store that is not skipped
+storeIf-same : (a : Mask) (I : Grid) (S d v : ℕ) → a S d ≡ false → storeIf a I S d v S d ≡ v
+storeIf-same a I S d v u = rw u (storeAt-same I S d v)
+
+module _ (r : Record) (e : Event) where
+  abbrev img : List ℕ
+  img = e .images
+
+  -- the record that call c leaves
+  abbrev kept : Call → Record
+  kept c = recorded (effect c r e .stores) r
+
+  -- ---- what is seen of a place
+
+  seen-in : (S d : ℕ) → absent (r .health) S d ≡ false → seen r img S d ≡ placeIn r img S d
+  unfolding seen
+  seen-in S d u = rw u refl
+
+  seen-out : (S d : ℕ) → absent (r .health) S d ≡ true → seen r img S d ≡ othersIn r img S d
+  unfolding seen
+  seen-out S d u = rw u refl
+
+  -- ---- format
+
+  format-images : (n B T : ℕ) → Passed r e (format n B T) → left r e (format n B T) ≡ zeros (n * (T * B))
+  unfolding effect
+  format-images n B T z =
+      let long : length img ≡ n * (T * B) = formatting r e n B T z .long in
+      stored-last B T (zeroDisks B T 0 n) (formatted n B T) img ∙ runs.zeroed B T 0 img n
+      ∙ ap (λ (at : ℕ). store img at (zeros (n * (T * B)))) (zero-mul (T * B))
+      ∙ store-whole img (zeros (n * (T * B))) (length-replicate {A = ℕ} (n * (T * B)) 0 ∙ sym long)
+
+  format-record : (n B T : ℕ) → kept (format n B T) ≡ formatted n B T
+  unfolding effect
+  format-record n B T = recorded-last (zeroDisks B T 0 n) (formatted n B T) r
+
+  -- ---- view
+
+  view-answer : (b : ℕ) → effect (view b) r e .answer ≡ bytes (seen r img (placeOf r b .stripe) (placeOf r b .disk))
+  unfolding effect
+  view-answer b = ap bytes (viewed-is r img (e .room) b)
+
+  view-scratch : (b : ℕ) → absent (r .health) (placeOf r b .stripe) (placeOf r b .disk) ≡ true
+      → effect (view b) r e .room ≡ othersIn r img (placeOf r b .stripe) (placeOf r b .disk)
+  unfolding effect scratchLeft
+  view-scratch b u = rw u refl
+
+  -- ---- write
+
+  module _ (b : ℕ) (v : List ℕ) (z : Passed r e (write b v)) where
+    abbrev Sb : ℕ
+    Sb = placeOf r b .stripe
+
+    abbrev db : ℕ
+    db = placeOf r b .disk
+
+    abbrev pb : ℕ
+    pb = layout (geometry r) .parity Sb
+
+    abbrev a : Mask
+    a = absent (r .health)
+
+    -- the new parity
+    abbrev w : List ℕ
+    w = xorB (xorB (seen r img Sb pb) (seen r img Sb db)) v
+
+    t : Reaches (not (good r)) r (capacity (geometry r)) (length img) b (length v)
+    t = writing r e b v z
+
+    g : Limits r
+    g = bounds r e (t .good)
+
+    in-stripes : Sb < r .stripes
+    in-stripes = lS (geometry r) (g .array) b (t .block-lt)
+
+    apart : pb ≢ db
+    apart = parity-apart (geometry r) (g .array) b (t .block-lt)
+
+    -- a place of the stripe, from the two stores
+    by-cells : (d : ℕ) → d < disksOf r → (u : List ℕ) → length u ≡ r .block
+        → ((I : Grid) (x y j : ℕ) → x ≡ getD w j 0 → y ≡ getD v j 0 → storeIf a (storeIf a I Sb pb x) Sb db y Sb d ≡ getD u j 0)
+        → placeIn r (left r e (write b v)) Sb d ≡ u
+    unfolding effect
+    by-cells d l u lu is =
+        let long : length (left r e (write b v)) ≡ size r = long-of r e (write b v) ∙ t .long in
+        place-is (disksOf r) (r .block) (r .stripes) (left r e (write b v)) long Sb d in-stripes l u lu
+        (λ j lj.
+        cell-write r img g (t .long) b (t .block-lt) v (t .whole) j lj Sb d in-stripes
+        ∙ is (cellIn r img j) _ _ j refl refl)
+
+    write-data : absent (r .health) Sb db ≡ false → placeIn r (left r e (write b v)) Sb db ≡ v
+    write-data u =
+        by-cells db (ld (geometry r) (g .array) b (t .block-lt)) v (t .whole)
+        (λ I x y j p q. storeIf-same a (storeIf a I Sb pb x) Sb db y u ∙ q)
+
+    write-parity : absent (r .health) Sb pb ≡ false → placeIn r (left r e (write b v)) Sb pb ≡ w
+    write-parity u =
+        let long-w : length w ≡ r .block = length-w r img g (t .long) b (t .block-lt) v (t .whole) in
+        by-cells pb (lp (geometry r) (g .array) b (t .block-lt)) w long-w
+        (λ I x y j p q. storeIf-other a (storeIf a I Sb pb x) Sb db y Sb pb (λ s. apart) ∙ storeIf-same a I Sb pb x u ∙ p)
+
+    write-record : kept (write b v) ≡ r
+    unfolding effect
+    write-record = recorded-write r img g (t .long) b (t .block-lt) v (t .whole)
+
+  -- ---- grow
+
+  grow-new : (m : ℕ) → Passed r e (grow m) → (S d : ℕ) → S < r .stripes → r .old ≤ d → d < r .old + m
+      → placeIn r (left r e (grow m)) S d ≡ zeros (r .block)
+  unfolding effect
+  grow-new m z S d l lo hi =
+      let long : length img ≡ sizeWith r m = growing r e m z .long in
+      let J : List ℕ = stored (r .block) (r .stripes) (zeroed r e m) img in
+      let long′ : length J ≡ sizeWith r m = length-stored (r .block) (r .stripes) (zeroed r e m) img ∙ long in
+      rw (stored-last (r .block) (r .stripes) (zeroed r e m) (grownBy r m) img)
+      (place-is (r .old + m) (r .block) (r .stripes) J long′ S d l hi (zeros (r .block)) (length-replicate {A = ℕ} (r .block) 0)
+      (λ j lj.
+      cell-stored (r .block) (r .stripes) (r .old + m) (zeroed r e m) img (within-grow r e m) long j S d lj l
+      ∙ column-zero (r .block) (r .stripes) (r .old) j m (cellIn r img j) S d l lo hi ∙ sym (getD-zeros (r .block) j)))
+
+  grow-record : (m : ℕ) → Passed r e (grow m)
+      → kept (grow m) ≡ record { old = r .old; new = m; health = Whole; block = r .block; stripes = r .stripes; moves = 0 }
+  unfolding effect
+  grow-record m z =
+      recorded-last (zeroed r e m) (grownBy r m) r
+      ∙ ap {B = Record} (λ (h : Health). withHealth (grownBy r m) h) (growing r e m z .all-in)
+
+  -- ---- advance
+
+  abbrev risen : ℕ → ℕ
+  risen k = min k (totalOf (geometry r) - r .moves)
+
+  advance-record : (k : ℕ) → Passed r e (advance k) → recorded (advanceStores k r img) r ≡ withMoves r (r .moves + risen k)
+  advance-record k z =
+      let t = moving r e k z in
+      let c : Carried (λ x J. Unit) k r (advanceStores k r img) img =
+      carried (λ x J. Unit) (λ x J g q p. tt) k r img (bounds r e (t .good) .array) (some-new (geometry r) (t .busy)) tt in
+      c .state
+
+  advance-answer : (k : ℕ) → Passed r e (advance k) → effect (advance k) r e .answer ≡ made (risen k)
+  unfolding effect
+  advance-answer k z =
+      ap (λ (x : Record). made (x .moves - r .moves)) (advance-record k z)
+      ∙ ap made (let q : r .moves + risen k - r .moves ≡ risen k = omega arith in q)
+
+  -- the first move, and then the others on what it leaves
+  first : (k : ℕ) → idle (geometry r) ≡ false → advanceStores (suc k) r img ≡ moveStores r img ++ advanceStores k (moved r) (movedOn r img)
+  unfolding advanceStores recorded moveStores
+  first k q =
+      let ps : List Store = moveStores r img ++ advanceStores k (moved r) (movedOn r img) in
+      subst (λ (b : Bool). _≡_ {A = List Store} (elim b as (λ y. List Store) [ true ↦ [] | false ↦ ps ]) ps) (sym q) refl
+
+  advance-from : (k : ℕ) → Passed r e (advance (suc k))
+      → left r e (advance (suc k)) ≡ stored (r .block) (r .stripes) (advanceStores k (moved r) (movedOn r img)) (movedOn r img)
+  unfolding effect
+  advance-from k z =
+      ap (λ (ps : List Store). stored (r .block) (r .stripes) ps img) (first k (moving r e (suc k) z .busy))
+      ∙ stored-append (r .block) (r .stripes) (moveStores r img) (advanceStores k (moved r) (movedOn r img)) img
+
+  advance-last : (k : ℕ) → Passed r e (advance (suc k)) → idle (geometry (moved r)) ≡ true → left r e (advance (suc k)) ≡ movedOn r img
+  unfolding stored
+  advance-last k z q =
+      advance-from k z
+      ∙ ap (λ (ps : List Store). stored (r .block) (r .stripes) ps (movedOn r img)) (idle-none k (moved r) (movedOn r img) q)
+
+  advance-none : left r e (advance 0) ≡ img
+  unfolding effect advanceStores stored
+  advance-none = refl
+
+  -- ---- out
+
+  out-record : (d : ℕ) (h h′ : Health) → r .health ≡ h → afterOut h d ≡ h′ → kept (out d) ≡ withHealth r h′
+  unfolding effect recorded
+  out-record d h h′ q p = ap {B = Record} (λ (x : Health). withHealth r x) (ap (λ (x : Health). afterOut x d) q ∙ p)
+
+  -- ---- rebuild
+
+  rebuild-disk : (d : ℕ) → Passed r e (rebuild d) → (S : ℕ) → S < r .stripes → placeIn r (left r e (rebuild d)) S d ≡ othersIn r img S d
+  unfolding effect
+  rebuild-disk d z S l =
+      let t = rebuilding r e d z in
+      let low : d < disksOf r = below-N r e d t in
+      let long : length img ≡ size r = t .long in
+      let J : List ℕ = stored (r .block) (r .stripes) (rebuilt r e d) img in
+      let long′ : length J ≡ size r = length-stored (r .block) (r .stripes) (rebuilt r e d) img ∙ long in
+      rw (stored-last (r .block) (r .stripes) (rebuilt r e d) (withHealth r Whole) img)
+      (place-is (disksOf r) (r .block) (r .stripes) J long′ S d l low (othersIn r img S d)
+      (length-others (r .block) (r .stripes) img S (disksOf r) d)
+      (λ j lj.
+      cell-stored (r .block) (r .stripes) (disksOf r) (rebuilt r e d) img (within-rebuild r e d low) long j S d lj l
+      ∙ column-fill d (λ s. othersIn r img s d) j (r .stripes) (cellIn r img j) S d l
+      ∙ put-same (cellIn r img j S) d (getD (othersIn r img S d) j 0)))
+
+  rebuild-record : (d : ℕ) → kept (rebuild d) ≡ withHealth r Whole
+  unfolding effect
+  rebuild-record d = recorded-last (rebuilt r e d) (withHealth r Whole) r
+
+  -- ---- calls that leave the record
+
+  record-stays : (c : Call) → Passed r e c → ((n B T : ℕ) → c ≢ format n B T) → ((m : ℕ) → c ≢ grow m) → ((k : ℕ) → c ≢ advance k)
+      → ((d : ℕ) → c ≢ out d) → ((d : ℕ) → c ≢ rebuild d) → kept c ≡ r
+  unfolding effect recorded
+  record-stays (format n B T) z nf ng na nx nr = absurd (nf n B T refl)
+  record-stays (read b) z nf ng na nx nr = refl
+  record-stays (view b) z nf ng na nx nr = refl
+  record-stays (write b v) z nf ng na nx nr = write-record b v z
+  record-stays (grow m) z nf ng na nx nr = absurd (ng m refl)
+  record-stays (advance k) z nf ng na nx nr = absurd (na k refl)
+  record-stays (out d) z nf ng na nx nr = absurd (nx d refl)
+  record-stays (rebuild d) z nf ng na nx nr = absurd (nr d refl)
+  record-stays status z nf ng na nx nr = refl
+  record-stays (locate b) z nf ng na nx nr = refl
+  record-stays (owner S d) z nf ng na nx nr = refl
+
+-- ---- every call
+
+pub acts : Acts
+unfolding refusal effect
+acts e r z =
+    record {
+      seen-in = seen-in r e;
+      seen-out = seen-out r e;
+      format-images = λ n B T q. of-images (format n B T) (zeros (n * (T * B))) q (format-images r e n B T);
+      format-record = λ n B T q. of-record (format n B T) (formatted n B T) q (λ x. format-record r e n B T);
+      read-block = λ b q. of-room (read b) _ q refl;
+      read-answer = λ b q. of-answer (read b) _ q (λ x. refl);
+      view-answer = λ b q. of-answer (view b) _ q (λ x. view-answer r e b);
+      view-scratch = λ b q u. of-room (view b) _ q (view-scratch r e b u);
+      write-data = λ b v q u. of-place _ _ (write b v) v q (λ x. write-data r e b v x u);
+      write-parity = λ b v q u. of-place _ _ (write b v) _ q (λ x. write-parity r e b v x u);
+      grow-new = λ m q S d l lo hi. of-place S d (grow m) (zeros (r .block)) q (λ x. grow-new r e m x S d l lo hi);
+      grow-record = λ m q. of-record (grow m) _ q (grow-record r e m);
+      advance-answer = λ k q. of-answer (advance k) _ q (advance-answer r e k);
+      advance-record = λ k q. of-record (advance k) _ q (advance-record r e k);
+      advance-none = λ q. of-images (advance 0) (e .images) q (λ x. advance-none r e);
+      advance-next = λ k q i. of-images (advance (suc k)) _ q (advance-from r e k);
+      advance-last = λ k q i. of-images (advance (suc k)) _ q (λ x. advance-last r e k x i);
+      out-first = λ d q h. of-record (out d) _ q (λ x. out-record r e d Whole (Out d) h refl);
+      out-second = λ d o q h. of-record (out d) _ q (λ x. out-record r e d (Out o) Lost h refl);
+      rebuild-disk = λ d q S l. of-place S d (rebuild d) _ q (λ x. rebuild-disk r e d x S l);
+      rebuild-record = λ d q. of-record (rebuild d) _ q (λ x. rebuild-record r e d);
+      record-stays = record-stays r e (e .call) z;
+    }
+  where
+    -- what holds of the call that this is
+    of-images : (c : Call) (v : List ℕ) → e .call ≡ c → (Passed r e c → left r e c ≡ v) → left r e (e .call) ≡ v
+    of-images c v q f = subst (λ (x : Call). Passed r e x → left r e x ≡ v) (sym q) f z
+
+    of-place : (S d : ℕ) (c : Call) (v : List ℕ) → e .call ≡ c → (Passed r e c → placeIn r (left r e c) S d ≡ v)
+        → placeIn r (left r e (e .call)) S d ≡ v
+    of-place S d c v q f = subst (λ (x : Call). Passed r e x → placeIn r (left r e x) S d ≡ v) (sym q) f z
+
+    of-record : (c : Call) (y : Record) → e .call ≡ c → (Passed r e c → kept r e c ≡ y) → kept r e (e .call) ≡ y
+    of-record c y q f = subst (λ (x : Call). Passed r e x → kept r e x ≡ y) (sym q) f z
+
+    of-room : (c : Call) (v : List ℕ) → e .call ≡ c → effect c r e .room ≡ v → effect (e .call) r e .room ≡ v
+    of-room c v q f = subst (λ (x : Call). effect x r e .room ≡ v) (sym q) f
+
+    of-answer : (c : Call) (y : Answer) → e .call ≡ c → (Passed r e c → effect c r e .answer ≡ y) → effect (e .call) r e .answer ≡ y
+    of-answer c y q f = subst (λ (x : Call). Passed r e x → effect x r e .answer ≡ y) (sym q) f z

@@ -1,0 +1,46 @@
+-- The worked cases, by computation. Assumes nothing.
+use mathlib.Core.Path.{refl}
+use Rattle.layout.specs.Home.{dataDisk, homeStripe, homeDisk, rankOf, homeBlock, homeOwner}
+use Rattle.layout.specs.Moves.{moveZone, moveTo, moveLag, moveWithin, moveStripe, moveFrom, total}
+use Rattle.layout.specs.Closed.{lag, target, turn, isMoved, diskAt, source, taken}
+use Rattle.layout.specs.Blanks.{blanksBelow, blanks, newStripe, newDisk, newBlock}
+use Rattle.layout.specs.Layout.{openStripes, capacity, grownPlace, grownParity, newOwner, grownOwner}
+use Rattle.state.specs.Good.{newGood, movesGood, good}
+use Rattle.calls.specs.Images.{stored, recorded}
+use Rattle.calls.specs.Table.{idle, formable, table, refusal}
+use Rattle.calls.specs.Effect.{moveStores, advanceStores, effect, called}
+use Rattle.calls.specs.Bench.{Bench, Unmarked, Values}
+
+pub bench : Bench
+unfolding dataDisk homeStripe homeDisk rankOf homeBlock homeOwner moveZone moveTo moveLag moveWithin moveStripe moveFrom total lag target turn isMoved diskAt source taken blanksBelow blanks newStripe newDisk newBlock openStripes capacity grownPlace grownParity newOwner grownOwner newGood movesGood good stored recorded idle formable table refusal effect called
+bench = record {
+  numbers = (refl, refl, refl);
+  block-5 = (refl, refl);
+  move-0 = (refl, refl, refl);
+  move-1 = (refl, refl, refl);
+  move-2 = (refl, refl, refl);
+  block-2 = (refl, refl);
+  block-6 = refl;
+  block-0 = λ t. refl;
+  new-blocks = (refl, refl, refl, refl, refl);
+}
+
+pub unmarked : Unmarked
+unfolding moveZone moveTo moveLag moveWithin moveStripe moveFrom total openStripes capacity newGood movesGood good stored recorded idle formable table refusal moveStores advanceStores effect called
+unmarked = record {
+  groups = (refl, refl, refl);
+  disks = (refl, refl, refl, refl);
+  block = (refl, refl, refl, refl);
+  stripes = (refl, refl, refl, refl);
+  finished = (refl, refl);
+}
+
+pub values : Values
+values = record {
+  counts = (refl, refl, refl);
+  statuses = (refl, refl, refl);
+  places = refl;
+  owners = (refl, refl, refl);
+  views = (refl, refl, refl);
+  refusals = (refl, refl, refl, refl);
+}

@@ -1,0 +1,51 @@
+-- One cabinet, byte by byte, by computation. Assumes nothing.
+use mathlib.Core.Path.{refl}
+use Rattle.layout.specs.Home.{dataDisk, homeStripe, homeDisk}
+use Rattle.layout.specs.Moves.{moveZone, moveTo, moveLag, moveWithin, moveStripe, moveFrom, total}
+use Rattle.layout.specs.Closed.{lag, target, turn, isMoved, diskAt}
+use Rattle.layout.specs.Layout.{openStripes, capacity, grownPlace, grownParity}
+use Rattle.state.specs.Good.{newGood, movesGood, good}
+use Rattle.calls.specs.Images.{seen, stored, recorded, fillDisk, zeroDisks}
+use Rattle.calls.specs.Table.{idle, formable, table, refusal}
+use Rattle.calls.specs.Effect.{viewOf, scratchLeft, writeStores, moveStores, advanceStores, effect, called}
+use Rattle.calls.specs.Drawers.{Drawers}
+
+pub drawers : Drawers
+unfolding dataDisk homeStripe homeDisk moveZone moveTo moveLag moveWithin moveStripe moveFrom total lag target turn isMoved diskAt openStripes capacity grownPlace grownParity newGood movesGood good seen stored recorded fillDisk zeroDisks idle formable table refusal viewOf scratchLeft writeStores moveStores advanceStores effect called
+drawers = record {
+  move = refl;
+  no-move = refl;
+  move-unsound = refl;
+  written = refl;
+  written-degraded = refl;
+  written-no-parity = refl;
+  read-degraded = refl;
+  viewed = refl;
+  viewed-degraded = refl;
+  rebuilt = refl;
+  first-out = refl;
+  second-out = refl;
+  grown = refl;
+  formatted = refl;
+  move-stores = refl;
+  write-stores = refl;
+  written-unsound = refl;
+  written-beside-unsound = refl;
+  written-degraded-unsound = refl;
+  read-unsound = refl;
+  read-degraded-unsound = refl;
+  viewed-degraded-unsound = refl;
+  rebuilt-unsound = refl;
+  wide-moves = refl;
+  wide-written = refl;
+  wide-written-unsound = refl;
+  wide-written-degraded = refl;
+  wide-read = refl;
+  wide-read-degraded = refl;
+  wide-viewed = refl;
+  wide-viewed-degraded = refl;
+  wide-rebuilt = refl;
+  wide-rebuilt-unsound = refl;
+  wide-grown = refl;
+  wide-formatted = refl;
+}

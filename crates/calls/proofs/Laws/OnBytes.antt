@@ -1,0 +1,136 @@
+-- A call on a record's bytes is the call on the record. Assumes nothing.
+use Prim.Native.Nat.{ℕ, zero, suc}
+use mathlib.Core.Path.{_≡_, refl, ap₂}
+use mathlib.Core.Bool.{Bool, true, false, not}
+use mathlib.Core.Logic.{_≢_}
+use mathlib.Core.List.{List}
+use native.Mathlib.Omega.{arith}
+use lib.ListN.{length}
+use borrow.Author.Tests.{eq-eqb, ne-eqb}
+use Rattle.layout.specs.Layout.{capacity}
+use Rattle.state.specs.declared.Record.{Record}
+use Rattle.state.specs.Good.{geometry, good}
+use Rattle.state.specs.Bytes.{decode, plain, goodBytes, encode}
+use Rattle.state.proofs.Laws.Bytes.{decode-encode, length-encode, plain-encode}
+use Rattle.calls.specs.Call.{Call, format, read, view, write, grow, advance, out, rebuild, status, locate, owner, Event, on, Fed, fed, accepted}
+use Rattle.calls.specs.Health.{formatted}
+use Rattle.calls.specs.Images.{zeroDisks}
+use Rattle.calls.specs.Table.{word, table, refusal, rowsBytes, refusalBytes}
+use Rattle.calls.specs.Effect.{effect, Left, act, untouched, settle, called, sealed, calledBytes}
+use Rattle.calls.proofs.Laws.Stores.{recorded-last}
+use Rattle.calls.proofs.Laws.Acting.{accepts}
+
+pub good-encode : (r : Record) → goodBytes (encode r) ≡ good r
+good-encode r = rw (plain-encode r, decode-encode r)
+
+pub refusal-encode : (r : Record) (e : Fed) → refusalBytes (encode r) e ≡ refusal r (capacity (geometry r)) e
+unfolding refusalBytes rowsBytes refusal
+refusal-encode r e = rw (length-encode r, good-encode r, decode-encode r)
+
+pub on-bytes : (e : Event) (r : Record) → calledBytes e (encode r) ≡ sealed (called e r)
+unfolding calledBytes called
+on-bytes e r = rw (refusal-encode r (fed e), decode-encode r) (go (refusal r (capacity (geometry r)) (fed e)))
+  where
+    go : (n : ℕ) → settle n (untouched e (encode r)) (sealed (act e r)) ≡ sealed (settle n (untouched e r) (act e r))
+    go zero = refl
+    go (suc n) = refl
+
+-- ---- the same by the bytes lent, for a call that decodes them
+
+-- does a call look at the record?
+abbrev pub looks : Call → Bool
+looks (format n B T) = false
+looks (read b) = true
+looks (view b) = true
+looks (write b v) = true
+looks (grow m) = true
+looks (advance k) = true
+looks (out d) = true
+looks (rebuild d) = true
+looks status = true
+looks (locate b) = true
+looks (owner S d) = true
+
+module _ (bad : Bool) (r : Record) (cap len room : ℕ) where
+  short-first : (c : Call) → word (table c true bad r cap len room) ≡ 1
+  unfolding table
+  short-first (format n B T) = refl
+  short-first (read b) = refl
+  short-first (view b) = refl
+  short-first (write b v) = refl
+  short-first (grow m) = refl
+  short-first (advance k) = refl
+  short-first (out d) = refl
+  short-first (rebuild d) = refl
+  short-first status = refl
+  short-first (locate b) = refl
+  short-first (owner S d) = refl
+
+  bad-first : (c : Call) → looks c ≡ true → bad ≡ true → word (table c false bad r cap len room) ≡ 1
+  unfolding table
+  bad-first (format n B T) l q = absurd (let w : _≡_ {A = ℕ} 0 1 = cc in omega arith)
+  bad-first (read b) l q = rw q refl
+  bad-first (view b) l q = rw q refl
+  bad-first (write b v) l q = rw q refl
+  bad-first (grow m) l q = rw q refl
+  bad-first (advance k) l q = rw q refl
+  bad-first (out d) l q = rw q refl
+  bad-first (rebuild d) l q = rw q refl
+  bad-first status l q = rw q refl
+  bad-first (locate b) l q = rw q refl
+  bad-first (owner S d) l q = rw q refl
+
+-- bytes that are not 16, or that no record is written as
+pub bytes-short : (e : Event) (b : List ℕ) → length b ≢ 16 → calledBytes e b ≡ untouched e b 1
+unfolding calledBytes refusalBytes rowsBytes
+bytes-short e b h = rw (ne-eqb _ _ h, short-first (not (goodBytes b)) (decode b) (capacity (geometry (decode b))) (length (e .images)) (length (e .room)) (e .call)) refl
+
+pub bytes-damaged : (e : Event) (b : List ℕ) → length b ≡ 16 → looks (e .call) ≡ true → plain b ≡ false → calledBytes e b ≡ untouched e b 1
+unfolding calledBytes refusalBytes rowsBytes
+bytes-damaged e b long l p =
+    rw (eq-eqb _ _ long, bad-first (not (goodBytes b)) (decode b) (capacity (geometry (decode b))) (length (e .images)) (length (e .room)) (e .call) l (rw p refl)) refl
+
+-- what a call on bytes b leaves, beside the same call on a record
+pub record Seals (b : List ℕ) (x : Left (List ℕ)) (y : Left Record) : Type 0 where
+  pub answer : x .answer ≡ y .answer
+  pub images : x .images ≡ y .images
+  pub room : x .room ≡ y .room
+  pub kept : accepted (y .answer) ≡ false → x .state ≡ b
+  pub written : accepted (y .answer) ≡ true → x .state ≡ encode (y .state)
+
+seals : (e : Event) (b : List ℕ) (r : Record) (n : ℕ) → Seals b (settle n (untouched e b) (sealed (act e r))) (settle n (untouched e r) (act e r))
+seals e b r zero =
+    let no-refusal : accepted (act e r .answer) ≡ true = accepts (e .call) r e in
+    record { answer = refl; images = refl; room = refl; kept = λ q. absurd (let w : _≡_ {A = ℕ} 0 1 = cc in omega arith); written = λ q. refl }
+seals e b r (suc n) = record { answer = refl; images = refl; room = refl; kept = λ q. refl; written = λ q. absurd (let w : _≡_ {A = ℕ} 0 1 = cc in omega arith) }
+
+-- 16 bytes that a record is written as
+module _ (e : Event) (b : List ℕ) (long : length b ≡ 16) (p : plain b ≡ true) where
+  agrees : refusalBytes b (fed e) ≡ refusal (decode b) (capacity (geometry (decode b))) (fed e)
+  unfolding refusalBytes rowsBytes refusal
+  agrees = rw (long, p) refl
+
+  pub record-seals : Seals b (calledBytes e b) (called e (decode b))
+  unfolding called calledBytes
+  record-seals = rw agrees (seals e b (decode b) (refusal (decode b) (capacity (geometry (decode b))) (fed e)))
+
+-- format, lent any 16 bytes: as on any record
+module _ (n B T : ℕ) (img room b : List ℕ) (r : Record) (long : length b ≡ 16) where
+  abbrev e : Event
+  e = on (format n B T) img room
+
+  as-on : refusalBytes b (fed e) ≡ refusal r (capacity (geometry r)) (fed e)
+  unfolding refusalBytes rowsBytes refusal table
+  as-on = rw long refl
+
+  acts-as-on : act e (decode b) ≡ act e r
+  unfolding effect
+  acts-as-on = rw (recorded-last (zeroDisks B T 0 n) (formatted n B T) (decode b), recorded-last (zeroDisks B T 0 n) (formatted n B T) r) refl
+
+  settles : calledBytes e b ≡ settle (refusal r (capacity (geometry r)) (fed e)) (untouched e b) (sealed (act e r))
+  unfolding calledBytes
+  settles = ap₂ (λ (k : ℕ) (x : Left Record). settle k (untouched e b) (sealed x)) as-on acts-as-on
+
+  pub format-seals : Seals b (calledBytes e b) (called e r)
+  unfolding called
+  format-seals = rw settles (seals e b r (refusal r (capacity (geometry r)) (fed e)))

@@ -1,0 +1,49 @@
+-- Out: with one disk out the images hold the same list, whatever that disk then holds; a second one out is lost. Assumes nothing.
+use Prim.Native.Nat.{ℕ, _<_}
+use mathlib.Core.Path.{_≡_, refl}
+use mathlib.Core.Bool.{Bool, false, cond}
+use mathlib.Core.List.{List}
+use native.Mathlib.Omega.{arith}
+use Rattle.layout.specs.Layout.{layout}
+use Rattle.blocks.proofs.Laws.Rows.{rest}
+use Rattle.state.specs.declared.Health.the-variants.{Whole, Out, Lost}
+use Rattle.state.specs.declared.Health.{Health}
+use Rattle.state.specs.declared.Record.{Record}
+use Rattle.state.specs.Good.{geometry, OutBelow}
+use Rattle.calls.specs.Call.{out}
+use Rattle.calls.specs.Health.{isLost, absent, afterOut, withHealth}
+use Rattle.calls.specs.Images.{disksOf}
+use Rattle.calls.specs.Table.{table, word}
+use Rattle.calls.proofs.Laws.Column.{reseen}
+use Rattle.calls.proofs.Laws.Holding.{Holding, bytesAt, cellIn, single}
+use Rattle.calls.proofs.Laws.Passed as passed
+
+-- "out with another disk becomes lost"
+pub lost-by : (o d : ℕ) → afterOut (Out o) d ≡ Lost
+lost-by o d = refl
+
+module _ (r : Record) (left : List ℕ) (bs : List (List ℕ)) (h : Holding r left bs) (d : ℕ) (short bad : Bool) (c len room : ℕ) where
+  out-below : (x : Health) → d < disksOf r → OutBelow (disksOf r) (afterOut x d)
+  out-below Whole l = l
+  out-below (Out o) l = tt
+  out-below Lost l = tt
+
+  -- what is seen of a place that stays is what was seen of it
+  same-seen : (x : Health) → isLost (afterOut x d) ≡ false → (j S e : ℕ) → absent (afterOut x d) S e ≡ false
+      → cellIn r left j S e ≡ cond (absent x S e) (rest (disksOf r) e (cellIn r left j S)) (cellIn r left j S e)
+  same-seen Whole u j S e q = refl
+  same-seen (Out o) u j S e q = absurd (let w : _≡_ {A = ℕ} 0 1 = cc in omega arith)
+  same-seen Lost u j S e q = absurd (let w : _≡_ {A = ℕ} 0 1 = cc in omega arith)
+
+  pub outs : word (table (out d) short bad r c len room) ≡ 0 → Holding (withHealth r (afterOut (r .health) d)) left bs
+  outs z =
+      let q = passed.falls short bad r c len room d z in
+      record {
+        limits = record { array = h .limits .array; block-low = h .limits .block-low; block-high = h .limits .block-high; out = out-below (r .health) (q .disk-lt) };
+        long = h .long;
+        count = h .count;
+        whole = h .whole;
+        stored = λ u j lj.
+            reseen (disksOf r) (r .stripes) (layout (geometry r) .owner) (absent (r .health)) (absent (afterOut (r .health) d)) (cellIn r left j) (cellIn r left j) (bytesAt j bs)
+            (single (disksOf r) (r .stripes) (r .health) (q .here)) (h .stored (q .here) j lj) (λ S e lS le x. same-seen (r .health) u j S e x);
+      }

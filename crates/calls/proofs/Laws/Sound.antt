@@ -1,0 +1,61 @@
+-- Images that hold a list of blocks have sound stripes, unless lost. Assumes nothing.
+use Prim.Native.Nat.{ℕ, zero, suc, _≤_, _<_}
+use mathlib.Core.Path.{_≡_, sym, ap, _∙_}
+use mathlib.Core.Bool.{false}
+use mathlib.Core.List.{List}
+use native.Mathlib.Omega.{arith}
+use lib.ListN.{length, getD, length-replicate}
+use lib.Seq.{ext-getD}
+use Rattle.layout.specs.Layout.{layout}
+use Rattle.blocks.specs.Block.{zeros}
+use Rattle.blocks.specs.Xor.{xorAll}
+use Rattle.blocks.proofs.Laws.Rows.{_⊕_, sum, sum-ext}
+use Rattle.blocks.proofs.Laws.Xor.{length-xorB, getD-xorB, getD-zeros, xorAll-snoc}
+use Rattle.state.specs.declared.Record.{Record}
+use Rattle.state.specs.Good.{geometry}
+use Rattle.calls.specs.Health.{isLost, absent}
+use Rattle.calls.specs.Images.{disksOf, seen}
+use Rattle.calls.specs.Sound.{seenStripe, Sound}
+use Rattle.calls.proofs.Laws.Column.{fits-blank, Even, Holds, seen-is}
+use Rattle.calls.proofs.Laws.Holding.{Holding, bytesAt, cellIn, single, length-seen, getD-seen}
+
+module _ (r : Record) (img : List ℕ) (bs : List (List ℕ)) (h : Holding r img bs) (nl : isLost (r .health) ≡ false) (S : ℕ) (lS : S < r .stripes) where
+  -- a block is zeroes if each of its bytes is
+  zeroes : (v : List ℕ) → length v ≡ r .block → ((j : ℕ) → j < r .block → getD v j 0 ≡ 0) → v ≡ zeros (r .block)
+  zeroes v len z =
+      ext-getD 0 v (zeros (r .block)) (len ∙ sym (length-replicate {A = ℕ} (r .block) 0)) (λ j l. z j (rw len at l) ∙ sym (getD-zeros (r .block) j))
+
+  -- what is seen is what the grid holds
+  seen-grid : (j : ℕ) (lj : j < r .block) (d : ℕ) → d < disksOf r → getD (seen r img S d) j 0 ≡ h .stored nl j lj .grid S d
+  seen-grid j lj d ld =
+      let s = h .stored nl j lj in
+      getD-seen r img S d j lj
+      ∙ seen-is (disksOf r) (r .stripes) (absent (r .health)) (cellIn r img j) (s .grid) (single (disksOf r) (r .stripes) (r .health) nl) (s .agree) (s .even) S d lS ld
+
+  length-all : (k : ℕ) → k ≤ disksOf r → length (xorAll (r .block) (seenStripe r img S k)) ≡ r .block
+  unfolding seenStripe
+  length-all zero l = length-replicate {A = ℕ} (r .block) 0
+  length-all (suc k) l =
+      ap length (xorAll-snoc (r .block) (seenStripe r img S k) (seen r img S k))
+      ∙ length-xorB (xorAll (r .block) (seenStripe r img S k)) (seen r img S k) (r .block) (length-all k (omega arith)) (length-seen r img S k (h .long) lS (omega arith))
+
+  getD-all : (j k : ℕ) → k ≤ disksOf r → getD (xorAll (r .block) (seenStripe r img S k)) j 0 ≡ sum k (λ d. getD (seen r img S d) j 0)
+  unfolding seenStripe sum
+  getD-all j zero l = getD-zeros (r .block) j
+  getD-all j (suc k) l =
+      ap (λ (v : List ℕ). getD v j 0) (xorAll-snoc (r .block) (seenStripe r img S k) (seen r img S k))
+      ∙ getD-xorB (xorAll (r .block) (seenStripe r img S k)) (seen r img S k) j ∙ ap (λ (x : ℕ). x ⊕ getD (seen r img S k) j 0) (getD-all j k (omega arith))
+
+  pub sound : Sound r img S
+  unfolding Even Holds
+  sound =
+      record {
+        xor =
+            zeroes (xorAll (r .block) (seenStripe r img S (disksOf r))) (length-all (disksOf r) (omega arith))
+            (λ j lj.
+            getD-all j (disksOf r) (omega arith)
+            ∙ sum-ext (disksOf r) (λ d. getD (seen r img S d) j 0) (h .stored nl j lj .grid S) (λ d ld. seen-grid j lj d ld) ∙ h .stored nl j lj .even S lS);
+        blanks = λ d ld o.
+            zeroes (seen r img S d) (length-seen r img S d (h .long) lS ld)
+            (λ j lj. seen-grid j lj d ld ∙ fits-blank (bytesAt j bs) (layout (geometry r) .owner S d) (h .stored nl j lj .grid S d) o (h .stored nl j lj .holds S d lS ld));
+      }

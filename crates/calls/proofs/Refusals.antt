@@ -1,0 +1,42 @@
+-- The table of refusals row by row, and every cell of it, by computation. Assumes nothing.
+use mathlib.Core.Path.{refl}
+use Rattle.layout.specs.Layout.{openStripes, capacity}
+use Rattle.layout.specs.Moves.{total}
+use Rattle.state.specs.Good.{newGood, movesGood, good}
+use Rattle.state.specs.Bytes.{decode, plain, encode}
+use Rattle.calls.specs.Call.{format, read, view, write, grow, advance, out, rebuild, status, locate, owner}
+use Rattle.calls.specs.Table.{idle, formable, table, rowsBytes, refusalBytes}
+use Rattle.calls.specs.Refusals.{Rowwise, Refusals}
+
+pub rowwise : Rowwise
+unfolding table
+rowwise (format n B T) short bad r cap len room = refl
+rowwise (read b) short bad r cap len room = refl
+rowwise (view b) short bad r cap len room = refl
+rowwise (write b v) short bad r cap len room = refl
+rowwise (grow m) short bad r cap len room = refl
+rowwise (advance k) short bad r cap len room = refl
+rowwise (out d) short bad r cap len room = refl
+rowwise (rebuild d) short bad r cap len room = refl
+rowwise status short bad r cap len room = refl
+rowwise (locate b) short bad r cap len room = refl
+rowwise (owner S d) short bad r cap len room = refl
+
+pub refusals : Refusals
+unfolding openStripes capacity total newGood movesGood good decode plain encode idle formable table rowsBytes refusalBytes
+refusals = record {
+  row-1 = refl;
+  row-1-format = refl;
+  formats = refl;
+  read-cells = refl;
+  view-cells = refl;
+  write-cells = refl;
+  write-room = refl;
+  grows = refl;
+  advances = refl;
+  outs = refl;
+  rebuilds = refl;
+  statuses = refl;
+  locates = refl;
+  owners = refl;
+}

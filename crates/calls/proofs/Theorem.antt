@@ -1,0 +1,69 @@
+-- Demand 1, as far as the definitions go: `demand1`; `in-order` and `on-bytes`. Assumes nothing.
+use Prim.Native.Nat.{ℕ, zero, suc}
+use mathlib.Core.Path.{_≡_, refl}
+use mathlib.Core.Bool.{false}
+use mathlib.Core.Logic.{_↔_, _≢_}
+use mathlib.Core.List.{List, []}
+use native.Mathlib.Omega.{arith}
+use lib.ListN.{length, replicate}
+use Rattle.state.specs.Bytes.{decode}
+use Rattle.calls.specs.Call.{Event, fed, accepted, number, shown, beside}
+use Rattle.calls.specs.Table.{rowsBytes, refusalBytes}
+use Rattle.calls.specs.Effect.{Left, act, untouched, settle, sealed, calledBytes}
+use Rattle.calls.specs.Theorem.{Given, Answered, Demand1, InOrder, OnBytes}
+use Rattle.calls.proofs.Laws.Rows.{rises, given}
+use Rattle.calls.proofs.Laws.Advance.{advance-split}
+use Rattle.calls.proofs.Laws.OnBytes as bytes
+use Rattle.calls.proofs.Laws.Acting.{accepts, numbered}
+
+module _ (e : Event) (b : List ℕ) where
+  abbrev X : ℕ → Left (List ℕ)
+  X n = settle n (untouched e b) (sealed (act e (decode b)))
+
+  number-is : number (calledBytes e b .answer) ≡ refusalBytes b (fed e)
+  unfolding calledBytes
+  number-is = go (refusalBytes b (fed e))
+    where
+      go : (n : ℕ) → number (X n .answer) ≡ n
+      go zero = numbered (e .call) (decode b) e
+      go (suc n) = refl
+
+  kept : accepted (calledBytes e b .answer) ≡ false → (calledBytes e b .state ≡ b) × (calledBytes e b .images ≡ e .images) × (calledBytes e b .room ≡ e .room)
+  unfolding calledBytes
+  kept = go (refusalBytes b (fed e))
+    where
+      go : (n : ℕ) → accepted (X n .answer) ≡ false → (X n .state ≡ b) × (X n .images ≡ e .images) × (X n .room ≡ e .room)
+      go zero u = absurd (let y = accepts (e .call) (decode b) e in let w : _≡_ {A = ℕ} 0 1 = cc in omega arith)
+      go (suc n) u = (refl, refl, refl)
+
+  zeros : (w : ℕ) → accepted (calledBytes e b .answer) ≡ false → (beside w (calledBytes e b .answer) ≡ replicate w 0) × (shown (calledBytes e b .answer) ≡ [])
+  unfolding calledBytes
+  zeros w = go (refusalBytes b (fed e))
+    where
+      go : (n : ℕ) → accepted (X n .answer) ≡ false → (beside w (X n .answer) ≡ replicate w 0) × (shown (X n .answer) ≡ [])
+      go zero u = absurd (let y = accepts (e .call) (decode b) e in let v : _≡_ {A = ℕ} 0 1 = cc in omega arith)
+      go (suc n) u = (refl, refl)
+
+  refused : (accepted (calledBytes e b .answer) ≡ false) ↔ (refusalBytes b (fed e) ≢ 0)
+  unfolding calledBytes
+  refused = go (refusalBytes b (fed e))
+    where
+      go : (n : ℕ) → (accepted (X n .answer) ≡ false) ↔ (n ≢ 0)
+      go zero = ((λ u. absurd (let y = accepts (e .call) (decode b) e in let w : _≡_ {A = ℕ} 0 1 = cc in omega arith)), λ ne. absurd (ne refl))
+      go (suc n) = ((λ u z. omega arith), λ ne. refl)
+
+  table-is : Given (rowsBytes b (fed e))
+  unfolding rowsBytes
+  table-is = given (rowsBytes b (fed e)) (rises (e .call) _ _ _ _ (length (e .images)) (length (e .room)))
+
+  answered : Answered e b
+  answered = record { number-is = number-is; table-is = table-is; zeros = zeros; untouched = kept; refused = refused }
+
+pub demand1 : Demand1
+demand1 = answered
+
+pub in-order : InOrder
+in-order = advance-split
+
+pub on-bytes : OnBytes
+on-bytes = bytes.on-bytes

@@ -1,0 +1,83 @@
+-- What an accepted call does to the images, the block or scratch and the record, whatever bytes it is lent: the stripes need not be sound.
+-- Document 01, Calls. What it leaves alone is `Alone`, what a single move does `OneMove`, both of Alone.
+-- The statement is `Acts`; `acts` of proofs/Acts.antt proves it.
+use Prim.Native.Nat.{ℕ, suc, _+_, _-_, _*_, _≤_, _<_, min}
+use mathlib.Core.Path.{_≡_}
+use mathlib.Core.Bool.{true, false}
+use mathlib.Core.Logic.{_≢_}
+use mathlib.Core.List.{List}
+use Rattle.layout.specs.Layout.{totalOf, capacity, layout}
+use Rattle.blocks.specs.Block.{zeros}
+use Rattle.blocks.specs.Xor.{xorB}
+use Rattle.state.specs.declared.Health.the-variants.{Whole, Out, Lost}
+use Rattle.state.specs.declared.Record.{Record}
+use Rattle.state.specs.Good.{geometry}
+use Rattle.calls.specs.Call.{format, read, view, write, grow, advance, out, rebuild, Event, on, fed, bytes, made}
+use Rattle.calls.specs.Health.{absent}
+use Rattle.calls.specs.Images.{placeIn, othersIn, seen}
+use Rattle.calls.specs.Table.{idle, refusal}
+use Rattle.calls.specs.Effect.{placeOf, act}
+use Rattle.calls.specs.Alone.{movedOn}
+
+-- place (S, d) of the images that the call leaves
+abbrev pub leftAt : Event → Record → ℕ → ℕ → List ℕ
+leftAt e r S d = placeIn r (act e r .images) S d
+
+-- the record behind one move
+abbrev pub oneMore : Record → Record
+oneMore r = record { old = r .old; new = r .new; health = r .health; block = r .block; stripes = r .stripes; moves = suc (r .moves) }
+
+-- what is claimed of one call e on a record r ..
+pub record Does (e : Event) (r : Record) : Type 0 where
+  -- "An out disk is never read: its place counts as the xor of the stripe's other places." Any other is read as it stands.
+  pub seen-in : (S d : ℕ) → absent (r .health) S d ≡ false → seen r (e .images) S d ≡ placeIn r (e .images) S d
+  pub seen-out : (S d : ℕ) → absent (r .health) S d ≡ true → seen r (e .images) S d ≡ othersIn r (e .images) S d
+  -- format: "zeroes the images; record whole, m = t = 0"
+  pub format-images : (n B T : ℕ) → e .call ≡ format n B T → act e r .images ≡ zeros (n * (T * B))
+  pub format-record : (n B T : ℕ) → e .call ≡ format n B T
+      → act e r .state ≡ record { old = n; new = 0; health = Whole; block = B; stripes = T; moves = 0 }
+  -- read: "fills a lent block"
+  pub read-block : (b : ℕ) → e .call ≡ read b → let q = placeOf r b in act e r .room ≡ seen r (e .images) (q .stripe) (q .disk)
+  pub read-answer : (b : ℕ) → e .call ≡ read b → let q = placeOf r b in act e r .answer ≡ bytes (seen r (e .images) (q .stripe) (q .disk))
+  -- view: "returns the block as a part of the images, or, if its disk is out, as the lent scratch filled with it"
+  pub view-answer : (b : ℕ) → e .call ≡ view b → let q = placeOf r b in act e r .answer ≡ bytes (seen r (e .images) (q .stripe) (q .disk))
+  pub view-scratch : (b : ℕ) → e .call ≡ view b → let q = placeOf r b in
+      absent (r .health) (q .stripe) (q .disk) ≡ true → act e r .room ≡ othersIn r (e .images) (q .stripe) (q .disk)
+  -- write: "the data place takes the data" ..
+  pub write-data : (b : ℕ) (v : List ℕ) → e .call ≡ write b v → let q = placeOf r b in
+      absent (r .health) (q .stripe) (q .disk) ≡ false → leftAt e r (q .stripe) (q .disk) ≡ v
+  -- .. and "the parity place its old value xor old block xor data; either is skipped if its disk is out"
+  pub write-parity : (b : ℕ) (v : List ℕ) → e .call ≡ write b v → let q = placeOf r b in
+      let p = layout (geometry r) .parity (q .stripe) in
+      let before = seen r (e .images) (q .stripe) in
+      absent (r .health) (q .stripe) p ≡ false → leftAt e r (q .stripe) p ≡ xorB (xorB (before p) (before (q .disk))) v
+  -- grow: "given images of n + m disks, zeroes those behind the first n; sets m"
+  pub grow-new : (m : ℕ) → e .call ≡ grow m → (S d : ℕ) → S < r .stripes → r .old ≤ d → d < r .old + m
+      → leftAt e r S d ≡ zeros (r .block)
+  pub grow-record : (m : ℕ) → e .call ≡ grow m
+      → act e r .state ≡ record { old = r .old; new = m; health = Whole; block = r .block; stripes = r .stripes; moves = 0 }
+  -- advance: "makes moves in order until k are made or none is left, and reports how many, which is t's rise"
+  pub advance-answer : (k : ℕ) → e .call ≡ advance k → act e r .answer ≡ made (min k (totalOf (geometry r) - r .moves))
+  pub advance-record : (k : ℕ) → e .call ≡ advance k → let t = r .moves + min k (totalOf (geometry r) - r .moves) in
+      act e r .state ≡ record { old = r .old; new = r .new; health = r .health; block = r .block; stripes = r .stripes; moves = t }
+  -- .. each move on what the one before left (`movedOn`, the images behind the next move: `OneMove`)
+  pub advance-none : e .call ≡ advance 0 → act e r .images ≡ e .images
+  pub advance-next : (k : ℕ) → e .call ≡ advance (suc k) → let r′ = oneMore r in
+      idle (geometry r′) ≡ false → act e r .images ≡ act (on (advance k) (movedOn r (e .images)) (e .room)) r′ .images
+  pub advance-last : (k : ℕ) → e .call ≡ advance (suc k) → idle (geometry (oneMore r)) ≡ true → act e r .images ≡ movedOn r (e .images)
+  -- out: "whole becomes out; out with another disk becomes lost"
+  pub out-first : (d : ℕ) → e .call ≡ out d → r .health ≡ Whole
+      → act e r .state ≡ record { old = r .old; new = r .new; health = Out d; block = r .block; stripes = r .stripes; moves = r .moves }
+  pub out-second : (d o : ℕ) → e .call ≡ out d → r .health ≡ Out o
+      → act e r .state ≡ record { old = r .old; new = r .new; health = Lost; block = r .block; stripes = r .stripes; moves = r .moves }
+  -- rebuild: "writes disk d of every stripe as the xor of the others; health whole"
+  pub rebuild-disk : (d : ℕ) → e .call ≡ rebuild d → (S : ℕ) → S < r .stripes → leftAt e r S d ≡ othersIn r (e .images) S d
+  pub rebuild-record : (d : ℕ) → e .call ≡ rebuild d
+      → act e r .state ≡ record { old = r .old; new = r .new; health = Whole; block = r .block; stripes = r .stripes; moves = r .moves }
+  -- read, view, write, status, locate and owner leave the record
+  pub record-stays : ((n B T : ℕ) → e .call ≢ format n B T) → ((m : ℕ) → e .call ≢ grow m) → ((k : ℕ) → e .call ≢ advance k)
+      → ((d : ℕ) → e .call ≢ out d) → ((d : ℕ) → e .call ≢ rebuild d) → act e r .state ≡ r
+
+-- .. and it holds of every call that the table lets through
+abbrev pub Acts : Type 0
+Acts = (e : Event) (r : Record) → refusal r (capacity (geometry r)) (fed e) ≡ 0 → Does e r

@@ -1,0 +1,87 @@
+-- What an accepted call leaves alone, and that its stores stay inside the images it was lent. Document 01, Calls, and demand 1: "every call
+-- .. stays inside what it was lent".
+-- The statements are `Alone`, `OneMove` and `RecordOnly`; `alone` and `record-only` of proofs/Alone.antt and `one-move` of
+-- proofs/OneMove.antt prove them. (A refused call leaves everything alone: `Demand1` of Theorem.)
+use Prim.Native.Nat.{ℕ, _+_, _≤_, _<_}
+use mathlib.Core.Path.{_≡_}
+use mathlib.Core.Bool.{true, false}
+use mathlib.Core.Logic.{_≢_}
+use mathlib.Core.List.{List, [], _∷_}
+use lib.ListN.{length}
+use Rattle.layout.specs.Layout.{capacity, layout, nextStripe, nextFrom, nextTo}
+use Rattle.blocks.specs.Block.{zeros}
+use Rattle.blocks.specs.Stripe.{offset}
+use Rattle.state.specs.declared.Record.{Record}
+use Rattle.state.specs.Good.{geometry, good}
+use Rattle.calls.specs.Call.{format, read, view, write, grow, advance, rebuild, status, locate, owner, Event, on, fed}
+use Rattle.calls.specs.Health.{absent}
+use Rattle.calls.specs.Images.{disksOf, size, placeIn, Store, block, header, stored}
+use Rattle.calls.specs.Table.{idle, refusal}
+use Rattle.calls.specs.Effect.{placeOf, moveStores, effect, act, called}
+
+-- every block of a list of stores is whole, B bytes, and its place lies within the first `len` bytes
+unfoldable pub Inside : ℕ → ℕ → ℕ → List Store → Type 0
+Inside len B T [] = Unit
+Inside len B T (block S d v ∷ ps) = (length v ≡ B) × (offset B T S d + B ≤ len) × Inside len B T ps
+Inside len B T (header x ∷ ps) = Inside len B T ps
+
+-- the call leaves the bytes of place (S, d)
+abbrev pub Stays : Event → Record → ℕ → ℕ → Type 0
+Stays e r S d = placeIn r (act e r .images) S d ≡ placeIn r (e .images) S d
+
+-- what is claimed of one call e on a record r ..
+pub record LeavesAlone (e : Event) (r : Record) : Type 0 where
+  -- "stays inside what it was lent": each of its stores; and images and room are as long as they were
+  pub inside : let x = effect (e .call) r e in Inside (length (e .images)) (x .shape .block) (x .shape .stripes) (x .stores)
+  pub long : length (act e r .images) ≡ length (e .images)
+  pub room-long : length (act e r .room) ≡ length (e .room)
+  -- read "fills a lent block", view the scratch; no other call has one ..
+  pub room : ((b : ℕ) → e .call ≢ read b) → ((b : ℕ) → e .call ≢ view b) → act e r .room ≡ e .room
+  -- .. and view, "if its disk is out, .. the lent scratch filled with it. Scratch is else untouched."
+  pub scratch : (b : ℕ) → e .call ≡ view b → absent (r .health) (placeOf r b .stripe) (placeOf r b .disk) ≡ false → act e r .room ≡ e .room
+  -- five calls store blocks; read, view, out, status, locate and owner leave the images
+  pub images : ((n B T : ℕ) → e .call ≢ format n B T) → ((b : ℕ) (v : List ℕ) → e .call ≢ write b v) → ((m : ℕ) → e .call ≢ grow m)
+      → ((k : ℕ) → e .call ≢ advance k) → ((d : ℕ) → e .call ≢ rebuild d) → act e r .images ≡ e .images
+  -- write: "the data place takes the data, the parity place its old value xor old block xor data; .. All other bytes stay."
+  pub write-others : (b : ℕ) (v : List ℕ) → e .call ≡ write b v → (S d : ℕ) → S < r .stripes → d < disksOf r
+      → (S ≡ placeOf r b .stripe → (d ≢ placeOf r b .disk) × (d ≢ layout (geometry r) .parity S)) → Stays e r S d
+  -- ".. either is skipped if its disk is out"
+  pub write-absent : (b : ℕ) (v : List ℕ) → e .call ≡ write b v → (S d : ℕ) → S < r .stripes → d < disksOf r
+      → absent (r .health) S d ≡ true → Stays e r S d
+  -- grow: "given images of n + m disks, zeroes those behind the first n"
+  pub grow-old : (m : ℕ) → e .call ≡ grow m → (S d : ℕ) → S < r .stripes → d < r .old → Stays e r S d
+  -- rebuild: "writes disk d of every stripe"
+  pub rebuild-others : (d : ℕ) → e .call ≡ rebuild d → (S f : ℕ) → S < r .stripes → f < disksOf r → f ≢ d → Stays e r S f
+
+-- .. and it holds of every call that the table lets through, whatever bytes it is lent
+abbrev pub Alone : Type 0
+Alone = (e : Event) (r : Record) → refusal r (capacity (geometry r)) (fed e) ≡ 0 → LeavesAlone e r
+
+-- ---- a single move of an advance: "A move copies the block to its new place, then zeroes the place it left", and nothing else. (An
+-- advance makes one after the other: `InOrder` of Theorem.)
+
+-- the images behind the next move
+abbrev pub movedOn : Record → List ℕ → List ℕ
+movedOn r img = stored (r .block) (r .stripes) (moveStores r img) img
+
+-- what is claimed of the next move of a record r on images img ..
+pub record Moves (r : Record) (img : List ℕ) : Type 0 where
+  pub copied : let g = geometry r in placeIn r (movedOn r img) (nextStripe g) (nextTo g) ≡ placeIn r img (nextStripe g) (nextFrom g)
+  pub zeroed : let g = geometry r in placeIn r (movedOn r img) (nextStripe g) (nextFrom g) ≡ zeros (r .block)
+  pub others : let g = geometry r in
+      (S d : ℕ) → S < r .stripes → d < disksOf r → (S ≡ nextStripe g → (d ≢ nextFrom g) × (d ≢ nextTo g))
+      → placeIn r (movedOn r img) S d ≡ placeIn r img S d
+
+-- .. and it holds of every good record that has a move left, whatever the images of its size hold
+abbrev pub OneMove : Type 0
+OneMove = (r : Record) (img : List ℕ) → good r ≡ true → idle (geometry r) ≡ false → length img ≡ size r → Moves r img
+
+-- ---- locate and owner: "Both read the record only." So does status: whatever else a call of these were lent, it answers the same
+
+pub record RecordOnly : Type 0 where
+  pub of-status : (r : Record) (img img′ room room′ : List ℕ)
+      → called (on status img room) r .answer ≡ called (on status img′ room′) r .answer
+  pub of-locate : (r : Record) (b : ℕ) (img img′ room room′ : List ℕ)
+      → called (on (locate b) img room) r .answer ≡ called (on (locate b) img′ room′) r .answer
+  pub of-owner : (r : Record) (S d : ℕ) (img img′ room room′ : List ℕ)
+      → called (on (owner S d) img room) r .answer ≡ called (on (owner S d) img′ room′) r .answer

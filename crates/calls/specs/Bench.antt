@@ -1,0 +1,95 @@
+-- The worked cases of document 01, "Drawers on the bench", over the definitions of the calls. `Bench` is the one table of those marked (P),
+-- `Unmarked` has the others, `Values` answers in numbers; `bench`, `unmarked` and `values` of proofs/Bench.antt compute them.
+use Prim.Native.Nat.{ℕ, _*_}
+use mathlib.Core.Path.{_≡_}
+use mathlib.Core.List.{[], _∷_}
+use Rattle.layout.specs.declared.Role.the-variants.{Data, Parity, Blank}
+use Rattle.layout.specs.Home.{placeAt}
+use Rattle.layout.specs.Moves.{moveOf, total}
+use Rattle.layout.specs.Paper.{move}
+use Rattle.blocks.specs.Block.{zeros}
+use Rattle.state.specs.declared.Health.the-variants.{Whole, Out, Lost}
+use Rattle.state.specs.declared.Record.{Record}
+use Rattle.calls.specs.Call.{Call, format, grow, advance, status, locate, owner, Answer, refused, done, bytes, made, figures, placed, owned, number, shown, count, beside}
+use Rattle.calls.specs.Health.{formatted}
+use Rattle.calls.specs.Images.{size}
+use Rattle.calls.specs.Table.{refusal}
+use Rattle.calls.specs.Effect.{placeOf, called}
+
+-- "n = 3, m = 2, T = 15": before growth, and after t moves
+abbrev pub small : Record
+small = formatted 3 1 15
+
+abbrev pub mill : ℕ → Record
+mill t = record { old = 3; new = 2; health = Whole; block = 1; stripes = 15; moves = t }
+
+-- what a call that takes no images answers
+abbrev pub asked : Call → Record → Answer
+asked c r = called (record { call = c; images = []; room = [] }) r .answer
+
+abbrev pub located : ℕ → Record → Answer
+located b r = asked (locate b) r
+
+abbrev pub at : ℕ → ℕ → Answer
+at S d = placed (placeAt S d)
+
+abbrev pub owner-at : ℕ → ℕ → Record → Answer
+owner-at S d r = asked (owner S d) r
+
+pub record Bench : Type 0 where
+  -- "total 18, capacity 30, then 60"
+  pub numbers : (asked status small ≡ figures 30 0 0 Whole) × (asked status (mill 17) ≡ figures 30 17 18 Whole) × (asked status (mill 18) ≡ figures 60 18 18 Whole)
+  -- "(P) Block 5 before growth: stripe 2, disk 0."
+  pub block-5 : (located 5 small ≡ at 2 0) × (located 5 (mill 0) ≡ at 2 0)
+  -- "(P) Move 0: parity of stripe 3, disk 0 to 3."
+  pub move-0 : (moveOf 3 2 0 ≡ move 0 3 3 0 3) × (owner-at 3 0 (mill 0) ≡ owned Parity) × (owner-at 3 3 (mill 1) ≡ owned Parity)
+  -- "(P) Move 1: block 4, disk 1 to 3."
+  pub move-1 : (moveOf 3 2 1 ≡ move 0 2 2 1 3) × (owner-at 2 1 (mill 1) ≡ owned (Data 4)) × (owner-at 2 3 (mill 2) ≡ owned (Data 4))
+  -- "(P) Move 2: block 2, stripe 1, disk 2 to 3."
+  pub move-2 : (moveOf 3 2 2 ≡ move 0 1 1 2 3) × (owner-at 1 2 (mill 2) ≡ owned (Data 2)) × (owner-at 1 3 (mill 3) ≡ owned (Data 2))
+  -- "(P) After 2 moves block 2 is on disk 2; (P) after 3 on disk 3."
+  pub block-2 : (located 2 (mill 2) ≡ at 1 2) × (located 2 (mill 3) ≡ at 1 3)
+  -- "(P) Block 6 ends on disk 4."
+  pub block-6 : located 6 (mill 18) ≡ at 3 4
+  -- "(P) Block 0 never moves."
+  pub block-0 : (t : ℕ) → placeOf (mill t) 0 ≡ placeAt 0 2
+  -- "(P) After 17 moves block 30 is refused 8; (P) after 18 it is (0, 3). (P) Block 32: (1, 2). (P) Block 59: (14, 3). Block 60: 8."
+  pub new-blocks : (located 30 (mill 17) ≡ refused 8) × (located 30 (mill 18) ≡ at 0 3) × (located 32 (mill 18) ≡ at 1 2) × (located 59 (mill 18) ≡ at 14 3) × (located 60 (mill 18) ≡ refused 8)
+
+-- ---- cases not marked (P)
+
+-- the number that a call is given that is lent images of length len, with an array of capacity c before it
+abbrev pub numbered : Call → ℕ → Record → ℕ → ℕ
+numbered c len r cap = refusal r cap (record { call = c; images = len; room = 0 })
+
+abbrev pub formats : ℕ → ℕ → ℕ → ℕ
+formats n B T = numbered (format n B T) (n * (T * B)) small 30
+
+-- what advance answers that is lent images of zeroes
+abbrev pub advanced : ℕ → Record → Answer
+advanced k r = called (record { call = advance k; images = zeros (size r); room = [] }) r .answer
+
+pub record Unmarked : Type 0 where
+  -- "n = 4, m = 1, T = 20: total 16. T = 19: 6."
+  pub groups : (total 4 1 20 ≡ 16) × (numbered (grow 1) 100 (formatted 4 1 20) 60 ≡ 0) × (numbered (grow 1) 95 (formatted 4 1 19) 57 ≡ 6)
+  -- "n = 2: 6; n = 16 passes; n = 17: 6."
+  pub disks : (formats 2 1 15 ≡ 6) × (formats 3 1 15 ≡ 0) × (formats 16 1 15 ≡ 0) × (formats 17 1 15 ≡ 6)
+  -- "B = 4,096 passes; 4,097: 6."
+  pub block : (formats 3 0 15 ≡ 6) × (formats 3 1 15 ≡ 0) × (formats 3 4096 15 ≡ 0) × (formats 3 4097 15 ≡ 6)
+  -- "T, the stripes, is 1 to 1,048,576"
+  pub stripes : (formats 3 1 0 ≡ 6) × (formats 3 1 1 ≡ 0) × (formats 3 1 1048576 ≡ 0) × (formats 3 1 1048577 ≡ 6)
+  -- "Advance 100 at t = 17 reports 1; again gives 5."
+  pub finished : (advanced 100 (mill 17) ≡ made 1) × (advanced 100 (mill 18) ≡ refused 5)
+
+-- ---- answers in numbers
+
+pub record Values : Type 0 where
+  -- advance's count; status's capacity, t, total, health and disk; locate's stripe and disk; owner's role and block
+  pub counts : (beside 1 (made 7) ≡ 7 ∷ []) × (count (made 7) ≡ 7) × (count (refused 7) ≡ 0)
+  pub statuses : (beside 5 (figures 60 17 18 (Out 3)) ≡ 60 ∷ 17 ∷ 18 ∷ 1 ∷ 3 ∷ []) × (beside 5 (figures 30 0 0 Whole) ≡ 30 ∷ 0 ∷ 0 ∷ 0 ∷ 0 ∷ []) × (beside 5 (figures 30 4 18 Lost) ≡ 30 ∷ 4 ∷ 18 ∷ 2 ∷ 0 ∷ [])
+  pub places : beside 2 (placed (placeAt 1 2)) ≡ 1 ∷ 2 ∷ []
+  pub owners : (beside 2 (owned (Data 9)) ≡ 2 ∷ 9 ∷ []) × (beside 2 (owned Parity) ≡ 1 ∷ 0 ∷ []) × (beside 2 (owned Blank) ≡ 0 ∷ 0 ∷ [])
+  -- a view's bytes; and nothing beside what has no numbers
+  pub views : (shown (bytes (5 ∷ 6 ∷ [])) ≡ 5 ∷ 6 ∷ []) × (beside 0 (bytes (5 ∷ 6 ∷ [])) ≡ []) × (beside 0 done ≡ [])
+  -- refused
+  pub refusals : (number (refused 8) ≡ 8) × (number done ≡ 0) × (beside 5 (refused 2) ≡ 0 ∷ 0 ∷ 0 ∷ 0 ∷ 0 ∷ []) × (shown (refused 2) ≡ [])

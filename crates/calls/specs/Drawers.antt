@@ -1,0 +1,195 @@
+-- One cabinet, byte by byte: 3 disks growing by 1, 12 stripes, blocks of one byte, 4 of 9 moves made; block b holds b + 1. What some calls
+-- leave of it, by a program that was written from document 01 and replays the moves; `drawers` of proofs/Drawers.antt computes that the
+-- definitions say the same. Then the same cabinet with blocks of two bytes, `wide`.
+use Prim.Native.Nat.{ℕ}
+use mathlib.Core.Path.{_≡_}
+use mathlib.Core.List.{List, [], _∷_, _++_}
+use Rattle.blocks.specs.Block.{zeros}
+use Rattle.state.specs.declared.Health.the-variants.{Whole, Out, Lost}
+use Rattle.state.specs.declared.Health.{Health}
+use Rattle.state.specs.declared.Record.{Record}
+use Rattle.calls.specs.Call.{Call, format, read, view, write, grow, advance, out, rebuild, Answer, bytes, made, done}
+use Rattle.calls.specs.Images.{block, header}
+use Rattle.calls.specs.Effect.{writeStores, moveStores, Left, called}
+
+abbrev pub cabinet : Health → ℕ → Record
+cabinet h t = record { old = 3; new = 1; health = h; block = 1; stripes = 12; moves = t }
+
+abbrev pub fresh : Record
+fresh = record { old = 3; new = 0; health = Whole; block = 1; stripes = 12; moves = 0 }
+
+-- a disk a line, stripe 0 first; the parity of stripes 3 and 7 stands on disk 3 already, and so do blocks 2 and 4
+abbrev pub disk0 : List ℕ
+disk0 = 3 ∷ 4 ∷ 6 ∷ 0 ∷ 10 ∷ 12 ∷ 3 ∷ 16 ∷ 18 ∷ 7 ∷ 22 ∷ 24 ∷ []
+
+abbrev pub disk1 : List ℕ
+disk1 = 2 ∷ 7 ∷ 0 ∷ 8 ∷ 3 ∷ 11 ∷ 14 ∷ 0 ∷ 17 ∷ 20 ∷ 3 ∷ 23 ∷ []
+
+abbrev pub disk2 : List ℕ
+disk2 = 1 ∷ 0 ∷ 3 ∷ 7 ∷ 9 ∷ 7 ∷ 13 ∷ 15 ∷ 3 ∷ 19 ∷ 21 ∷ 15 ∷ []
+
+abbrev pub disk3 : List ℕ
+disk3 = 0 ∷ 3 ∷ 5 ∷ 15 ∷ 0 ∷ 0 ∷ 0 ∷ 31 ∷ 0 ∷ 0 ∷ 0 ∷ 0 ∷ []
+
+-- what disk 2 holds while it is out
+abbrev pub garbage : List ℕ
+garbage = 77 ∷ 77 ∷ 77 ∷ 77 ∷ 77 ∷ 77 ∷ 77 ∷ 77 ∷ 77 ∷ 77 ∷ 77 ∷ 77 ∷ []
+
+abbrev pub standing : List ℕ
+standing = disk0 ++ disk1 ++ disk2 ++ disk3
+
+abbrev pub degraded : List ℕ
+degraded = disk0 ++ disk1 ++ garbage ++ disk3
+
+-- disk 3 too, so that its blank places are not zero
+abbrev pub spoilt : List ℕ
+spoilt = disk0 ++ disk1 ++ garbage ++ garbage
+
+-- a call on these images, with a block or scratch of one byte, 9
+abbrev pub on : List ℕ → Record → Call → Left Record
+on img r c = called (record { call = c; images = img; room = 9 ∷ [] }) r
+
+abbrev pub left : Record → List ℕ → List ℕ → Answer → Left Record
+left r img room a = record { answer = a; state = r; images = img; room = room }
+
+-- the cabinet with blocks of two bytes: block b holds b + 1 and 63 - 2 × b; a disk a line again, two bytes a stripe
+abbrev pub wide : Health → ℕ → Record
+wide h t = record { old = 3; new = 1; health = h; block = 2; stripes = 12; moves = t }
+
+abbrev pub freshWide : Record
+freshWide = record { old = 3; new = 0; health = Whole; block = 2; stripes = 12; moves = 0 }
+
+abbrev pub wide0 : List ℕ
+wide0 =
+    3 ∷ 2 ∷ 4 ∷ 57 ∷ 6 ∷ 53 ∷ 0 ∷ 0 ∷ 10 ∷ 45 ∷ 12 ∷ 41 ∷ 3 ∷ 2 ∷ 16 ∷ 33 ∷ 18 ∷ 29 ∷ 7 ∷ 2 ∷ 22 ∷ 21 ∷ 24 ∷ 17 ∷ []
+
+abbrev pub wide1 : List ℕ
+wide1 =
+    2 ∷ 61 ∷ 7 ∷ 2 ∷ 0 ∷ 0 ∷ 8 ∷ 49 ∷ 3 ∷ 2 ∷ 11 ∷ 43 ∷ 14 ∷ 37 ∷ 0 ∷ 0 ∷ 17 ∷ 31 ∷ 20 ∷ 25 ∷ 3 ∷ 2 ∷ 23 ∷ 19 ∷ []
+
+abbrev pub wide2 : List ℕ
+wide2 =
+    1 ∷ 63 ∷ 0 ∷ 0 ∷ 3 ∷ 2 ∷ 7 ∷ 51 ∷ 9 ∷ 47 ∷ 7 ∷ 2 ∷ 13 ∷ 39 ∷ 15 ∷ 35 ∷ 3 ∷ 2 ∷ 19 ∷ 27 ∷ 21 ∷ 23 ∷ 15 ∷ 2 ∷ []
+
+abbrev pub wide3 : List ℕ
+wide3 =
+    0 ∷ 0 ∷ 3 ∷ 59 ∷ 5 ∷ 55 ∷ 15 ∷ 2 ∷ 0 ∷ 0 ∷ 0 ∷ 0 ∷ 0 ∷ 0 ∷ 31 ∷ 2 ∷ 0 ∷ 0 ∷ 0 ∷ 0 ∷ 0 ∷ 0 ∷ 0 ∷ 0 ∷ []
+
+-- what disk 2 holds while it is out
+abbrev pub noise : List ℕ
+noise =
+    24 ∷ 25 ∷ 26 ∷ 27 ∷ 28 ∷ 29 ∷ 30 ∷ 31 ∷ 32 ∷ 33 ∷ 34 ∷ 35 ∷ 36 ∷ 37 ∷ 38 ∷ 39 ∷ 40 ∷ 41 ∷ 42 ∷ 43 ∷ 44 ∷ 45 ∷ 46 ∷ 47 ∷ []
+
+abbrev pub wideStanding : List ℕ
+wideStanding = wide0 ++ wide1 ++ wide2 ++ wide3
+
+abbrev pub wideDegraded : List ℕ
+wideDegraded = wide0 ++ wide1 ++ noise ++ wide3
+
+-- a call on these, with a block or scratch of two bytes, 9 and 9
+abbrev pub onWide : List ℕ → Record → Call → Left Record
+onWide img r c = called (record { call = c; images = img; room = 9 ∷ 9 ∷ [] }) r
+
+abbrev pub leftWide : Record → List ℕ → Answer → Left Record
+leftWide r img a = left r img (9 ∷ 9 ∷ []) a
+
+pub record Drawers : Type 0 where
+  -- move 4: block 12, stripe 6, disk 2 to 3; the place left is zeroed
+  pub move : on standing (cabinet Whole 4) (advance 1)
+      ≡ left (cabinet Whole 5) (disk0 ++ disk1 ++ (1 ∷ 0 ∷ 3 ∷ 7 ∷ 9 ∷ 7 ∷ 0 ∷ 15 ∷ 3 ∷ 19 ∷ 21 ∷ 15 ∷ []) ++ (0 ∷ 3 ∷ 5 ∷ 15 ∷ 0 ∷ 0 ∷ 13 ∷ 31 ∷ 0 ∷ 0 ∷ 0 ∷ 0 ∷ [])) (9 ∷ []) (made 1)
+  -- "k = 0 makes none."
+  pub no-move : on standing (cabinet Whole 4) (advance 0) ≡ left (cabinet Whole 4) standing (9 ∷ []) (made 0)
+  -- it copies what is there, sound or not
+  pub move-unsound : on degraded (cabinet Whole 4) (advance 1)
+      ≡ left (cabinet Whole 5) (disk0 ++ disk1 ++ (77 ∷ 77 ∷ 77 ∷ 77 ∷ 77 ∷ 77 ∷ 0 ∷ 77 ∷ 77 ∷ 77 ∷ 77 ∷ 77 ∷ []) ++ (0 ∷ 3 ∷ 5 ∷ 15 ∷ 0 ∷ 0 ∷ 77 ∷ 31 ∷ 0 ∷ 0 ∷ 0 ∷ 0 ∷ [])) (9 ∷ []) (made 1)
+  -- block 6 is on disk 2 of stripe 3, its parity has moved to disk 3: 15 xor 7 xor 200 is 192
+  pub written : on standing (cabinet Whole 4) (write 6 (200 ∷ []))
+      ≡ left (cabinet Whole 4) (disk0 ++ disk1 ++ (1 ∷ 0 ∷ 3 ∷ 200 ∷ 9 ∷ 7 ∷ 13 ∷ 15 ∷ 3 ∷ 19 ∷ 21 ∷ 15 ∷ []) ++ (0 ∷ 3 ∷ 5 ∷ 192 ∷ 0 ∷ 0 ∷ 0 ∷ 31 ∷ 0 ∷ 0 ∷ 0 ∷ 0 ∷ [])) (9 ∷ []) done
+  -- with disk 2 out: the parity alone
+  pub written-degraded : on degraded (cabinet (Out 2) 4) (write 6 (200 ∷ []))
+      ≡ left (cabinet (Out 2) 4) (disk0 ++ disk1 ++ garbage ++ (0 ∷ 3 ∷ 5 ∷ 192 ∷ 0 ∷ 0 ∷ 0 ∷ 31 ∷ 0 ∷ 0 ∷ 0 ∷ 0 ∷ [])) (9 ∷ []) done
+  -- with disk 3, the parity's, out: the data alone
+  pub written-no-parity : on standing (cabinet (Out 3) 4) (write 6 (200 ∷ []))
+      ≡ left (cabinet (Out 3) 4) (disk0 ++ disk1 ++ (1 ∷ 0 ∷ 3 ∷ 200 ∷ 9 ∷ 7 ∷ 13 ∷ 15 ∷ 3 ∷ 19 ∷ 21 ∷ 15 ∷ []) ++ disk3) (9 ∷ []) done
+  pub read-degraded : on degraded (cabinet (Out 2) 4) (read 6) ≡ left (cabinet (Out 2) 4) degraded (7 ∷ []) (bytes (7 ∷ []))
+  -- the scratch is filled only if the block's disk is out
+  pub viewed : on standing (cabinet Whole 4) (view 6) ≡ left (cabinet Whole 4) standing (9 ∷ []) (bytes (7 ∷ []))
+  pub viewed-degraded : on degraded (cabinet (Out 2) 4) (view 6) ≡ left (cabinet (Out 2) 4) degraded (7 ∷ []) (bytes (7 ∷ []))
+  pub rebuilt : on degraded (cabinet (Out 2) 4) (rebuild 2) ≡ left (cabinet Whole 4) standing (9 ∷ []) done
+  pub first-out : on standing (cabinet Whole 4) (out 2) ≡ left (cabinet (Out 2) 4) standing (9 ∷ []) done
+  pub second-out : on degraded (cabinet (Out 2) 4) (out 0) ≡ left (cabinet Lost 4) degraded (9 ∷ []) done
+  -- a new disk of garbage, zeroed; and a lost cabinet formatted anew
+  pub grown : on (disk0 ++ disk1 ++ disk2 ++ garbage) fresh (grow 1) ≡ left (cabinet Whole 0) (disk0 ++ disk1 ++ disk2 ++ zeros 12) (9 ∷ []) done
+  pub formatted : on (garbage ++ garbage ++ garbage) (cabinet Lost 4) (format 3 1 12) ≡ left fresh (zeros 36) (9 ∷ []) done
+  -- in order: the copy, the zeroes, the record; the parity, the data
+  pub move-stores : moveStores (cabinet Whole 4) standing ≡ block 6 3 (13 ∷ []) ∷ block 6 2 (0 ∷ []) ∷ header (cabinet Whole 5) ∷ []
+  pub write-stores : writeStores (cabinet Whole 4) standing 6 (200 ∷ []) ≡ block 3 3 (192 ∷ []) ∷ block 3 2 (200 ∷ []) ∷ []
+  -- ---- on stripes that are not sound
+  -- a write goes by the old values: on disk 2 of stripe 3 stands 77, on disk 3 the parity 15, and 15 xor 77 xor 200 is 138 (the
+  -- other places of the stripe, 0 and 8, would make 192) ..
+  pub written-unsound : on degraded (cabinet Whole 4) (write 6 (200 ∷ []))
+      ≡ left (cabinet Whole 4)
+      (disk0 ++ disk1 ++ (77 ∷ 77 ∷ 77 ∷ 200 ∷ 77 ∷ 77 ∷ 77 ∷ 77 ∷ 77 ∷ 77 ∷ 77 ∷ 77 ∷ [])
+      ++ (0 ∷ 3 ∷ 5 ∷ 138 ∷ 0 ∷ 0 ∷ 0 ∷ 31 ∷ 0 ∷ 0 ∷ 0 ∷ 0 ∷ []))
+      (9 ∷ []) done
+  -- .. block 7 is on disk 1: 15 xor 8 xor 200 is 207 (0 and 77 would make 133) ..
+  pub written-beside-unsound : on degraded (cabinet Whole 4) (write 7 (200 ∷ []))
+      ≡ left (cabinet Whole 4)
+      (disk0 ++ (2 ∷ 7 ∷ 0 ∷ 200 ∷ 3 ∷ 11 ∷ 14 ∷ 0 ∷ 17 ∷ 20 ∷ 3 ∷ 23 ∷ []) ++ garbage
+      ++ (0 ∷ 3 ∷ 5 ∷ 207 ∷ 0 ∷ 0 ∷ 0 ∷ 31 ∷ 0 ∷ 0 ∷ 0 ∷ 0 ∷ []))
+      (9 ∷ []) done
+  -- .. with disk 2 out, block 12 of stripe 6 counts as 3 xor 14 xor 77, its blank place too: 3 xor 64 xor 200 is 139
+  pub written-degraded-unsound : on spoilt (cabinet (Out 2) 4) (write 12 (200 ∷ []))
+      ≡ left (cabinet (Out 2) 4)
+      ((3 ∷ 4 ∷ 6 ∷ 0 ∷ 10 ∷ 12 ∷ 139 ∷ 16 ∷ 18 ∷ 7 ∷ 22 ∷ 24 ∷ []) ++ disk1 ++ garbage ++ garbage)
+      (9 ∷ []) done
+  pub read-unsound : on degraded (cabinet Whole 4) (read 6) ≡ left (cabinet Whole 4) degraded (77 ∷ []) (bytes (77 ∷ []))
+  pub read-degraded-unsound : on spoilt (cabinet (Out 2) 4) (read 12) ≡ left (cabinet (Out 2) 4) spoilt (64 ∷ []) (bytes (64 ∷ []))
+  pub viewed-degraded-unsound : on spoilt (cabinet (Out 2) 4) (view 12) ≡ left (cabinet (Out 2) 4) spoilt (64 ∷ []) (bytes (64 ∷ []))
+  -- "the xor of the others", blank or not
+  pub rebuilt-unsound : on spoilt (cabinet (Out 2) 4) (rebuild 2)
+      ≡ left (cabinet Whole 4)
+      (disk0 ++ disk1 ++ (76 ∷ 78 ∷ 75 ∷ 69 ∷ 68 ∷ 74 ∷ 64 ∷ 93 ∷ 78 ∷ 94 ∷ 88 ∷ 66 ∷ []) ++ garbage)
+      (9 ∷ []) done
+  -- ---- blocks of two bytes: place (S, d) begins at byte (d × 12 + S) × 2
+  -- moves 4 and 5: block 12, stripe 6, disk 2 to 3; block 11, stripe 5, disk 0 to 3
+  pub wide-moves : onWide wideStanding (wide Whole 4) (advance 2)
+      ≡ leftWide (wide Whole 6)
+      ((3 ∷ 2 ∷ 4 ∷ 57 ∷ 6 ∷ 53 ∷ 0 ∷ 0 ∷ 10 ∷ 45 ∷ 0 ∷ 0 ∷ 3 ∷ 2 ∷ 16 ∷ 33 ∷ 18 ∷ 29 ∷ 7 ∷ 2 ∷ 22 ∷ 21 ∷ 24 ∷ 17 ∷ [])
+      ++ wide1
+      ++ (1 ∷ 63 ∷ 0 ∷ 0 ∷ 3 ∷ 2 ∷ 7 ∷ 51 ∷ 9 ∷ 47 ∷ 7 ∷ 2 ∷ 0 ∷ 0 ∷ 15 ∷ 35 ∷ 3 ∷ 2 ∷ 19 ∷ 27 ∷ 21 ∷ 23 ∷ 15 ∷ 2 ∷ [])
+      ++ (0 ∷ 0 ∷ 3 ∷ 59 ∷ 5 ∷ 55 ∷ 15 ∷ 2 ∷ 0 ∷ 0 ∷ 12 ∷ 41 ∷ 13 ∷ 39 ∷ 31 ∷ 2 ∷ 0 ∷ 0 ∷ 0 ∷ 0 ∷ 0 ∷ 0 ∷ 0 ∷ 0 ∷ []))
+      (made 2)
+  pub wide-written : onWide wideStanding (wide Whole 4) (write 6 (200 ∷ 5 ∷ []))
+      ≡ leftWide (wide Whole 4)
+      (wide0 ++ wide1
+      ++ (1 ∷ 63 ∷ 0 ∷ 0 ∷ 3 ∷ 2 ∷ 200 ∷ 5 ∷ 9 ∷ 47 ∷ 7 ∷ 2 ∷ 13 ∷ 39 ∷ 15 ∷ 35 ∷ 3 ∷ 2 ∷ 19 ∷ 27 ∷ 21 ∷ 23 ∷ 15 ∷ 2 ∷ [])
+      ++ (0 ∷ 0 ∷ 3 ∷ 59 ∷ 5 ∷ 55 ∷ 192 ∷ 52 ∷ 0 ∷ 0 ∷ 0 ∷ 0 ∷ 0 ∷ 0 ∷ 31 ∷ 2 ∷ 0 ∷ 0 ∷ 0 ∷ 0 ∷ 0 ∷ 0 ∷ 0 ∷ 0 ∷ []))
+      done
+  pub wide-written-unsound : onWide wideDegraded (wide Whole 4) (write 6 (200 ∷ 5 ∷ []))
+      ≡ leftWide (wide Whole 4)
+      (wide0 ++ wide1
+      ++ (24 ∷ 25 ∷ 26 ∷ 27 ∷ 28 ∷ 29 ∷ 200 ∷ 5 ∷ 32 ∷ 33 ∷ 34 ∷ 35 ∷ 36 ∷ 37 ∷ 38 ∷ 39 ∷ 40 ∷ 41 ∷ 42 ∷ 43 ∷ 44 ∷ 45 ∷ 46 ∷ 47 ∷ [])
+      ++ (0 ∷ 0 ∷ 3 ∷ 59 ∷ 5 ∷ 55 ∷ 217 ∷ 24 ∷ 0 ∷ 0 ∷ 0 ∷ 0 ∷ 0 ∷ 0 ∷ 31 ∷ 2 ∷ 0 ∷ 0 ∷ 0 ∷ 0 ∷ 0 ∷ 0 ∷ 0 ∷ 0 ∷ []))
+      done
+  pub wide-written-degraded : onWide wideDegraded (wide (Out 2) 4) (write 6 (200 ∷ 5 ∷ []))
+      ≡ leftWide (wide (Out 2) 4)
+      (wide0 ++ wide1 ++ noise
+      ++ (0 ∷ 0 ∷ 3 ∷ 59 ∷ 5 ∷ 55 ∷ 192 ∷ 52 ∷ 0 ∷ 0 ∷ 0 ∷ 0 ∷ 0 ∷ 0 ∷ 31 ∷ 2 ∷ 0 ∷ 0 ∷ 0 ∷ 0 ∷ 0 ∷ 0 ∷ 0 ∷ 0 ∷ []))
+      done
+  pub wide-read : onWide wideStanding (wide Whole 4) (read 23)
+      ≡ left (wide Whole 4) wideStanding (24 ∷ 17 ∷ []) (bytes (24 ∷ 17 ∷ []))
+  pub wide-read-degraded : onWide wideDegraded (wide (Out 2) 4) (read 6)
+      ≡ left (wide (Out 2) 4) wideDegraded (7 ∷ 51 ∷ []) (bytes (7 ∷ 51 ∷ []))
+  pub wide-viewed : onWide wideStanding (wide Whole 4) (view 23) ≡ leftWide (wide Whole 4) wideStanding (bytes (24 ∷ 17 ∷ []))
+  pub wide-viewed-degraded : onWide wideDegraded (wide (Out 2) 4) (view 6)
+      ≡ left (wide (Out 2) 4) wideDegraded (7 ∷ 51 ∷ []) (bytes (7 ∷ 51 ∷ []))
+  pub wide-rebuilt : onWide wideDegraded (wide (Out 2) 4) (rebuild 2) ≡ leftWide (wide Whole 4) wideStanding done
+  pub wide-rebuilt-unsound : onWide wideDegraded (wide (Out 0) 4) (rebuild 0)
+      ≡ leftWide (wide Whole 4)
+      ((26 ∷ 36 ∷ 30 ∷ 34 ∷ 25 ∷ 42 ∷ 25 ∷ 44 ∷ 35 ∷ 35 ∷ 41 ∷ 8 ∷ 42 ∷ 0 ∷ 57 ∷ 37 ∷ 57 ∷ 54 ∷ 62 ∷ 50 ∷ 47 ∷ 47 ∷ 57 ∷ 60 ∷ [])
+      ++ wide1 ++ noise ++ wide3)
+      done
+  pub wide-grown : onWide (wide0 ++ wide1 ++ wide2 ++ noise) freshWide (grow 1)
+      ≡ leftWide (wide Whole 0) (wide0 ++ wide1 ++ wide2 ++ zeros 24) done
+  pub wide-formatted : onWide (noise ++ noise ++ noise) (wide Lost 4) (format 3 2 12) ≡ leftWide freshWide (zeros 72) done

@@ -1,0 +1,157 @@
+-- What each call answers and stores, and so what it leaves. Document 01, Calls.
+use Prim.Native.Nat.{ℕ, zero, suc, _-_}
+use mathlib.Core.Bool.{true, false, cond}
+use mathlib.Core.List.{List, [], _∷_, _++_}
+use Rattle.layout.specs.declared.Place.{Place}
+use Rattle.layout.specs.Layout.{totalOf, capacity, layout, nextStripe, nextFrom, nextTo}
+use Rattle.blocks.specs.Block.{blockAt, zeros}
+use Rattle.blocks.specs.Xor.{xorB}
+use Rattle.blocks.specs.Stripe.{offset}
+use Rattle.state.specs.declared.Health.the-variants.{Whole}
+use Rattle.state.specs.declared.Record.{Record}
+use Rattle.state.specs.Good.{geometry}
+use Rattle.state.specs.Bytes.{decode, encode}
+use Rattle.calls.specs.Call.{Call, format, read, view, write, grow, advance, out, rebuild, status, locate, owner, Event, fed, Answer, refused, done, bytes, made, figures, placed, owned}
+use Rattle.calls.specs.Health.{absent, afterOut, formatted, grownBy, withMoves, withHealth}
+use Rattle.calls.specs.Images.{placeIn, othersIn, seen, Store, block, header, stored, recorded, unless, fillDisk, zeroDisks}
+use Rattle.calls.specs.Table.{idle, refusal, refusalBytes}
+
+-- ---- read and view
+
+-- where block b stands, and what is seen there
+abbrev pub placeOf : Record → ℕ → Place
+placeOf r b = layout (geometry r) .place b
+
+abbrev pub blockOf : Record → List ℕ → ℕ → List ℕ
+blockOf r img b = seen r img (placeOf r b .stripe) (placeOf r b .disk)
+
+-- "**View**: returns the block as a part of the images, or, if its disk is out, as the lent scratch filled with it. Scratch is
+-- else untouched."
+pub data View : Type 0 where
+  part : (at len : ℕ) → View
+  scratch : View
+
+unfoldable pub viewOf : Record → ℕ → View
+viewOf r b =
+    let q = placeOf r b in
+    cond (absent (r .health) (q .stripe) (q .disk)) scratch (part (offset (r .block) (r .stripes) (q .stripe) (q .disk)) (r .block))
+
+unfoldable pub scratchLeft : Record → List ℕ → ℕ → List ℕ → List ℕ
+scratchLeft r img b room =
+    let q = placeOf r b in
+    cond (absent (r .health) (q .stripe) (q .disk)) (othersIn r img (q .stripe) (q .disk)) room
+
+abbrev pub viewed : View → List ℕ → List ℕ → List ℕ
+viewed (part at len) img room = blockAt img at len
+viewed scratch img room = room
+
+-- ---- write: "the data place takes the data, the parity place its old value xor old block xor data; either is skipped if its
+-- disk is out". The parity first, so that the old block is read in its place.
+
+unfoldable pub writeStores : Record → List ℕ → ℕ → List ℕ → List Store
+writeStores r img b v =
+    let S = placeOf r b .stripe in
+    let d = placeOf r b .disk in
+    let p = layout (geometry r) .parity S in
+    unless (absent (r .health) S p) (block S p (xorB (xorB (seen r img S p) (seen r img S d)) v))
+    ++ unless (absent (r .health) S d) (block S d v)
+
+-- ---- advance
+
+-- "A move copies the block to its new place, then zeroes the place it left"; then the record with t raised
+unfoldable pub moveStores : Record → List ℕ → List Store
+moveStores r img =
+    let g = geometry r in
+    block (nextStripe g) (nextTo g) (placeIn r img (nextStripe g) (nextFrom g))
+    ∷ block (nextStripe g) (nextFrom g) (zeros (r .block))
+    ∷ header (withMoves r (suc (r .moves)))
+    ∷ []
+
+-- "makes moves in order until k are made or none is left", each on the images as they are then
+unfoldable pub advanceStores : ℕ → Record → List ℕ → List Store
+advanceStores zero r img = []
+advanceStores (suc k) r img =
+    elim (idle (geometry r)) [
+      | true ↦ []
+      | false ↦ let ps = moveStores r img in ps ++ advanceStores k (recorded ps r) (stored (r .block) (r .stripes) ps img)
+    ]
+
+-- a stripe's parity value behind the first i moves: "the bytes at the place where Layout, with the moves done so far, has its
+-- parity" (the stores of more moves begin with those of i: `InOrder` of Theorem)
+unfoldable pub parityAfter : ℕ → Record → List ℕ → ℕ → List ℕ
+parityAfter i r img S =
+    let ps = advanceStores i r img in
+    placeIn r (stored (r .block) (r .stripes) ps img) S (layout (geometry (recorded ps r)) .parity S)
+
+-- ---- what a call answers, the block or scratch as it leaves it, and its stores in order, into images of `shape`'s stripes and
+-- block length
+
+pub record Effect : Type 0 where
+  pub answer : Answer
+  pub room : List ℕ
+  pub shape : Record
+  pub stores : List Store
+
+abbrev telling : Record → Event → Answer → Effect
+telling r e a = record { answer = a; room = e .room; shape = r; stores = [] }
+
+abbrev storing : Record → Event → List Store → Effect
+storing r e ps = record { answer = done; room = e .room; shape = r; stores = ps }
+
+unfoldable pub effect : Call → Record → Event → Effect
+-- "zeroes the images; record whole, m = t = 0"
+effect (format n B T) r e = storing (formatted n B T) e (zeroDisks B T 0 n ++ header (formatted n B T) ∷ [])
+-- "fills a lent block"
+effect (read b) r e = record { answer = bytes (blockOf r (e .images) b); room = blockOf r (e .images) b; shape = r; stores = [] }
+effect (view b) r e =
+    let room = scratchLeft r (e .images) b (e .room) in
+    record { answer = bytes (viewed (viewOf r b) (e .images) room); room = room; shape = r; stores = [] }
+effect (write b v) r e = storing r e (writeStores r (e .images) b v)
+-- "given images of n + m disks, zeroes those behind the first n; sets m"
+effect (grow m) r e = storing r e (zeroDisks (r .block) (r .stripes) (r .old) m ++ header (grownBy r m) ∷ [])
+-- "reports how many, which is t's rise"
+effect (advance k) r e =
+    let ps = advanceStores k r (e .images) in
+    record { answer = made (recorded ps r .moves - r .moves); room = e .room; shape = r; stores = ps }
+effect (out d) r e = storing r e (header (withHealth r (afterOut (r .health) d)) ∷ [])
+-- "writes disk d of every stripe as the xor of the others; health whole"
+effect (rebuild d) r e = storing r e (fillDisk (r .stripes) d (λ S. othersIn r (e .images) S d) ++ header (withHealth r Whole) ∷ [])
+-- "capacity, t, total, health"
+effect status r e = telling r e (figures (capacity (geometry r)) (r .moves) (totalOf (geometry r)) (r .health))
+-- "the stripe and disk of block b"
+effect (locate b) r e = telling r e (placed (placeOf r b))
+-- "the block number there, or parity, or blank"
+effect (owner S d) r e = telling r e (owned (layout (geometry r) .owner S d))
+
+-- ---- what a call leaves: its answer, the record (as a record, or as bytes), the images and the block or scratch
+
+pub record Left (R : Type 0) : Type 0 where
+  pub answer : Answer
+  pub state : R
+  pub images : List ℕ
+  pub room : List ℕ
+
+-- an accepted call
+abbrev pub act : Event → Record → Left Record
+act e r =
+    let x = effect (e .call) r e in
+    record { answer = x .answer; state = recorded (x .stores) r; images = stored (x .shape .block) (x .shape .stripes) (x .stores) (e .images); room = x .room }
+
+-- "changes no byte"
+abbrev pub untouched : {R : Type 0} → Event → R → ℕ → Left R
+untouched e r k = record { answer = refused k; state = r; images = e .images; room = e .room }
+
+abbrev pub settle : {R : Type 0} → ℕ → (ℕ → Left R) → Left R → Left R
+settle zero kept acted = acted
+settle (suc k) kept acted = kept (suc k)
+
+-- a call on a record ..
+unfoldable pub called : Event → Record → Left Record
+called e r = settle (refusal r (capacity (geometry r)) (fed e)) (untouched e r) (act e r)
+
+-- .. and on a record's bytes
+abbrev pub sealed : Left Record → Left (List ℕ)
+sealed x = record { answer = x .answer; state = encode (x .state); images = x .images; room = x .room }
+
+unfoldable pub calledBytes : Event → List ℕ → Left (List ℕ)
+calledBytes e b = settle (refusalBytes b (fed e)) (untouched e b) (sealed (act e (decode b)))

@@ -1,0 +1,185 @@
+-- The table of refusals, read row by row, and every cell of it by example. For each call and each number that the table has for it: a case where the condition of that number and
+-- of every higher one holds, and no lower one's; for each number that the table does not have for it: a case where its condition
+-- would hold, which is not refused; and both sides of the bounds. `rowwise` and `refusals` of proofs/Refusals.antt compute them.
+use Prim.Native.Nat.{ℕ, suc}
+use mathlib.Core.Path.{_≡_}
+use mathlib.Core.Bool.{Bool, cond}
+use mathlib.Core.List.{List, [], _∷_, _++_}
+use lib.Dec.{eqb}
+use lib.ListN.{getD, take, replicate}
+use Rattle.state.specs.declared.Health.the-variants.{Whole, Out, Lost}
+use Rattle.state.specs.declared.Health.{Health}
+use Rattle.state.specs.declared.Record.{Record}
+use Rattle.state.specs.Bytes.{encode}
+use Rattle.calls.specs.Call.{Call, format, read, view, write, grow, advance, out, rebuild, status, locate, owner}
+use Rattle.calls.specs.Table.{Row, table, refusalBytes}
+
+-- ---- which calls each number is for: the table's last column, a line a number, a column a call. `rowwise` proves that the rows of each call are those
+-- marked here, whatever it is given.
+
+abbrev pub columnOf : Call → ℕ
+columnOf (format n B T) = 0
+columnOf (read b) = 1
+columnOf (view b) = 2
+columnOf (write b v) = 3
+columnOf (grow m) = 4
+columnOf (advance k) = 5
+columnOf (out d) = 6
+columnOf (rebuild d) = 7
+columnOf status = 8
+columnOf (locate b) = 9
+columnOf (owner S d) = 10
+
+abbrev pub marks : List (List ℕ)
+marks =
+    -- format, read, view, write, grow, advance, out, rebuild, status, locate, owner
+    (1 ∷ 1 ∷ 1 ∷ 1 ∷ 1 ∷ 1 ∷ 1 ∷ 1 ∷ 1 ∷ 1 ∷ 1 ∷ [])  -- 1 record
+    ∷ (0 ∷ 1 ∷ 1 ∷ 1 ∷ 1 ∷ 1 ∷ 1 ∷ 1 ∷ 0 ∷ 0 ∷ 0 ∷ [])  -- 2 lost
+    ∷ (0 ∷ 0 ∷ 0 ∷ 0 ∷ 1 ∷ 1 ∷ 0 ∷ 0 ∷ 0 ∷ 0 ∷ 0 ∷ [])  -- 3 degraded
+    ∷ (0 ∷ 0 ∷ 0 ∷ 0 ∷ 1 ∷ 0 ∷ 0 ∷ 0 ∷ 0 ∷ 0 ∷ 0 ∷ [])  -- 4 grown
+    ∷ (0 ∷ 0 ∷ 0 ∷ 0 ∷ 0 ∷ 1 ∷ 0 ∷ 0 ∷ 0 ∷ 0 ∷ 0 ∷ [])  -- 5 nothing to move
+    ∷ (1 ∷ 0 ∷ 0 ∷ 0 ∷ 1 ∷ 0 ∷ 0 ∷ 0 ∷ 0 ∷ 0 ∷ 0 ∷ [])  -- 6 geometry
+    ∷ (1 ∷ 1 ∷ 1 ∷ 1 ∷ 1 ∷ 1 ∷ 0 ∷ 1 ∷ 0 ∷ 0 ∷ 0 ∷ [])  -- 7 images
+    ∷ (0 ∷ 1 ∷ 1 ∷ 1 ∷ 0 ∷ 0 ∷ 0 ∷ 0 ∷ 0 ∷ 1 ∷ 1 ∷ [])  -- 8 past the end
+    ∷ (0 ∷ 1 ∷ 1 ∷ 1 ∷ 0 ∷ 0 ∷ 0 ∷ 0 ∷ 0 ∷ 0 ∷ 0 ∷ [])  -- 9 block length
+    ∷ (0 ∷ 0 ∷ 0 ∷ 0 ∷ 0 ∷ 0 ∷ 1 ∷ 1 ∷ 0 ∷ 0 ∷ 1 ∷ [])  -- 10 disk
+    ∷ []
+
+-- the numbers marked in a column, counted from k
+abbrev pub marked : ℕ → ℕ → List (List ℕ) → List ℕ
+marked column k [] = []
+marked column k (line ∷ lines) = cond (eqb (getD line column 0) 1) (k ∷ marked column (suc k) lines) (marked column (suc k) lines)
+
+abbrev pub numbers : List Row → List ℕ
+numbers [] = []
+numbers (x ∷ rows) = x .0 ∷ numbers rows
+
+abbrev pub Rowwise : Type 0
+Rowwise = (c : Call) (short bad : Bool) (r : Record) (cap len room : ℕ) → numbers (table c short bad r cap len room) ≡ marked (columnOf c) 1 marks
+
+-- ---- records, as bytes: 3 disks and 15 stripes of 2 bytes, of length 90 and capacity 30 ..
+abbrev pub small : List ℕ
+small = encode (record { old = 3; new = 0; health = Whole; block = 2; stripes = 15; moves = 0 })
+
+-- .. 3 disks and T stripes of 1 byte ..
+abbrev pub of-stripes : ℕ → List ℕ
+of-stripes T = encode (record { old = 3; new = 0; health = Whole; block = 1; stripes = T; moves = 0 })
+
+-- .. grown by 2, of length 150, with t of 18 moves done, and capacity 30 or at last 60
+abbrev pub grown : Health → ℕ → List ℕ
+grown h t = encode (record { old = 3; new = 2; health = h; block = 2; stripes = 15; moves = t })
+
+-- not good; good but for the health's bytes and bytes 6 and 7, and so for byte 6; lost; not 16 bytes long
+abbrev pub bad : List ℕ
+bad = encode (record { old = 2; new = 2; health = Lost; block = 2; stripes = 15; moves = 18 })
+
+abbrev pub spoilt : ℕ → ℕ → ℕ → ℕ → List ℕ
+spoilt health disk six seven = 3 ∷ 0 ∷ health ∷ disk ∷ 2 ∷ 0 ∷ six ∷ seven ∷ 15 ∷ 0 ∷ 0 ∷ 0 ∷ 0 ∷ 0 ∷ 0 ∷ 0 ∷ []
+
+abbrev pub sixth : List ℕ
+sixth = spoilt 0 0 1 0
+
+abbrev pub lost : List ℕ
+lost = grown Lost 17
+
+abbrev pub short : List ℕ
+short = take 15 small
+
+abbrev pub long : List ℕ
+long = small ++ 0 ∷ []
+
+-- the number of a call on a record, lent images of len bytes and a block or scratch of room
+abbrev pub asks : List ℕ → Call → ℕ → ℕ → ℕ
+asks b c len room = refusalBytes b (record { call = c; images = len; room = room })
+
+-- a call that would be let through, on each kind of record that 1 is for
+abbrev pub ones : Call → ℕ → ℕ → List ℕ
+ones c len room =
+    asks short c len room ∷ asks long c len room ∷ asks [] c len room
+    ∷ asks bad c len room ∷ asks sixth c len room ∷ asks (spoilt 0 0 0 1) c len room
+    -- no such health; a disk beside whole and beside lost
+    ∷ asks (spoilt 3 0 0 0) c len room ∷ asks (spoilt 0 1 0 0) c len room ∷ asks (spoilt 2 1 0 0) c len room
+    ∷ []
+
+-- read, view and write have the same rows: a call for a block and a length of its room or data
+abbrev pub reads : (ℕ → ℕ → Call) → List ℕ
+reads c =
+    -- 1, 2
+    asks short (c 30 1) 89 1 ∷ asks bad (c 30 1) 89 1 ∷ asks sixth (c 30 1) 89 1 ∷ asks lost (c 30 1) 149 1
+    -- 7, 8, 9, none
+    ∷ asks (grown Whole 17) (c 30 1) 149 1 ∷ asks (grown Whole 17) (c 30 1) 150 1 ∷ asks (grown Whole 17) (c 29 1) 150 1 ∷ asks (grown Whole 17) (c 29 2) 150 2
+    -- degraded, grown and idle are no matter
+    ∷ asks (grown (Out 4) 17) (c 29 2) 150 2 ∷ asks (grown Whole 18) (c 59 2) 150 2 ∷ asks small (c 29 2) 90 2
+    -- the other sides of the bounds
+    ∷ asks (grown Whole 18) (c 60 2) 150 2 ∷ asks small (c 30 2) 90 2 ∷ asks small (c 29 2) 91 2 ∷ asks small (c 29 3) 90 3
+    ∷ []
+
+abbrev pub read-numbers : List ℕ
+read-numbers = 1 ∷ 1 ∷ 1 ∷ 2 ∷ 7 ∷ 8 ∷ 9 ∷ 0 ∷ 0 ∷ 0 ∷ 0 ∷ 8 ∷ 8 ∷ 7 ∷ 9 ∷ []
+
+-- data of so many bytes
+abbrev pub bytes : ℕ → List ℕ
+bytes len = take len (5 ∷ 5 ∷ 5 ∷ [])
+
+pub record Refusals : Type 0 where
+  -- 1: all calls for its length, all but format for a record that is not good
+  pub row-1 :
+      ones (read 29) 90 2 ++ ones (view 29) 90 2 ++ ones (write 29 (bytes 2)) 90 0 ++ ones (grow 2) 150 0 ++ ones (advance 1) 90 0
+      ++ ones (out 2) 0 0 ++ ones (rebuild 2) 90 0 ++ ones status 0 0 ++ ones (locate 29) 0 0 ++ ones (owner 14 2) 0 0
+      ≡ replicate 90 1
+  pub row-1-format : ones (format 3 2 15) 90 0 ≡ 1 ∷ 1 ∷ 1 ∷ 0 ∷ 0 ∷ 0 ∷ 0 ∷ 0 ∷ 0 ∷ []
+  -- 1 for its length alone; 6, 7; health lost, a bad record, m and t are no matter
+  pub formats :
+      asks short (format 2 2 15) 89 0 ∷ asks small (format 2 2 15) 89 0 ∷ asks small (format 3 2 15) 89 0 ∷ asks small (format 3 2 15) 90 0
+      ∷ asks bad (format 3 2 15) 90 0 ∷ asks sixth (format 3 2 15) 90 0 ∷ asks lost (format 3 2 15) 90 0 ∷ asks (grown (Out 1) 18) (format 3 2 15) 90 0
+      ∷ asks small (format 17 2 15) 510 0 ∷ asks small (format 3 0 15) 0 0 ∷ asks small (format 3 2 0) 0 0
+      ∷ []
+      ≡ 1 ∷ 6 ∷ 7 ∷ 0 ∷ 0 ∷ 0 ∷ 0 ∷ 0 ∷ 6 ∷ 6 ∷ 6 ∷ []
+  pub read-cells : reads (λ b len. read b) ≡ read-numbers
+  pub view-cells : reads (λ b len. view b) ≡ read-numbers
+  pub write-cells : reads (λ b len. write b (bytes len)) ≡ read-numbers
+  -- a write's room is no matter
+  pub write-room : asks small (write 29 (bytes 2)) 90 1 ≡ 0
+  -- 1, 2, 3, 4, 6, 7, none; m of 0 and of 17, T no multiple
+  pub grows :
+      asks short (grow 0) 89 0 ∷ asks bad (grow 0) 89 0 ∷ asks lost (grow 0) 89 0 ∷ asks (grown (Out 4) 17) (grow 0) 89 0 ∷ asks (grown Whole 17) (grow 0) 89 0
+      ∷ asks small (grow 0) 89 0 ∷ asks small (grow 2) 149 0 ∷ asks small (grow 2) 150 0
+      ∷ asks small (grow 17) 600 0 ∷ asks small (grow 1) 120 0 ∷ asks small (grow 2) 90 0
+      ∷ asks (of-stripes 57) (grow 16) 1083 0 ∷ asks (of-stripes 60) (grow 17) 1200 0 ∷ asks (of-stripes 12) (grow 1) 48 0
+      ∷ []
+      ≡ 1 ∷ 1 ∷ 2 ∷ 3 ∷ 4 ∷ 6 ∷ 7 ∷ 0 ∷ 6 ∷ 6 ∷ 7 ∷ 0 ∷ 6 ∷ 0 ∷ []
+  -- 1, 2, 3, 5, 7, none; 5 with m = 0; k = 0 is no refusal
+  pub advances :
+      asks short (advance 1) 149 0 ∷ asks bad (advance 1) 149 0 ∷ asks lost (advance 1) 149 0 ∷ asks (grown (Out 4) 18) (advance 1) 149 0 ∷ asks (grown Whole 18) (advance 1) 149 0
+      ∷ asks (grown Whole 17) (advance 1) 149 0 ∷ asks (grown Whole 17) (advance 1) 150 0
+      ∷ asks small (advance 1) 90 0 ∷ asks (grown Whole 17) (advance 0) 150 0 ∷ asks (grown Whole 0) (advance 1) 150 0
+      ∷ []
+      ≡ 1 ∷ 1 ∷ 2 ∷ 3 ∷ 5 ∷ 7 ∷ 0 ∷ 5 ∷ 0 ∷ 0 ∷ []
+  -- 1, 2, 10 past the last disk and for the one that is out, none; no images are asked for
+  pub outs :
+      asks short (out 5) 0 0 ∷ asks bad (out 5) 0 0 ∷ asks lost (out 5) 0 0 ∷ asks (grown Whole 17) (out 5) 0 0 ∷ asks (grown (Out 4) 17) (out 4) 0 0
+      ∷ asks (grown Whole 17) (out 4) 0 0 ∷ asks (grown (Out 4) 17) (out 3) 0 0 ∷ asks (grown (Out 4) 17) (out 5) 0 0 ∷ asks small (out 3) 0 0 ∷ asks small (out 2) 0 0
+      ∷ []
+      ≡ 1 ∷ 1 ∷ 2 ∷ 10 ∷ 10 ∷ 0 ∷ 0 ∷ 10 ∷ 10 ∷ 0 ∷ []
+  -- 1, 2, 7, 10 for another disk and for any if none is out, none
+  pub rebuilds :
+      asks short (rebuild 3) 149 0 ∷ asks bad (rebuild 3) 149 0 ∷ asks lost (rebuild 3) 149 0 ∷ asks (grown (Out 4) 17) (rebuild 3) 149 0 ∷ asks (grown (Out 4) 17) (rebuild 3) 150 0
+      ∷ asks (grown (Out 4) 17) (rebuild 4) 150 0 ∷ asks (grown Whole 17) (rebuild 0) 150 0
+      ∷ asks (grown (Out 4) 18) (rebuild 4) 150 0 ∷ asks (encode (record { old = 3; new = 0; health = Out 1; block = 2; stripes = 15; moves = 0 })) (rebuild 1) 90 0
+      ∷ []
+      ≡ 1 ∷ 1 ∷ 2 ∷ 7 ∷ 10 ∷ 0 ∷ 10 ∷ 0 ∷ 0 ∷ []
+  -- 1, and nothing else
+  pub statuses : asks short status 0 0 ∷ asks bad status 0 0 ∷ asks sixth status 0 0 ∷ asks lost status 0 0 ∷ asks (grown (Out 4) 18) status 0 0 ∷ []
+      ≡ 1 ∷ 1 ∷ 1 ∷ 0 ∷ 0 ∷ []
+  -- 1, 8, none; health and images are no matter
+  pub locates :
+      asks short (locate 30) 0 0 ∷ asks bad (locate 30) 0 0 ∷ asks small (locate 30) 0 0 ∷ asks small (locate 29) 0 0 ∷ asks lost (locate 29) 0 0 ∷ asks lost (locate 30) 0 0
+      ∷ asks (grown (Out 4) 18) (locate 59) 0 0 ∷ asks (grown (Out 4) 18) (locate 60) 0 0
+      ∷ []
+      ≡ 1 ∷ 1 ∷ 8 ∷ 0 ∷ 0 ∷ 8 ∷ 0 ∷ 8 ∷ []
+  -- 1, 8 by the stripe, 10 by the disk, none; health and images are no matter
+  pub owners :
+      asks short (owner 15 5) 0 0 ∷ asks bad (owner 15 5) 0 0 ∷ asks lost (owner 15 5) 0 0 ∷ asks lost (owner 14 5) 0 0 ∷ asks lost (owner 14 4) 0 0
+      ∷ asks small (owner 14 3) 0 0 ∷ asks small (owner 14 2) 0 0
+      ∷ []
+      ≡ 1 ∷ 1 ∷ 8 ∷ 10 ∷ 0 ∷ 10 ∷ 0 ∷ []

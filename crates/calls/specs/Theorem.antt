@@ -1,0 +1,56 @@
+-- DEMAND 1, as far as the definitions go: "The lent images, record, block and scratch hold after a refused call the very bytes they
+-- held before it, nonsense records and lengths included; every call .. refuses exactly as the table says".
+-- The statement is `Demand1`; `demand1` of proofs/Theorem.antt proves it, `in-order` and `on-bytes` the two behind it.
+use Prim.Native.Nat.{ℕ, _+_, _<_}
+use mathlib.Core.Path.{_≡_}
+use mathlib.Core.Bool.{Bool, true, false}
+use mathlib.Core.Logic.{_↔_, _≢_}
+use mathlib.Core.List.{List, [], _∷_, _++_}
+use lib.ListN.{replicate}
+use Rattle.state.specs.declared.Record.{Record}
+use Rattle.state.specs.Bytes.{encode}
+use Rattle.calls.specs.Call.{Event, fed, accepted, number, shown, beside}
+use Rattle.calls.specs.Images.{stored, recorded}
+use Rattle.calls.specs.Table.{Row, word, rowsBytes, refusalBytes}
+use Rattle.calls.specs.Effect.{advanceStores, called, sealed, calledBytes}
+
+-- no condition of these rows holds
+unfoldable pub NoneHolds : List Row → Type 0
+NoneHolds [] = Unit
+NoneHolds (x ∷ rows) = (x .1 ≡ false) × NoneHolds rows
+
+-- "A number is given if its condition holds and no lower one's does, and else never. 0 is done."
+pub record Given (rows : List Row) : Type 0 where
+  pub given : (before after : List Row) (k : ℕ) (holds : Bool) → rows ≡ before ++ (k, holds) ∷ after
+      → (word rows ≡ k) ↔ ((holds ≡ true) × NoneHolds before)
+  pub zero : (word rows ≡ 0) ↔ NoneHolds rows
+  -- what stands before a row has lower numbers, what stands behind it higher ones
+  pub rising : (before middle after : List Row) (x y : Row) → rows ≡ before ++ x ∷ (middle ++ y ∷ after) → x .0 < y .0
+
+-- what is claimed of one call e, lent a record of the bytes b ..
+pub record Answered (e : Event) (b : List ℕ) : Type 0 where
+  -- the number returned is the table's ..
+  pub number-is : number (calledBytes e b .answer) ≡ refusalBytes b (fed e)
+  pub table-is : Given (rowsBytes b (fed e))
+  -- .. with "zeros beside its number, an empty view" ..
+  pub zeros : (w : ℕ) → accepted (calledBytes e b .answer) ≡ false
+      → (beside w (calledBytes e b .answer) ≡ replicate w 0) × (shown (calledBytes e b .answer) ≡ [])
+  -- .. and if it is not 0, record, images and block or scratch are as they were lent
+  pub untouched : accepted (calledBytes e b .answer) ≡ false
+      → (calledBytes e b .state ≡ b) × (calledBytes e b .images ≡ e .images) × (calledBytes e b .room ≡ e .room)
+  pub refused : (accepted (calledBytes e b .answer) ≡ false) ↔ (refusalBytes b (fed e) ≢ 0)
+
+-- .. and it holds of every call, whatever it is lent: "nonsense records and lengths included"
+abbrev pub Demand1 : Type 0
+Demand1 = (e : Event) (b : List ℕ) → Answered e b
+
+-- "makes moves in order": the stores of i + k moves are those of i, and then those of k more on what the first leave. (`in-order`)
+abbrev pub InOrder : Type 0
+InOrder =
+    (i k : ℕ) (r : Record) (img : List ℕ) →
+    let ps = advanceStores i r img in
+    advanceStores (i + k) r img ≡ ps ++ advanceStores k (recorded ps r) (stored (r .block) (r .stripes) ps img)
+
+-- What is proved of calls on a record's bytes holds of calls on the record. (`on-bytes`)
+abbrev pub OnBytes : Type 0
+OnBytes = (e : Event) (r : Record) → calledBytes e (encode r) ≡ sealed (called e r)

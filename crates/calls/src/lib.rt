@@ -1,0 +1,1 @@
+// What each call answers and leaves: definitions and laws alone, no code.
