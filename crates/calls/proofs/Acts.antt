@@ -26,7 +26,7 @@ use Rattle.calls.specs.Call.{Event, Answer, bytes, made}
 use Rattle.calls.specs.Health.{absent, afterOut, formatted, grownBy, withMoves, withHealth}
 use Rattle.calls.specs.Images.{disksOf, size, sizeWith, placeIn, othersIn, seen, Store, stored, recorded, zeroDisks}
 use Rattle.calls.specs.Table.{idle, refusal}
-use Rattle.calls.specs.Effect.{placeOf, scratchLeft, moveStores, advanceStores, effect}
+use Rattle.calls.specs.Effect.{placeOf, scratchLeft, moveStores, advanceStores, effect, answerOf, recordLeft, roomLeft}
 use Rattle.calls.specs.Alone.{movedOn}
 use Rattle.calls.specs.Acts.{Acts}
 use Rattle.calls.proofs.Laws.Column.{Mask, storeIf}
@@ -39,8 +39,9 @@ use Rattle.calls.proofs.Laws.Kept.{storeIf-other}
 use Rattle.calls.proofs.Laws.Table.{some-new}
 use Rattle.calls.proofs.Laws.Advance.{moved, Carried, carried, idle-none}
 use Rattle.calls.proofs.Laws.Runs as runs
-use Rattle.calls.proofs.Alone.{Passed, bounds, formatting, writing, growing, moving, rebuilding, below-N}
-use Rattle.calls.proofs.Alone.{zeroed, rebuilt, within-grow, within-rebuild, left, long-of}
+use Rattle.calls.proofs.Laws.Kinds.{Passed, bounds, formatting, writing, growing, moving, rebuilding, below-N}
+use Rattle.calls.proofs.Laws.Kinds.{zeroed, rebuilt, within-grow, within-rebuild, facts}
+use Rattle.calls.proofs.Alone.{left, long-of}
 
 -- a place is what it is byte by byte
 place-is : (N B T : ℕ) (J : List ℕ) → length J ≡ N * (T * B) → (S d : ℕ) → S < T → d < N → (v : List ℕ) → length v ≡ B
@@ -59,7 +60,7 @@ module _ (r : Record) (e : Event) where
 
   -- the record that call c leaves
   abbrev kept : Call → Record
-  kept c = recorded (effect c r e .stores) r
+  kept c = recordLeft (effect c r e) r
 
   -- ---- what is seen of a place
 
@@ -87,12 +88,12 @@ module _ (r : Record) (e : Event) where
 
   -- ---- view
 
-  view-answer : (b : ℕ) → effect (view b) r e .answer ≡ bytes (seen r img (placeOf r b .stripe) (placeOf r b .disk))
+  view-answer : (b : ℕ) → answerOf (effect (view b) r e) ≡ bytes (seen r img (placeOf r b .stripe) (placeOf r b .disk))
   unfolding effect
   view-answer b = ap bytes (viewed-is r img (e .room) b)
 
   view-scratch : (b : ℕ) → absent (r .health) (placeOf r b .stripe) (placeOf r b .disk) ≡ true
-      → effect (view b) r e .room ≡ othersIn r img (placeOf r b .stripe) (placeOf r b .disk)
+      → roomLeft (effect (view b) r e) (e .room) ≡ othersIn r img (placeOf r b .stripe) (placeOf r b .disk)
   unfolding effect scratchLeft
   view-scratch b u = rw u refl
 
@@ -115,11 +116,11 @@ module _ (r : Record) (e : Event) where
     abbrev w : List ℕ
     w = xorB (xorB (seen r img Sb pb) (seen r img Sb db)) v
 
-    t : Reaches (not (good r)) r (capacity (geometry r)) (length img) b (length v)
+    t : Reaches r (capacity (geometry r)) (length img) b (length v)
     t = writing r e b v z
 
     g : Limits r
-    g = bounds r e (t .good)
+    g = bounds r e (write b v) refl z
 
     in-stripes : Sb < r .stripes
     in-stripes = lS (geometry r) (g .array) b (t .block-lt)
@@ -149,10 +150,6 @@ module _ (r : Record) (e : Event) where
         let long-w : length w ≡ r .block = length-w r img g (t .long) b (t .block-lt) v (t .whole) in
         by-cells pb (lp (geometry r) (g .array) b (t .block-lt)) w long-w
         (λ I x y j p q. storeIf-other a (storeIf a I Sb pb x) Sb db y Sb pb (λ s. apart) ∙ storeIf-same a I Sb pb x u ∙ p)
-
-    write-record : kept (write b v) ≡ r
-    unfolding effect
-    write-record = recorded-write r img g (t .long) b (t .block-lt) v (t .whole)
 
   -- ---- grow
 
@@ -185,10 +182,10 @@ module _ (r : Record) (e : Event) where
   advance-record k z =
       let t = moving r e k z in
       let c : Carried (λ x J. Unit) k r (advanceStores k r img) img =
-      carried (λ x J. Unit) (λ x J g q p. tt) k r img (bounds r e (t .good) .array) (some-new (geometry r) (t .busy)) tt in
+      carried (λ x J. Unit) (λ x J g q p. tt) k r img (bounds r e (advance k) refl z .array) (some-new (geometry r) (t .busy)) tt in
       c .state
 
-  advance-answer : (k : ℕ) → Passed r e (advance k) → effect (advance k) r e .answer ≡ made (risen k)
+  advance-answer : (k : ℕ) → Passed r e (advance k) → answerOf (effect (advance k) r e) ≡ made (risen k)
   unfolding effect
   advance-answer k z =
       ap (λ (x : Record). made (x .moves - r .moves)) (advance-record k z)
@@ -230,7 +227,7 @@ module _ (r : Record) (e : Event) where
   unfolding effect
   rebuild-disk d z S l =
       let t = rebuilding r e d z in
-      let low : d < disksOf r = below-N r e d t in
+      let low : d < disksOf r = below-N r e d z in
       let long : length img ≡ size r = t .long in
       let J : List ℕ = stored (r .block) (r .stripes) (rebuilt r e d) img in
       let long′ : length J ≡ size r = length-stored (r .block) (r .stripes) (rebuilt r e d) img ∙ long in
@@ -245,23 +242,6 @@ module _ (r : Record) (e : Event) where
   rebuild-record : (d : ℕ) → kept (rebuild d) ≡ withHealth r Whole
   unfolding effect
   rebuild-record d = recorded-last (rebuilt r e d) (withHealth r Whole) r
-
-  -- ---- calls that leave the record
-
-  record-stays : (c : Call) → Passed r e c → ((n B T : ℕ) → c ≢ format n B T) → ((m : ℕ) → c ≢ grow m) → ((k : ℕ) → c ≢ advance k)
-      → ((d : ℕ) → c ≢ out d) → ((d : ℕ) → c ≢ rebuild d) → kept c ≡ r
-  unfolding effect recorded
-  record-stays (format n B T) z nf ng na nx nr = absurd (nf n B T refl)
-  record-stays (read b) z nf ng na nx nr = refl
-  record-stays (view b) z nf ng na nx nr = refl
-  record-stays (write b v) z nf ng na nx nr = write-record b v z
-  record-stays (grow m) z nf ng na nx nr = absurd (ng m refl)
-  record-stays (advance k) z nf ng na nx nr = absurd (na k refl)
-  record-stays (out d) z nf ng na nx nr = absurd (nx d refl)
-  record-stays (rebuild d) z nf ng na nx nr = absurd (nr d refl)
-  record-stays status z nf ng na nx nr = refl
-  record-stays (locate b) z nf ng na nx nr = refl
-  record-stays (owner S d) z nf ng na nx nr = refl
 
 -- ---- every call
 
@@ -290,7 +270,7 @@ acts e r z =
       out-second = λ d o q h. of-record (out d) _ q (λ x. out-record r e d (Out o) Lost h refl);
       rebuild-disk = λ d q S l. of-place S d (rebuild d) _ q (λ x. rebuild-disk r e d x S l);
       rebuild-record = λ d q. of-record (rebuild d) _ q (λ x. rebuild-record r e d);
-      record-stays = record-stays r e (e .call) z;
+      record-stays = facts r e (e .call) .state z;
     }
   where
     -- what holds of the call that this is
@@ -304,8 +284,8 @@ acts e r z =
     of-record : (c : Call) (y : Record) → e .call ≡ c → (Passed r e c → kept r e c ≡ y) → kept r e (e .call) ≡ y
     of-record c y q f = subst (λ (x : Call). Passed r e x → kept r e x ≡ y) (sym q) f z
 
-    of-room : (c : Call) (v : List ℕ) → e .call ≡ c → effect c r e .room ≡ v → effect (e .call) r e .room ≡ v
-    of-room c v q f = subst (λ (x : Call). effect x r e .room ≡ v) (sym q) f
+    of-room : (c : Call) (v : List ℕ) → e .call ≡ c → roomLeft (effect c r e) (e .room) ≡ v → roomLeft (effect (e .call) r e) (e .room) ≡ v
+    of-room c v q f = subst (λ (x : Call). roomLeft (effect x r e) (e .room) ≡ v) (sym q) f
 
-    of-answer : (c : Call) (y : Answer) → e .call ≡ c → (Passed r e c → effect c r e .answer ≡ y) → effect (e .call) r e .answer ≡ y
-    of-answer c y q f = subst (λ (x : Call). Passed r e x → effect x r e .answer ≡ y) (sym q) f z
+    of-answer : (c : Call) (y : Answer) → e .call ≡ c → (Passed r e c → answerOf (effect c r e) ≡ y) → answerOf (effect (e .call) r e) ≡ y
+    of-answer c y q f = subst (λ (x : Call). Passed r e x → answerOf (effect x r e) ≡ y) (sym q) f z

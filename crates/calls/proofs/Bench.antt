@@ -7,12 +7,12 @@ use Rattle.layout.specs.Blanks.{blanksBelow, blanks, newStripe, newDisk, newBlo
 use Rattle.layout.specs.Layout.{openStripes, capacity, grownPlace, grownParity, newOwner, grownOwner}
 use Rattle.state.specs.Good.{newGood, movesGood, good}
 use Rattle.calls.specs.Images.{stored, recorded}
-use Rattle.calls.specs.Table.{idle, formable, table, refusal}
+use Rattle.calls.specs.Table.{idle, formable, terms, laterRows, table, refusal}
 use Rattle.calls.specs.Effect.{moveStores, advanceStores, effect, called}
 use Rattle.calls.specs.Bench.{Bench, Unmarked, Values}
 
 pub bench : Bench
-unfolding dataDisk homeStripe homeDisk rankOf homeBlock homeOwner moveZone moveTo moveLag moveWithin moveStripe moveFrom total lag target turn isMoved diskAt source taken blanksBelow blanks newStripe newDisk newBlock openStripes capacity grownPlace grownParity newOwner grownOwner newGood movesGood good stored recorded idle formable table refusal effect called
+unfolding dataDisk homeStripe homeDisk rankOf homeBlock homeOwner moveZone moveTo moveLag moveWithin moveStripe moveFrom total lag target turn isMoved diskAt source taken blanksBelow blanks newStripe newDisk newBlock openStripes capacity grownPlace grownParity newOwner grownOwner newGood movesGood good stored recorded idle formable terms laterRows table refusal effect called
 bench = record {
   numbers = (refl, refl, refl);
   block-5 = (refl, refl);
@@ -26,7 +26,7 @@ bench = record {
 }
 
 pub unmarked : Unmarked
-unfolding moveZone moveTo moveLag moveWithin moveStripe moveFrom total openStripes capacity newGood movesGood good stored recorded idle formable table refusal moveStores advanceStores effect called
+unfolding moveZone moveTo moveLag moveWithin moveStripe moveFrom total openStripes capacity newGood movesGood good stored recorded idle formable terms laterRows table refusal moveStores advanceStores effect called
 unmarked = record {
   groups = (refl, refl, refl);
   disks = (refl, refl, refl, refl);

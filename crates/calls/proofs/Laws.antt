@@ -5,9 +5,9 @@ pub mod Stores
 pub mod Runs
 pub mod Rows
 pub mod Table
+pub mod Asked
 pub mod Passed
 pub mod Acting
-pub mod OnBytes
 pub mod Holding
 pub mod Sound
 pub mod Lists
@@ -19,3 +19,5 @@ pub mod Advance
 pub mod Out
 pub mod Rebuild
 pub mod Kept
+pub mod Kinds
+pub mod OnBytes

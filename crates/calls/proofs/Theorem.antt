@@ -14,7 +14,7 @@ use Rattle.calls.specs.Theorem.{Given, Answered, Demand1, InOrder, OnByt
 use Rattle.calls.proofs.Laws.Rows.{rises, given}
 use Rattle.calls.proofs.Laws.Advance.{advance-split}
 use Rattle.calls.proofs.Laws.OnBytes as bytes
-use Rattle.calls.proofs.Laws.Acting.{accepts, numbered}
+use Rattle.calls.proofs.Laws.Kinds.{facts, numbered}
 
 module _ (e : Event) (b : List ℕ) where
   abbrev X : ℕ → Left (List ℕ)
@@ -25,7 +25,7 @@ module _ (e : Event) (b : List ℕ) where
   number-is = go (refusalBytes b (fed e))
     where
       go : (n : ℕ) → number (X n .answer) ≡ n
-      go zero = numbered (e .call) (decode b) e
+      go zero = numbered (decode b) e (e .call)
       go (suc n) = refl
 
   kept : accepted (calledBytes e b .answer) ≡ false → (calledBytes e b .state ≡ b) × (calledBytes e b .images ≡ e .images) × (calledBytes e b .room ≡ e .room)
@@ -33,7 +33,7 @@ module _ (e : Event) (b : List ℕ) where
   kept = go (refusalBytes b (fed e))
     where
       go : (n : ℕ) → accepted (X n .answer) ≡ false → (X n .state ≡ b) × (X n .images ≡ e .images) × (X n .room ≡ e .room)
-      go zero u = absurd (let y = accepts (e .call) (decode b) e in let w : _≡_ {A = ℕ} 0 1 = cc in omega arith)
+      go zero u = absurd (let y = facts (decode b) e (e .call) .accepts in let w : _≡_ {A = ℕ} 0 1 = cc in omega arith)
       go (suc n) u = (refl, refl, refl)
 
   zeros : (w : ℕ) → accepted (calledBytes e b .answer) ≡ false → (beside w (calledBytes e b .answer) ≡ replicate w 0) × (shown (calledBytes e b .answer) ≡ [])
@@ -41,7 +41,7 @@ module _ (e : Event) (b : List ℕ) where
   zeros w = go (refusalBytes b (fed e))
     where
       go : (n : ℕ) → accepted (X n .answer) ≡ false → (beside w (X n .answer) ≡ replicate w 0) × (shown (X n .answer) ≡ [])
-      go zero u = absurd (let y = accepts (e .call) (decode b) e in let v : _≡_ {A = ℕ} 0 1 = cc in omega arith)
+      go zero u = absurd (let y = facts (decode b) e (e .call) .accepts in let v : _≡_ {A = ℕ} 0 1 = cc in omega arith)
       go (suc n) u = (refl, refl)
 
   refused : (accepted (calledBytes e b .answer) ≡ false) ↔ (refusalBytes b (fed e) ≢ 0)
@@ -49,7 +49,7 @@ module _ (e : Event) (b : List ℕ) where
   refused = go (refusalBytes b (fed e))
     where
       go : (n : ℕ) → (accepted (X n .answer) ≡ false) ↔ (n ≢ 0)
-      go zero = ((λ u. absurd (let y = accepts (e .call) (decode b) e in let w : _≡_ {A = ℕ} 0 1 = cc in omega arith)), λ ne. absurd (ne refl))
+      go zero = ((λ u. absurd (let y = facts (decode b) e (e .call) .accepts in let w : _≡_ {A = ℕ} 0 1 = cc in omega arith)), λ ne. absurd (ne refl))
       go (suc n) = ((λ u z. omega arith), λ ne. refl)
 
   table-is : Given (rowsBytes b (fed e))

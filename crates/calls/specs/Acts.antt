@@ -4,18 +4,17 @@
 use Prim.Native.Nat.{ℕ, suc, _+_, _-_, _*_, _≤_, _<_, min}
 use mathlib.Core.Path.{_≡_}
 use mathlib.Core.Bool.{true, false}
-use mathlib.Core.Logic.{_≢_}
 use mathlib.Core.List.{List}
-use Rattle.layout.specs.Layout.{totalOf, capacity, layout}
+use Rattle.layout.specs.Layout.{totalOf, layout}
 use Rattle.blocks.specs.Block.{zeros}
 use Rattle.blocks.specs.Xor.{xorB}
 use Rattle.state.specs.declared.Health.the-variants.{Whole, Out, Lost}
 use Rattle.state.specs.declared.Record.{Record}
 use Rattle.state.specs.Good.{geometry}
-use Rattle.calls.specs.Call.{format, read, view, write, grow, advance, out, rebuild, Event, on, fed, bytes, made}
-use Rattle.calls.specs.Health.{absent}
+use Rattle.calls.specs.Call.{Call, format, read, view, write, grow, advance, out, rebuild, Event, on, fed, bytes, made}
+use Rattle.calls.specs.Health.{absent, formatted, grownBy, withMoves, withHealth}
 use Rattle.calls.specs.Images.{placeIn, othersIn, seen}
-use Rattle.calls.specs.Table.{idle, refusal}
+use Rattle.calls.specs.Table.{idle, refusalOf}
 use Rattle.calls.specs.Effect.{placeOf, act}
 use Rattle.calls.specs.Alone.{movedOn}
 
@@ -25,7 +24,15 @@ leftAt e r S d = placeIn r (act e r .images) S d
 
 -- the record behind one move
 abbrev pub oneMore : Record → Record
-oneMore r = record { old = r .old; new = r .new; health = r .health; block = r .block; stripes = r .stripes; moves = suc (r .moves) }
+oneMore r = withMoves r (suc (r .moves))
+
+-- the calls that store the record
+pub data StoresRecord : Call → Type 0 where
+  format-records : (n B T : ℕ) → StoresRecord (format n B T)
+  grow-records : (m : ℕ) → StoresRecord (grow m)
+  advance-records : (k : ℕ) → StoresRecord (advance k)
+  out-records : (d : ℕ) → StoresRecord (out d)
+  rebuild-records : (d : ℕ) → StoresRecord (rebuild d)
 
 -- what is claimed of one call e on a record r ..
 pub record Does (e : Event) (r : Record) : Type 0 where
@@ -34,8 +41,7 @@ pub record Does (e : Event) (r : Record) : Type 0 where
   pub seen-out : (S d : ℕ) → absent (r .health) S d ≡ true → seen r (e .images) S d ≡ othersIn r (e .images) S d
   -- format: "zeroes the images; record whole, m = t = 0"
   pub format-images : (n B T : ℕ) → e .call ≡ format n B T → act e r .images ≡ zeros (n * (T * B))
-  pub format-record : (n B T : ℕ) → e .call ≡ format n B T
-      → act e r .state ≡ record { old = n; new = 0; health = Whole; block = B; stripes = T; moves = 0 }
+  pub format-record : (n B T : ℕ) → e .call ≡ format n B T → act e r .state ≡ formatted n B T
   -- read: "fills a lent block"
   pub read-block : (b : ℕ) → e .call ≡ read b → let q = placeOf r b in act e r .room ≡ seen r (e .images) (q .stripe) (q .disk)
   pub read-answer : (b : ℕ) → e .call ≡ read b → let q = placeOf r b in act e r .answer ≡ bytes (seen r (e .images) (q .stripe) (q .disk))
@@ -54,30 +60,25 @@ pub record Does (e : Event) (r : Record) : Type 0 where
   -- grow: "given images of n + m disks, zeroes those behind the first n; sets m"
   pub grow-new : (m : ℕ) → e .call ≡ grow m → (S d : ℕ) → S < r .stripes → r .old ≤ d → d < r .old + m
       → leftAt e r S d ≡ zeros (r .block)
-  pub grow-record : (m : ℕ) → e .call ≡ grow m
-      → act e r .state ≡ record { old = r .old; new = m; health = Whole; block = r .block; stripes = r .stripes; moves = 0 }
+  pub grow-record : (m : ℕ) → e .call ≡ grow m → act e r .state ≡ withHealth (grownBy r m) Whole
   -- advance: "makes moves in order until k are made or none is left, and reports how many, which is t's rise"
   pub advance-answer : (k : ℕ) → e .call ≡ advance k → act e r .answer ≡ made (min k (totalOf (geometry r) - r .moves))
-  pub advance-record : (k : ℕ) → e .call ≡ advance k → let t = r .moves + min k (totalOf (geometry r) - r .moves) in
-      act e r .state ≡ record { old = r .old; new = r .new; health = r .health; block = r .block; stripes = r .stripes; moves = t }
+  pub advance-record : (k : ℕ) → e .call ≡ advance k
+      → act e r .state ≡ withMoves r (r .moves + min k (totalOf (geometry r) - r .moves))
   -- .. each move on what the one before left (`movedOn`, the images behind the next move: `OneMove`)
   pub advance-none : e .call ≡ advance 0 → act e r .images ≡ e .images
   pub advance-next : (k : ℕ) → e .call ≡ advance (suc k) → let r′ = oneMore r in
       idle (geometry r′) ≡ false → act e r .images ≡ act (on (advance k) (movedOn r (e .images)) (e .room)) r′ .images
   pub advance-last : (k : ℕ) → e .call ≡ advance (suc k) → idle (geometry (oneMore r)) ≡ true → act e r .images ≡ movedOn r (e .images)
   -- out: "whole becomes out; out with another disk becomes lost"
-  pub out-first : (d : ℕ) → e .call ≡ out d → r .health ≡ Whole
-      → act e r .state ≡ record { old = r .old; new = r .new; health = Out d; block = r .block; stripes = r .stripes; moves = r .moves }
-  pub out-second : (d o : ℕ) → e .call ≡ out d → r .health ≡ Out o
-      → act e r .state ≡ record { old = r .old; new = r .new; health = Lost; block = r .block; stripes = r .stripes; moves = r .moves }
+  pub out-first : (d : ℕ) → e .call ≡ out d → r .health ≡ Whole → act e r .state ≡ withHealth r (Out d)
+  pub out-second : (d o : ℕ) → e .call ≡ out d → r .health ≡ Out o → act e r .state ≡ withHealth r Lost
   -- rebuild: "writes disk d of every stripe as the xor of the others; health whole"
   pub rebuild-disk : (d : ℕ) → e .call ≡ rebuild d → (S : ℕ) → S < r .stripes → leftAt e r S d ≡ othersIn r (e .images) S d
-  pub rebuild-record : (d : ℕ) → e .call ≡ rebuild d
-      → act e r .state ≡ record { old = r .old; new = r .new; health = Whole; block = r .block; stripes = r .stripes; moves = r .moves }
+  pub rebuild-record : (d : ℕ) → e .call ≡ rebuild d → act e r .state ≡ withHealth r Whole
   -- read, view, write, status, locate and owner leave the record
-  pub record-stays : ((n B T : ℕ) → e .call ≢ format n B T) → ((m : ℕ) → e .call ≢ grow m) → ((k : ℕ) → e .call ≢ advance k)
-      → ((d : ℕ) → e .call ≢ out d) → ((d : ℕ) → e .call ≢ rebuild d) → act e r .state ≡ r
+  pub record-stays : ¬ StoresRecord (e .call) → act e r .state ≡ r
 
 -- .. and it holds of every call that the table lets through
 abbrev pub Acts : Type 0
-Acts = (e : Event) (r : Record) → refusal r (capacity (geometry r)) (fed e) ≡ 0 → Does e r
+Acts = (e : Event) (r : Record) → refusalOf r (fed e) ≡ 0 → Does e r

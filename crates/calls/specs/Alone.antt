@@ -8,22 +8,41 @@ use mathlib.Core.Bool.{true, false}
 use mathlib.Core.Logic.{_≢_}
 use mathlib.Core.List.{List, [], _∷_}
 use lib.ListN.{length}
-use Rattle.layout.specs.Layout.{capacity, layout, nextStripe, nextFrom, nextTo}
+use Rattle.layout.specs.Layout.{layout, nextStripe, nextFrom, nextTo}
 use Rattle.blocks.specs.Block.{zeros}
 use Rattle.blocks.specs.Stripe.{offset}
 use Rattle.state.specs.declared.Record.{Record}
 use Rattle.state.specs.Good.{geometry, good}
-use Rattle.calls.specs.Call.{format, read, view, write, grow, advance, rebuild, status, locate, owner, Event, on, fed}
+use Rattle.calls.specs.Call.{Call, format, read, view, write, grow, advance, rebuild, status, locate, owner, Event, on, fed}
 use Rattle.calls.specs.Health.{absent}
-use Rattle.calls.specs.Images.{disksOf, size, placeIn, Store, block, header, stored}
-use Rattle.calls.specs.Table.{idle, refusal}
-use Rattle.calls.specs.Effect.{placeOf, moveStores, effect, act, called}
+use Rattle.calls.specs.Images.{disksOf, size, placeIn, Store, block, header, storedIn}
+use Rattle.calls.specs.Table.{idle, refusalOf}
+use Rattle.calls.specs.Effect.{placeOf, moveStores, Effect, tells, fills, stores, effect, act, called}
 
 -- every block of a list of stores is whole, B bytes, and its place lies within the first `len` bytes
 unfoldable pub Inside : ℕ → ℕ → ℕ → List Store → Type 0
 Inside len B T [] = Unit
 Inside len B T (block S d v ∷ ps) = (length v ≡ B) × (offset B T S d + B ≤ len) × Inside len B T ps
 Inside len B T (header x ∷ ps) = Inside len B T ps
+
+-- and so are those that a call makes
+abbrev pub StoresInside : ℕ → Effect → Type 0
+StoresInside len (tells a) = Unit
+StoresInside len (fills shown room) = Unit
+StoresInside len (stores a shape ps) = Inside len (shape .block) (shape .stripes) ps
+
+-- the calls that fill the lent block or scratch
+pub data FillsRoom : Call → Type 0 where
+  read-fills : (b : ℕ) → FillsRoom (read b)
+  view-fills : (b : ℕ) → FillsRoom (view b)
+
+-- the calls that store blocks
+pub data StoresBlocks : Call → Type 0 where
+  format-stores : (n B T : ℕ) → StoresBlocks (format n B T)
+  write-stores : (b : ℕ) (v : List ℕ) → StoresBlocks (write b v)
+  grow-stores : (m : ℕ) → StoresBlocks (grow m)
+  advance-stores : (k : ℕ) → StoresBlocks (advance k)
+  rebuild-stores : (d : ℕ) → StoresBlocks (rebuild d)
 
 -- the call leaves the bytes of place (S, d)
 abbrev pub Stays : Event → Record → ℕ → ℕ → Type 0
@@ -32,16 +51,15 @@ Stays e r S d = placeIn r (act e r .images) S d ≡ placeIn r (e .images) S d
 -- what is claimed of one call e on a record r ..
 pub record LeavesAlone (e : Event) (r : Record) : Type 0 where
   -- "stays inside what it was lent": each of its stores; and images and room are as long as they were
-  pub inside : let x = effect (e .call) r e in Inside (length (e .images)) (x .shape .block) (x .shape .stripes) (x .stores)
+  pub inside : StoresInside (length (e .images)) (effect (e .call) r e)
   pub long : length (act e r .images) ≡ length (e .images)
   pub room-long : length (act e r .room) ≡ length (e .room)
   -- read "fills a lent block", view the scratch; no other call has one ..
-  pub room : ((b : ℕ) → e .call ≢ read b) → ((b : ℕ) → e .call ≢ view b) → act e r .room ≡ e .room
+  pub room : ¬ FillsRoom (e .call) → act e r .room ≡ e .room
   -- .. and view, "if its disk is out, .. the lent scratch filled with it. Scratch is else untouched."
   pub scratch : (b : ℕ) → e .call ≡ view b → absent (r .health) (placeOf r b .stripe) (placeOf r b .disk) ≡ false → act e r .room ≡ e .room
-  -- five calls store blocks; read, view, out, status, locate and owner leave the images
-  pub images : ((n B T : ℕ) → e .call ≢ format n B T) → ((b : ℕ) (v : List ℕ) → e .call ≢ write b v) → ((m : ℕ) → e .call ≢ grow m)
-      → ((k : ℕ) → e .call ≢ advance k) → ((d : ℕ) → e .call ≢ rebuild d) → act e r .images ≡ e .images
+  -- read, view, out, status, locate and owner leave the images
+  pub images : ¬ StoresBlocks (e .call) → act e r .images ≡ e .images
   -- write: "the data place takes the data, the parity place its old value xor old block xor data; .. All other bytes stay."
   pub write-others : (b : ℕ) (v : List ℕ) → e .call ≡ write b v → (S d : ℕ) → S < r .stripes → d < disksOf r
       → (S ≡ placeOf r b .stripe → (d ≢ placeOf r b .disk) × (d ≢ layout (geometry r) .parity S)) → Stays e r S d
@@ -55,14 +73,14 @@ pub record LeavesAlone (e : Event) (r : Record) : Type 0 where
 
 -- .. and it holds of every call that the table lets through, whatever bytes it is lent
 abbrev pub Alone : Type 0
-Alone = (e : Event) (r : Record) → refusal r (capacity (geometry r)) (fed e) ≡ 0 → LeavesAlone e r
+Alone = (e : Event) (r : Record) → refusalOf r (fed e) ≡ 0 → LeavesAlone e r
 
 -- ---- a single move of an advance: "A move copies the block to its new place, then zeroes the place it left", and nothing else. (An
 -- advance makes one after the other: `InOrder` of Theorem.)
 
 -- the images behind the next move
 abbrev pub movedOn : Record → List ℕ → List ℕ
-movedOn r img = stored (r .block) (r .stripes) (moveStores r img) img
+movedOn r img = storedIn r (moveStores r img) img
 
 -- what is claimed of the next move of a record r on images img ..
 pub record Moves (r : Record) (img : List ℕ) : Type 0 where

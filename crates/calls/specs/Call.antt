@@ -2,6 +2,7 @@
 use Prim.Native.Nat.{ℕ}
 use mathlib.Core.Bool.{Bool, true, false}
 use mathlib.Core.List.{List, [], _∷_}
+use lib.Dec.{eqb}
 use lib.ListN.{length, replicate}
 use Rattle.layout.specs.declared.Place.{Place}
 use Rattle.layout.specs.declared.Role.the-variants.{Data, Parity, Blank}
@@ -22,6 +23,24 @@ pub data Call : Type 0 where
   status : Call
   locate : (b : ℕ) → Call
   owner : (S d : ℕ) → Call
+
+-- which call it is, whatever it is given: its place in document 01's list of calls, and its column in the tables over them
+abbrev pub column : Call → ℕ
+column (format n B T) = 0
+column (read b) = 1
+column (view b) = 2
+column (write b v) = 3
+column (grow m) = 4
+column (advance k) = 5
+column (out d) = 6
+column (rebuild d) = 7
+column status = 8
+column (locate b) = 9
+column (owner S d) = 10
+
+-- the same call, whatever each is given?
+abbrev pub sameCall : Call → Call → Bool
+sameCall x y = eqb (column x) (column y)
 
 -- a call with what it is lent: the images, and as `room` the block that read fills or the scratch of view (calls that take none
 -- do not look at them)

@@ -11,10 +11,11 @@ use Rattle.state.specs.declared.Health.the-variants.{Whole}
 use Rattle.state.specs.declared.Record.{Record}
 use Rattle.state.specs.Good.{geometry}
 use Rattle.state.specs.Bytes.{decode, encode}
-use Rattle.calls.specs.Call.{Call, format, read, view, write, grow, advance, out, rebuild, status, locate, owner, Event, fed, Answer, refused, done, bytes, made, figures, placed, owned}
+use Rattle.calls.specs.Call.{Call, format, read, view, write, grow, advance, out, rebuild, status, locate, owner}
+use Rattle.calls.specs.Call.{Event, fed, Answer, refused, done, bytes, made, figures, placed, owned}
 use Rattle.calls.specs.Health.{absent, afterOut, formatted, grownBy, withMoves, withHealth}
-use Rattle.calls.specs.Images.{placeIn, othersIn, seen, Store, block, header, stored, recorded, unless, fillDisk, zeroDisks}
-use Rattle.calls.specs.Table.{idle, refusal, refusalBytes}
+use Rattle.calls.specs.Images.{placeIn, othersIn, seen, Store, block, header, storedIn, recorded, unless, fillDisk, zeroDisks}
+use Rattle.calls.specs.Table.{idle, refusalOf, refusalBytes}
 
 -- ---- read and view
 
@@ -73,7 +74,7 @@ advanceStores zero r img = []
 advanceStores (suc k) r img =
     elim (idle (geometry r)) [
       | true ↦ []
-      | false ↦ let ps = moveStores r img in ps ++ advanceStores k (recorded ps r) (stored (r .block) (r .stripes) ps img)
+      | false ↦ let ps = moveStores r img in ps ++ advanceStores k (recorded ps r) (storedIn r ps img)
     ]
 
 -- a stripe's parity value behind the first i moves: "the bytes at the place where Layout, with the moves done so far, has its
@@ -81,47 +82,60 @@ advanceStores (suc k) r img =
 unfoldable pub parityAfter : ℕ → Record → List ℕ → ℕ → List ℕ
 parityAfter i r img S =
     let ps = advanceStores i r img in
-    placeIn r (stored (r .block) (r .stripes) ps img) S (layout (geometry (recorded ps r)) .parity S)
+    placeIn r (storedIn r ps img) S (layout (geometry (recorded ps r)) .parity S)
 
--- ---- what a call answers, the block or scratch as it leaves it, and its stores in order, into images of `shape`'s stripes and
--- block length
+-- ---- what a call does: it tells something and leaves everything as it was lent; or it answers bytes and fills the lent block or scratch;
+-- or it makes stores, in order, into images of `shape`'s stripes and block length
 
-pub record Effect : Type 0 where
-  pub answer : Answer
-  pub room : List ℕ
-  pub shape : Record
-  pub stores : List Store
-
-abbrev telling : Record → Event → Answer → Effect
-telling r e a = record { answer = a; room = e .room; shape = r; stores = [] }
-
-abbrev storing : Record → Event → List Store → Effect
-storing r e ps = record { answer = done; room = e .room; shape = r; stores = ps }
+pub data Effect : Type 0 where
+  tells : Answer → Effect
+  fills : (shown room : List ℕ) → Effect
+  stores : Answer → (shape : Record) → List Store → Effect
 
 unfoldable pub effect : Call → Record → Event → Effect
 -- "zeroes the images; record whole, m = t = 0"
-effect (format n B T) r e = storing (formatted n B T) e (zeroDisks B T 0 n ++ header (formatted n B T) ∷ [])
+effect (format n B T) r e = stores done (formatted n B T) (zeroDisks B T 0 n ++ header (formatted n B T) ∷ [])
 -- "fills a lent block"
-effect (read b) r e = record { answer = bytes (blockOf r (e .images) b); room = blockOf r (e .images) b; shape = r; stores = [] }
+effect (read b) r e = fills (blockOf r (e .images) b) (blockOf r (e .images) b)
 effect (view b) r e =
     let room = scratchLeft r (e .images) b (e .room) in
-    record { answer = bytes (viewed (viewOf r b) (e .images) room); room = room; shape = r; stores = [] }
-effect (write b v) r e = storing r e (writeStores r (e .images) b v)
+    fills (viewed (viewOf r b) (e .images) room) room
+effect (write b v) r e = stores done r (writeStores r (e .images) b v)
 -- "given images of n + m disks, zeroes those behind the first n; sets m"
-effect (grow m) r e = storing r e (zeroDisks (r .block) (r .stripes) (r .old) m ++ header (grownBy r m) ∷ [])
+effect (grow m) r e = stores done r (zeroDisks (r .block) (r .stripes) (r .old) m ++ header (grownBy r m) ∷ [])
 -- "reports how many, which is t's rise"
-effect (advance k) r e =
-    let ps = advanceStores k r (e .images) in
-    record { answer = made (recorded ps r .moves - r .moves); room = e .room; shape = r; stores = ps }
-effect (out d) r e = storing r e (header (withHealth r (afterOut (r .health) d)) ∷ [])
+effect (advance k) r e = let ps = advanceStores k r (e .images) in stores (made (recorded ps r .moves - r .moves)) r ps
+effect (out d) r e = stores done r (header (withHealth r (afterOut (r .health) d)) ∷ [])
 -- "writes disk d of every stripe as the xor of the others; health whole"
-effect (rebuild d) r e = storing r e (fillDisk (r .stripes) d (λ S. othersIn r (e .images) S d) ++ header (withHealth r Whole) ∷ [])
+effect (rebuild d) r e = stores done r (fillDisk (r .stripes) d (λ S. othersIn r (e .images) S d) ++ header (withHealth r Whole) ∷ [])
 -- "capacity, t, total, health"
-effect status r e = telling r e (figures (capacity (geometry r)) (r .moves) (totalOf (geometry r)) (r .health))
+effect status r e = tells (figures (capacity (geometry r)) (r .moves) (totalOf (geometry r)) (r .health))
 -- "the stripe and disk of block b"
-effect (locate b) r e = telling r e (placed (placeOf r b))
+effect (locate b) r e = tells (placed (placeOf r b))
 -- "the block number there, or parity, or blank"
-effect (owner S d) r e = telling r e (owned (layout (geometry r) .owner S d))
+effect (owner S d) r e = tells (owned (layout (geometry r) .owner S d))
+
+-- what comes of it: the answer, and what is left of the record, the images, and the block or scratch
+
+abbrev pub answerOf : Effect → Answer
+answerOf (tells a) = a
+answerOf (fills shown room) = bytes shown
+answerOf (stores a shape ps) = a
+
+abbrev pub recordLeft : Effect → Record → Record
+recordLeft (tells a) r = r
+recordLeft (fills shown room) r = r
+recordLeft (stores a shape ps) r = recorded ps r
+
+abbrev pub imagesLeft : Effect → List ℕ → List ℕ
+imagesLeft (tells a) img = img
+imagesLeft (fills shown room) img = img
+imagesLeft (stores a shape ps) img = storedIn shape ps img
+
+abbrev pub roomLeft : Effect → List ℕ → List ℕ
+roomLeft (tells a) lent = lent
+roomLeft (fills shown room) lent = room
+roomLeft (stores a shape ps) lent = lent
 
 -- ---- what a call leaves: its answer, the record (as a record, or as bytes), the images and the block or scratch
 
@@ -135,7 +149,7 @@ pub record Left (R : Type 0) : Type 0 where
 abbrev pub act : Event → Record → Left Record
 act e r =
     let x = effect (e .call) r e in
-    record { answer = x .answer; state = recorded (x .stores) r; images = stored (x .shape .block) (x .shape .stripes) (x .stores) (e .images); room = x .room }
+    record { answer = answerOf x; state = recordLeft x r; images = imagesLeft x (e .images); room = roomLeft x (e .room) }
 
 -- "changes no byte"
 abbrev pub untouched : {R : Type 0} → Event → R → ℕ → Left R
@@ -147,7 +161,7 @@ settle (suc k) kept acted = kept (suc k)
 
 -- a call on a record ..
 unfoldable pub called : Event → Record → Left Record
-called e r = settle (refusal r (capacity (geometry r)) (fed e)) (untouched e r) (act e r)
+called e r = settle (refusalOf r (fed e)) (untouched e r) (act e r)
 
 -- .. and on a record's bytes
 abbrev pub sealed : Left Record → Left (List ℕ)

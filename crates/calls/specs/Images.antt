@@ -42,6 +42,10 @@ stored B T [] img = img
 stored B T (block S d v ∷ ps) img = stored B T ps (store img (offset B T S d) v)
 stored B T (header x ∷ ps) img = stored B T ps img
 
+-- of the images of r
+abbrev pub storedIn : Record → List Store → List ℕ → List ℕ
+storedIn r ps img = stored (r .block) (r .stripes) ps img
+
 -- and of the record
 unfoldable pub recorded : List Store → Record → Record
 recorded [] r = r

@@ -11,24 +11,11 @@ use Rattle.state.specs.declared.Health.the-variants.{Whole, Out, Lost}
 use Rattle.state.specs.declared.Health.{Health}
 use Rattle.state.specs.declared.Record.{Record}
 use Rattle.state.specs.Bytes.{encode}
-use Rattle.calls.specs.Call.{Call, format, read, view, write, grow, advance, out, rebuild, status, locate, owner}
+use Rattle.calls.specs.Call.{Call, column, format, read, view, write, grow, advance, out, rebuild, status, locate, owner}
 use Rattle.calls.specs.Table.{Row, table, refusalBytes}
 
--- ---- which calls each number is for: the table's last column, a line a number, a column a call. `rowwise` proves that the rows of each call are those
+-- ---- which calls each number is for: the table's last column, a line a number, a column a call (`column` of Call). `rowwise` proves that the rows of each call are those
 -- marked here, whatever it is given.
-
-abbrev pub columnOf : Call → ℕ
-columnOf (format n B T) = 0
-columnOf (read b) = 1
-columnOf (view b) = 2
-columnOf (write b v) = 3
-columnOf (grow m) = 4
-columnOf (advance k) = 5
-columnOf (out d) = 6
-columnOf (rebuild d) = 7
-columnOf status = 8
-columnOf (locate b) = 9
-columnOf (owner S d) = 10
 
 abbrev pub marks : List (List ℕ)
 marks =
@@ -47,15 +34,15 @@ marks =
 
 -- the numbers marked in a column, counted from k
 abbrev pub marked : ℕ → ℕ → List (List ℕ) → List ℕ
-marked column k [] = []
-marked column k (line ∷ lines) = cond (eqb (getD line column 0) 1) (k ∷ marked column (suc k) lines) (marked column (suc k) lines)
+marked at k [] = []
+marked at k (line ∷ lines) = cond (eqb (getD line at 0) 1) (k ∷ marked at (suc k) lines) (marked at (suc k) lines)
 
 abbrev pub numbers : List Row → List ℕ
 numbers [] = []
 numbers (x ∷ rows) = x .0 ∷ numbers rows
 
 abbrev pub Rowwise : Type 0
-Rowwise = (c : Call) (short bad : Bool) (r : Record) (cap len room : ℕ) → numbers (table c short bad r cap len room) ≡ marked (columnOf c) 1 marks
+Rowwise = (c : Call) (short bad : Bool) (r : Record) (cap len room : ℕ) → numbers (table c short bad r cap len room) ≡ marked (column c) 1 marks
 
 -- ---- records, as bytes: 3 disks and 15 stripes of 2 bytes, of length 90 and capacity 30 ..
 abbrev pub small : List ℕ

@@ -1,7 +1,7 @@
 -- The refusal words. Document 01: "A number is given if its condition holds and no lower one's does, and else never. 0 is done."
 use Prim.Native.Nat.{ℕ, _*_}
 use mathlib.Core.Bool.{Bool, false, cond, not, _&&_, _||_}
-use mathlib.Core.List.{List, [], _∷_}
+use mathlib.Core.List.{List, [], _∷_, _++_}
 use lib.Dec.{eqb, ltb}
 use lib.ListN.{length}
 use Rattle.layout.specs.declared.Geometry.{Geometry}
@@ -9,7 +9,7 @@ use Rattle.layout.specs.Layout.{totalOf, capacity}
 use Rattle.state.specs.declared.Record.{Record}
 use Rattle.state.specs.Good.{geometry, oldGood, newGood, blockGood, stripesGood, good}
 use Rattle.state.specs.Bytes.{decode, goodBytes}
-use Rattle.calls.specs.Call.{Call, format, read, view, write, grow, advance, out, rebuild, status, locate, owner, Fed}
+use Rattle.calls.specs.Call.{Call, sameCall, format, read, view, write, grow, advance, out, rebuild, status, locate, owner, Fed}
 use Rattle.calls.specs.Health.{isLost, isDegraded, isOut}
 use Rattle.calls.specs.Images.{disksOf, size, sizeWith}
 
@@ -31,8 +31,8 @@ abbrev pub degraded : Record → Row
 degraded r = (3, isDegraded (r .health))
 
 -- "m is not 0"
-abbrev pub grown : Record → Row
-grown r = (4, not (eqb (r .new) 0))
+abbrev pub grownAlready : Record → Row
+grownAlready r = (4, not (eqb (r .new) 0))
 
 -- "m = 0 or t is the total"
 unfoldable pub idle : Geometry → Bool
@@ -64,27 +64,72 @@ blockLength r len = (9, not (eqb len (r .block)))
 abbrev pub disk : Bool → Row
 disk wrong = (10, wrong)
 
--- ---- the table: the rows of each call, the lowest number first. `short` says that the record is not 16 bytes long, `bad` that it is
--- not good; c is the capacity, len the length of the images lent, room that of the block or scratch.
+-- ---- the table, call by call
 
+-- row 7, the images that a call takes: none; any, of a length; or those that stand, of a length
+pub data Takes : Type 0 where
+  nothing : Takes
+  anything : ℕ → Takes
+  those : ℕ → Takes
+
+-- a call's part of the table: its rows from 2 to 6; the images it takes; and its rows from 8 on, by the capacity and the length of the
+-- block or scratch that is lent
+pub record Terms : Type 0 where
+  pub before : List Row
+  pub takes : Takes
+  pub behind : ℕ → ℕ → List Row
+
+abbrev asking : List Row → Takes → (ℕ → ℕ → List Row) → Terms
+asking before takes behind = record { before = before; takes = takes; behind = behind }
+
+abbrev none : ℕ → ℕ → List Row
+none c room = []
+
+unfoldable pub terms : Call → Record → Terms
+terms (format n B T) r = asking (badGeometry (formable n B T) ∷ []) (anything (n * (T * B))) none
+terms (read b) r = asking (lost r ∷ []) (those (size r)) (λ c room. pastEnd b c ∷ blockLength r room ∷ [])
+terms (view b) r = asking (lost r ∷ []) (those (size r)) (λ c room. pastEnd b c ∷ blockLength r room ∷ [])
+terms (write b v) r = asking (lost r ∷ []) (those (size r)) (λ c room. pastEnd b c ∷ blockLength r (length v) ∷ [])
+terms (grow m) r =
+    asking (lost r ∷ degraded r ∷ grownAlready r ∷ badGeometry (newGood (r .old) m (r .stripes)) ∷ []) (those (sizeWith r m)) none
+terms (advance k) r = asking (lost r ∷ degraded r ∷ nothingToMove r ∷ []) (those (size r)) none
+terms (out d) r = asking (lost r ∷ []) nothing (λ c room. disk (not (ltb d (disksOf r)) || isOut (r .health) d) ∷ [])
+terms (rebuild d) r = asking (lost r ∷ []) (those (size r)) (λ c room. disk (not (isOut (r .health) d)) ∷ [])
+terms status r = asking [] nothing none
+terms (locate b) r = asking [] nothing (λ c room. pastEnd b c ∷ [])
+terms (owner S d) r = asking [] nothing (λ c room. pastEnd S (r .stripes) ∷ disk (not (ltb d (disksOf r))) ∷ [])
+
+abbrev pub imagesRow : Takes → ℕ → List Row
+imagesRow nothing len = []
+imagesRow (anything asked) len = images asked len ∷ []
+imagesRow (those asked) len = images asked len ∷ []
+
+-- its rows from 2 on; c is the capacity, len the length of the images lent, room that of the block or scratch
+unfoldable pub laterRows : Call → Record → ℕ → ℕ → ℕ → List Row
+laterRows x r c len room = let t = terms x r in t .before ++ (imagesRow (t .takes) len ++ t .behind c room)
+
+-- does a call look at what the record says? "all but format"
+abbrev pub looks : Call → Bool
+looks x = not (sameCall x (format 0 0 0))
+
+-- all its rows, the lowest number first: `short` says that the record is not 16 bytes long, `bad` that it is not good
 unfoldable pub table : Call → Bool → Bool → Record → ℕ → ℕ → ℕ → List Row
-table (format n B T) short bad r c len room = badRecord short ∷ badGeometry (formable n B T) ∷ images (n * (T * B)) len ∷ []
-table (read b) short bad r c len room = badRecord (short || bad) ∷ lost r ∷ images (size r) len ∷ pastEnd b c ∷ blockLength r room ∷ []
-table (view b) short bad r c len room = badRecord (short || bad) ∷ lost r ∷ images (size r) len ∷ pastEnd b c ∷ blockLength r room ∷ []
-table (write b v) short bad r c len room = badRecord (short || bad) ∷ lost r ∷ images (size r) len ∷ pastEnd b c ∷ blockLength r (length v) ∷ []
-table (grow m) short bad r c len room =
-    badRecord (short || bad) ∷ lost r ∷ degraded r ∷ grown r ∷ badGeometry (newGood (r .old) m (r .stripes)) ∷ images (sizeWith r m) len ∷ []
-table (advance k) short bad r c len room = badRecord (short || bad) ∷ lost r ∷ degraded r ∷ nothingToMove r ∷ images (size r) len ∷ []
-table (out d) short bad r c len room = badRecord (short || bad) ∷ lost r ∷ disk (not (ltb d (disksOf r)) || isOut (r .health) d) ∷ []
-table (rebuild d) short bad r c len room = badRecord (short || bad) ∷ lost r ∷ images (size r) len ∷ disk (not (isOut (r .health) d)) ∷ []
-table status short bad r c len room = badRecord (short || bad) ∷ []
-table (locate b) short bad r c len room = badRecord (short || bad) ∷ pastEnd b c ∷ []
-table (owner S d) short bad r c len room = badRecord (short || bad) ∷ pastEnd S (r .stripes) ∷ disk (not (ltb d (disksOf r))) ∷ []
+table x short bad r c len room = badRecord (cond (looks x) (short || bad) short) ∷ laterRows x r c len room
 
 -- the number of the first row whose condition holds, or 0
 abbrev pub word : List Row → ℕ
 word [] = 0
 word (x ∷ rows) = cond (x .1) (x .0) (word rows)
+
+-- how the rows of many calls begin: 1, 2; 1, 2, 3; and 1, 2, 7
+abbrev pub kept : Record → List Row
+kept r = badRecord (not (good r)) ∷ lost r ∷ []
+
+abbrev pub keptWhole : Record → List Row
+keptWhole r = badRecord (not (good r)) ∷ lost r ∷ degraded r ∷ []
+
+abbrev pub keptLent : Record → ℕ → List Row
+keptLent r len = badRecord (not (good r)) ∷ lost r ∷ images (size r) len ∷ []
 
 -- ---- the number that a call is given
 
@@ -92,9 +137,15 @@ word (x ∷ rows) = cond (x .1) (x .0) (word rows)
 unfoldable pub refusal : Record → ℕ → Fed → ℕ
 refusal r c e = word (table (e .call) false (not (good r)) r c (e .images) (e .room))
 
+-- .. with the record's own ..
+abbrev pub refusalOf : Record → Fed → ℕ
+refusalOf r e = refusal r (capacity (geometry r)) e
+
 -- .. and on a record's bytes
 unfoldable pub rowsBytes : List ℕ → Fed → List Row
-rowsBytes b e = table (e .call) (not (eqb (length b) 16)) (not (goodBytes b)) (decode b) (capacity (geometry (decode b))) (e .images) (e .room)
+rowsBytes b e =
+    let r = decode b in
+    table (e .call) (not (eqb (length b) 16)) (not (goodBytes b)) r (capacity (geometry r)) (e .images) (e .room)
 
 unfoldable pub refusalBytes : List ℕ → Fed → ℕ
 refusalBytes b e = word (rowsBytes b e)

@@ -10,7 +10,7 @@ use lib.ListN.{replicate}
 use Rattle.state.specs.declared.Record.{Record}
 use Rattle.state.specs.Bytes.{encode}
 use Rattle.calls.specs.Call.{Event, fed, accepted, number, shown, beside}
-use Rattle.calls.specs.Images.{stored, recorded}
+use Rattle.calls.specs.Images.{storedIn, recorded}
 use Rattle.calls.specs.Table.{Row, word, rowsBytes, refusalBytes}
 use Rattle.calls.specs.Effect.{advanceStores, called, sealed, calledBytes}
 
@@ -49,7 +49,7 @@ abbrev pub InOrder : Type 0
 InOrder =
     (i k : ℕ) (r : Record) (img : List ℕ) →
     let ps = advanceStores i r img in
-    advanceStores (i + k) r img ≡ ps ++ advanceStores k (recorded ps r) (stored (r .block) (r .stripes) ps img)
+    advanceStores (i + k) r img ≡ ps ++ advanceStores k (recorded ps r) (storedIn r ps img)
 
 -- What is proved of calls on a record's bytes holds of calls on the record. (`on-bytes`)
 abbrev pub OnBytes : Type 0

@@ -1,9 +1,9 @@
--- The array and the flat list, call by call; the sum of the moves; two disks out; the claim of each call, on bytes and on records; what may be lent; a test of fairness.
+-- What a call does to the flat list; the array and the flat list, call by call; the sum of the moves; two disks out; the claim of each call, on bytes and on records; what may be lent; a test of fairness.
+pub mod Look
 pub mod Step
 pub mod Tally
 pub mod Lost
 pub mod Last
-pub mod Asked
 pub mod Claim
 pub mod Records
 pub mod Lending

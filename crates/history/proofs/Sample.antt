@@ -8,10 +8,10 @@ use Rattle.layout.specs.Layout.{openStripes, capacity, grownPlace, grownParity,
 use Rattle.state.specs.Good.{newGood, movesGood, good}
 use Rattle.state.specs.Bytes.{decode, plain, encode}
 use Rattle.calls.specs.Images.{seen, stored, recorded, fillDisk, zeroDisks}
-use Rattle.calls.specs.Table.{idle, formable, table, rowsBytes, refusal, refusalBytes}
+use Rattle.calls.specs.Table.{idle, formable, terms, laterRows, table, rowsBytes, refusal, refusalBytes}
 use Rattle.calls.specs.Effect.{viewOf, scratchLeft, writeStores, moveStores, advanceStores, effect, calledBytes}
 use Rattle.history.specs.Flat.{flatAct, flatStep}
-use Rattle.history.specs.Lent.{asBytes, takes, next}
+use Rattle.history.specs.Lent.{asBytes, next}
 use Rattle.history.specs.Theorem.{outcomes, flatOutcomes}
 use Rattle.history.specs.Sample.{junk, play, script, cabinet, list, Sample}
 use Rattle.history.proofs.Laws.Fairness.{same, below, keeps, lends, fairly, fair}
@@ -21,7 +21,7 @@ unfolding dataDisk homeStripe homeDisk rankOf homeBlock homeOwner moveZone moveT
     lag target turn isMoved diskAt source taken blanksBelow blanks newStripe newDisk newBlock
     openStripes capacity grownPlace grownParity newOwner grownOwner
     newGood movesGood good decode plain encode
-    seen stored recorded fillDisk zeroDisks idle formable table rowsBytes refusal refusalBytes
+    seen stored recorded fillDisk zeroDisks idle formable terms laterRows table rowsBytes refusal refusalBytes
     viewOf scratchLeft writeStores moveStores advanceStores effect calledBytes
-    flatAct flatStep takes next outcomes flatOutcomes junk play same below keeps lends fairly
+    flatAct flatStep next outcomes flatOutcomes junk play same below keeps lends fairly
 sample = record { lent-fairly = fair asBytes (play script cabinet) cabinet list refl; array = refl; flat-list = refl }

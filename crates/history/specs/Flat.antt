@@ -12,7 +12,8 @@ use Rattle.state.specs.declared.Health.the-variants.{Whole, Out, Lost}
 use Rattle.state.specs.declared.Health.{Health}
 use Rattle.state.specs.declared.Record.{Record}
 use Rattle.state.specs.Good.{geometry}
-use Rattle.calls.specs.Call.{Call, format, read, view, write, grow, advance, out, rebuild, status, locate, owner, Fed, Answer, refused, done, bytes, made, figures, placed, owned}
+use Rattle.calls.specs.Call.{Call, format, read, view, write, grow, advance, out, rebuild, status, locate, owner, Fed}
+use Rattle.calls.specs.Call.{Answer, refused, done, bytes, made, figures, placed, owned}
 use Rattle.calls.specs.Table.{refusal}
 
 pub record Flat : Type 0 where
@@ -25,9 +26,13 @@ flat r bs = record { numbers = r; blocks = bs }
 abbrev pub zeroBlocks : ℕ → ℕ → List (List ℕ)
 zeroBlocks c B = replicate c (zeros B)
 
--- "A grow or advance that brings t to the total puts T × m zero blocks behind the list."
+-- the length that the list has by its numbers: T × (n − 1) blocks, and T × m more once t is the total
+abbrev pub reached : Record → ℕ
+reached r = r .stripes * (r .old - 1) + cond (eqb (r .moves) (totalOf (geometry r))) (r .stripes * r .new) 0
+
+-- "A grow or advance that brings t to the total puts T × m zero blocks behind the list.": zero blocks up to that length
 abbrev pub lengthened : Record → List (List ℕ) → List (List ℕ)
-lengthened r bs = cond (eqb (r .moves) (totalOf (geometry r))) (bs ++ zeroBlocks (r .stripes * r .new) (r .block)) bs
+lengthened r bs = bs ++ zeroBlocks (reached r - length bs) (r .block)
 
 -- "Out and rebuild: health as under Calls": "whole becomes out; out with another disk becomes lost"
 abbrev pub fallen : Health → ℕ → Health

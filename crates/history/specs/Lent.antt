@@ -10,9 +10,10 @@ use lib.ListN.{length}
 use Rattle.state.specs.declared.Record.{Record}
 use Rattle.state.specs.Good.{good}
 use Rattle.state.specs.Bytes.{decode, goodBytes, encode}
-use Rattle.calls.specs.Call.{Call, format, read, view, write, grow, advance, out, rebuild, status, locate, owner, Event, accepted}
+use Rattle.calls.specs.Call.{Call, Event, accepted}
 use Rattle.calls.specs.Health.{absent}
-use Rattle.calls.specs.Images.{disksOf, size, sizeWith, placeIn}
+use Rattle.calls.specs.Images.{disksOf, placeIn}
+use Rattle.calls.specs.Table.{Takes, nothing, anything, those, terms}
 use Rattle.calls.specs.Effect.{Left, called, calledBytes}
 
 -- ---- the record in one of its two forms: what a call on it leaves, which record it is, how a record is written in it, when it is good
@@ -38,24 +39,9 @@ pub record Cabinet (R : Type 0) : Type 0 where
 
 -- ---- what may be lent
 
--- the images that a call takes: none, any, or those that stand, of the length that refusal 7 asks for
-pub data Takes : Type 0 where
-  nothing : Takes
-  anything : Takes
-  those : ℕ → Takes
-
-unfoldable pub takes : Call → Record → Takes
-takes (format n B T) r = anything
-takes (read b) r = those (size r)
-takes (view b) r = those (size r)
-takes (write b v) r = those (size r)
-takes (grow m) r = those (sizeWith r m)
-takes (advance k) r = those (size r)
-takes (out d) r = nothing
-takes (rebuild d) r = those (size r)
-takes status r = nothing
-takes (locate b) r = nothing
-takes (owner S d) r = nothing
+-- the images that a call takes: row 7 of its part of the table
+abbrev pub takes : Call → Record → Takes
+takes c r = terms c r .takes
 
 -- every place of `left` stands in `lent`, but those of a disk that is out: "once out (d) is accepted .., and until a rebuild of d
 -- or a format is accepted, disk d may hold any bytes, new ones before each call" (where health is lost, any disk may: no call
@@ -66,7 +52,7 @@ Keeps r left lent = (S d : ℕ) → S < r .stripes → d < disksOf r → absent 
 -- images of the length asked for are those left, with any bytes behind; images of another length are any
 abbrev pub Lent : Takes → Record → List ℕ → List ℕ → Type 0
 Lent nothing r left lent = Unit
-Lent anything r left lent = Unit
+Lent (anything len) r left lent = Unit
 Lent (those len) r left lent = length lent ≡ len → Keeps r left lent
 
 unfoldable pub Lends : Event → Record → List ℕ → Type 0
@@ -80,7 +66,7 @@ leaves x e a = x .call e (a .rec)
 abbrev pub imagesAfter : Bool → Takes → List ℕ → List ℕ → List ℕ
 imagesAfter false t before left = before
 imagesAfter true nothing before left = before
-imagesAfter true anything before left = left
+imagesAfter true (anything len) before left = left
 imagesAfter true (those len) before left = left
 
 unfoldable pub next : {R : Type 0} → Form R → Event → Cabinet R → Cabinet R

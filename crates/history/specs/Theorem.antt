@@ -9,7 +9,7 @@
 -- prove them, and assume nothing.
 use Prim.Native.Nat.{ℕ, suc, _+_, _<_}
 use mathlib.Core.Path.{_≡_}
-use mathlib.Core.Bool.{true, false, cond}
+use mathlib.Core.Bool.{true, false, cond, _||_}
 use mathlib.Core.Logic.{_⊎_, _↔_, _≢_}
 use mathlib.Core.List.{List, [], _∷_, _++_, map}
 use lib.ListN.{length, getD}
@@ -18,29 +18,19 @@ use Rattle.blocks.specs.Block.{zeros}
 use Rattle.state.specs.declared.Health.the-variants.{Out, Lost}
 use Rattle.state.specs.declared.Record.{Record}
 use Rattle.state.specs.Good.{geometry, good}
-use Rattle.calls.specs.Call.{Call, format, read, view, write, grow, advance, out, rebuild, status, locate, owner, Event, Fed, fed, Answer, refused, bytes, accepted, count}
+use Rattle.calls.specs.Call.{Call, sameCall, format, read, view, write, grow, advance, out, Event, Fed, fed, Answer, refused, bytes, accepted, count}
 use Rattle.calls.specs.Health.{isLost, absent}
 use Rattle.calls.specs.Images.{disksOf, size, placeIn, seen}
-use Rattle.calls.specs.Table.{idle, refusal}
+use Rattle.calls.specs.Table.{nothing, those, idle, refusal}
 use Rattle.calls.specs.Effect.{placeOf, parityAfter}
 use Rattle.calls.specs.Sound.{Sound}
 use Rattle.history.specs.Flat.{Flat, flatStep}
-use Rattle.history.specs.Lent.{Form, asBytes, asRecord, Cabinet, nothing, those, takes, Lends, leaves, next}
+use Rattle.history.specs.Lent.{Form, asBytes, asRecord, Cabinet, takes, Lends, leaves, next}
 
 -- "The moves of a growth are the sum of the counts that advance reported since that grow was accepted, no format and no further
 -- grow accepted since": the sum after an accepted call that reported k, and after any call
 unfoldable pub tallied : Call → ℕ → ℕ → ℕ
-tallied (format n B T) k sum = 0
-tallied (read b) k sum = sum
-tallied (view b) k sum = sum
-tallied (write b v) k sum = sum
-tallied (grow m) k sum = 0
-tallied (advance _) k sum = sum + k
-tallied (out d) k sum = sum
-tallied (rebuild d) k sum = sum
-tallied status k sum = sum
-tallied (locate b) k sum = sum
-tallied (owner S d) k sum = sum
+tallied c k sum = cond (sameCall c (format 0 0 0) || sameCall c (grow 0)) 0 (cond (sameCall c (advance 0)) (sum + k) sum)
 
 unfoldable pub tally : Call → Answer → ℕ → ℕ
 tally c a sum = cond (accepted a) (tallied c (count a) sum) sum

@@ -1,4 +1,4 @@
--- What holds of an accepted call by its definition alone. Assumes nothing.
+-- What an accepted call answers, by its definition alone. Assumes nothing.
 use Prim.Native.Nat.{ℕ}
 use mathlib.Core.Path.{_≡_, refl}
 use mathlib.Core.Bool.{true, false}
@@ -6,28 +6,13 @@ use mathlib.Core.List.{List}
 use Rattle.layout.specs.Layout.{layout}
 use Rattle.state.specs.declared.Record.{Record}
 use Rattle.state.specs.Good.{geometry}
-use Rattle.calls.specs.Call.{Call, format, read, view, write, grow, advance, out, rebuild, status, locate, owner, Event, Answer, refused, done, bytes, made, figures, placed, owned, accepted, number}
+use Rattle.calls.specs.Call.{read, view, advance, Event, Answer, refused, done, bytes, made, figures, placed, owned, accepted, number}
 use Rattle.calls.specs.Health.{absent}
 use Rattle.calls.specs.Images.{placeIn, stored, recorded}
 use Rattle.calls.specs.Effect.{placeOf, viewOf, scratchLeft, advanceStores, parityAfter, effect, act}
 
--- its answer is no refusal
-pub accepts : (c : Call) (r : Record) (e : Event) → accepted (effect c r e .answer) ≡ true
-unfolding effect
-accepts (format n B T) r e = refl
-accepts (read b) r e = refl
-accepts (view b) r e = refl
-accepts (write b v) r e = refl
-accepts (grow m) r e = refl
-accepts (advance k) r e = refl
-accepts (out d) r e = refl
-accepts (rebuild d) r e = refl
-accepts status r e = refl
-accepts (locate b) r e = refl
-accepts (owner S d) r e = refl
-
 -- "0 is done"
-zero-done : (a : Answer) → accepted a ≡ true → number a ≡ 0
+pub zero-done : (a : Answer) → accepted a ≡ true → number a ≡ 0
 zero-done (refused k) q = let z : k ≡ 0 = cc in z
 zero-done done q = refl
 zero-done (bytes v) q = refl
@@ -35,9 +20,6 @@ zero-done (made k) q = refl
 zero-done (figures c t total h) q = refl
 zero-done (placed p) q = refl
 zero-done (owned o) q = refl
-
-pub numbered : (c : Call) (r : Record) (e : Event) → number (effect c r e .answer) ≡ 0
-numbered c r e = zero-done (effect c r e .answer) (accepts c r e)
 
 -- a read's bytes are those of the block that it fills
 pub fills : (e : Event) (r : Record) (b : ℕ) → e .call ≡ read b → act e r .answer ≡ bytes (act e r .room)

@@ -9,7 +9,7 @@ use native.Mathlib.Omega.{arith}
 use lib.ListN.{length, getD, length-map, length-replicate}
 use lib.Seq.{ext-getD}
 use Rattle.layout.specs.declared.Geometry.{Geometry}
-use Rattle.layout.specs.Layout.{disks, totalOf, oldBlocks, openStripes, layout, nextStripe, nextFrom, nextTo, after}
+use Rattle.layout.specs.Layout.{capacity, disks, totalOf, oldBlocks, openStripes, layout, nextStripe, nextFrom, nextTo, after}
 use Rattle.layout.specs.Limits.{Good}
 use Rattle.layout.proofs.Laws.Layout.{lawful}
 use Rattle.layout.proofs.Laws.Numbers.{capacity-before, open-none}
@@ -24,7 +24,7 @@ use Rattle.state.specs.Good.{geometry}
 use Rattle.calls.specs.Call.{advance, made}
 use Rattle.calls.specs.Health.{isLost, absent, withMoves}
 use Rattle.calls.specs.Images.{disksOf, size, placeIn, Store, block, stored, recorded}
-use Rattle.calls.specs.Table.{idle, table, word}
+use Rattle.calls.specs.Table.{idle, laterRows, word}
 use Rattle.calls.specs.Effect.{moveStores, advanceStores, parityAfter, effect, act}
 use Rattle.calls.proofs.Laws.Column.{Agree, Stored, relent, reowned, fits-of}
 use Rattle.calls.proofs.Laws.Carry.{carry, stored-carry, parity-carry}
@@ -211,19 +211,19 @@ parity-kept k r img good nz long S lS =
 
 -- ---- the call
 
-module _ (r : Record) (img room : List ℕ) (bs : List (List ℕ)) (lends : length img ≡ size r → Holding r img bs) (k : ℕ) (short bad : Bool) (cap len : ℕ) where
+module _ (r : Record) (img room : List ℕ) (bs : List (List ℕ)) (lends : length img ≡ size r → Holding r img bs) (k : ℕ) (cap len : ℕ) where
   masked : {N T : ℕ} {own : ℕ → ℕ → _} {I : Grid} {cs : List ℕ} (h : Health) → h ≡ Whole → Stored N T own (absent h) I cs → Stored N T own (λ S d. false) I cs
   masked {N} {T} {own} {I} {cs} h q s = subst (λ (x : Health). Stored N T own (absent x) I cs) q s
 
   unmasked : {N T : ℕ} {own : ℕ → ℕ → _} {I : Grid} {cs : List ℕ} (h : Health) → h ≡ Whole → Stored N T own (λ S d. false) I cs → Stored N T own (absent h) I cs
   unmasked {N} {T} {own} {I} {cs} h q s = subst (λ (x : Health). Stored N T own (absent x) I cs) (sym q) s
 
-  pub advances : word (table (advance k) short bad r cap (length img) len) ≡ 0
+  pub advances : word (laterRows (advance k) r cap (length img) len) ≡ 0
       → Leaves (act (record { call = advance k; images = img; room = room }) r) (made (min k (totalOf (geometry r) - r .moves))) (advanced k r)
       (with-new (geometry (advanced k r)) (r .block) bs)
   unfolding effect Standing
   advances z =
-      let q = passed.moves short bad r cap (length img) len k z in
+      let q = passed.moves r cap (length img) len k z in
       let busy : idle (geometry r) ≡ false = q .busy in
       let hw : r .health ≡ Whole = q .all-in in
       let nl : isLost (r .health) ≡ false = rw hw refl in
@@ -256,6 +256,6 @@ module _ (r : Record) (img room : List ℕ) (bs : List (List ℕ)) (lends : leng
               stored = λ nl′ j lj.
                   unmasked (r .health) hw
                   (rw (bytes-with-new (geometry r′) (r .block) bs j)
-                  (stored-with-new (geometry r′) good (λ S d. false) (cellIn r J j) (bytesAt j bs) (length-map bs (λ (x : List ℕ). getD x j 0) ∙ count-old) (p .1 j lj)));
+                  (stored-with-new (geometry r′) good (λ S d. false) (cellIn r J j) (bytesAt j bs) (capacity (geometry r′) - length bs) (length-map bs (λ (x : List ℕ). getD x j 0) ∙ count-old) (p .1 j lj)));
             };
       }

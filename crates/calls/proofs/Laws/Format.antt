@@ -20,7 +20,7 @@ use Rattle.state.proofs.Laws.Tests.{both}
 use Rattle.calls.specs.Call.{format, done}
 use Rattle.calls.specs.Health.{absent, formatted}
 use Rattle.calls.specs.Images.{disksOf, size, Store, stored, zeroDisks}
-use Rattle.calls.specs.Table.{formable, table, word}
+use Rattle.calls.specs.Table.{formable, laterRows, word}
 use Rattle.calls.specs.Effect.{effect, act}
 use Rattle.calls.proofs.Laws.Column.{Mask, Fits, Agree, Even, Holds, Stored}
 use Rattle.calls.proofs.Laws.Stores.{Within, length-stored, cell-stored, stored-last, recorded-last, column-zero, within-zero}
@@ -72,11 +72,11 @@ module _ (n B T : ℕ) where
   unfolding capacity
   empty = omega arith
 
-  module _ (img room : List ℕ) (short bad : Bool) (x : Record) (c k : ℕ) (z : word (table (format n B T) short bad x c (length img) k) ≡ 0) where
+  module _ (img room : List ℕ) (x : Record) (c k : ℕ) (z : word (laterRows (format n B T) x c (length img) k) ≡ 0) where
     pub formats : Leaves (act (record { call = format n B T; images = img; room = room }) x) done r (blank-blocks (T * (n - 1)) B)
     unfolding effect
     formats =
-        let q = passed.formats short bad x c (length img) k n B T z in
+        let q = passed.formats x c (length img) k n B T z in
         let long : length img ≡ size r = q .long ∙ rw (add-zero n) in
         let ps : List Store = zeroDisks B T 0 n in
         let w : Within (disksOf r) B T ps = within-zero B T 0 (disksOf r) n (omega arith) in

@@ -1,5 +1,5 @@
 -- Grow: the images left hold the same list on n + m disks, longer at once if there is nothing to move. Assumes nothing.
-use Prim.Native.Nat.{ℕ, _+_, _*_, _≤_, _<_}
+use Prim.Native.Nat.{ℕ, _-_, _+_, _*_, _≤_, _<_}
 use mathlib.Core.Path.{_≡_, refl, sym, ap, _∙_, subst}
 use mathlib.Core.Bool.{Bool, true, false, cond}
 use mathlib.Core.List.{List}
@@ -24,7 +24,7 @@ use Rattle.state.proofs.Laws.Good.{new-good}
 use Rattle.calls.specs.Call.{grow, done}
 use Rattle.calls.specs.Health.{isLost, absent, grownBy}
 use Rattle.calls.specs.Images.{disksOf, sizeWith, Store, stored, zeroDisks}
-use Rattle.calls.specs.Table.{table, word}
+use Rattle.calls.specs.Table.{laterRows, word}
 use Rattle.calls.specs.Effect.{effect, act}
 use Rattle.calls.proofs.Laws.Column.{Mask, Fits, fits-of, Agree, Even, Holds, Stored, relent}
 use Rattle.calls.proofs.Laws.Stores.{Within, length-stored, cell-stored, stored-last, recorded-last, column-below, column-zero, within-zero}
@@ -65,7 +65,7 @@ module _ (n m T : ℕ) (own own′ : ℕ → ℕ → Role) (old : (S d : ℕ) �
 
 -- ---- on the images
 
-module _ (r : Record) (left img room : List ℕ) (bs : List (List ℕ)) (h : Holding r left bs) (m : ℕ) (lends : length img ≡ sizeWith r m → Kept r left img) (short bad : Bool) (c k : ℕ) where
+module _ (r : Record) (left img room : List ℕ) (bs : List (List ℕ)) (h : Holding r left bs) (m : ℕ) (lends : length img ≡ sizeWith r m → Kept r left img) (c k : ℕ) where
   abbrev g : Geometry
   g = geometry r
 
@@ -90,11 +90,11 @@ module _ (r : Record) (left img room : List ℕ) (bs : List (List ℕ)) (h : Hol
   unfolding capacity
   count-old z = h .count ∙ omega (arith, ap (λ (x : ℕ). openStripes g * x) z)
 
-  pub grows : word (table (grow m) short bad r c (length img) k) ≡ 0
+  pub grows : word (laterRows (grow m) r c (length img) k) ≡ 0
       → Leaves (act (record { call = grow m; images = img; room = room }) r) done (grownBy r m) (with-new g′ (r .block) bs)
   unfolding effect Agree
   grows z =
-      let q = passed.grows short bad r c (length img) k m z in
+      let q = passed.grows r c (length img) k m z in
       let hw : r .health ≡ Whole = q .all-in in
       let nl : isLost (r .health) ≡ false = rw hw refl in
       let mz : r .new ≡ 0 = q .first in
@@ -119,7 +119,7 @@ module _ (r : Record) (left img room : List ℕ) (bs : List (List ℕ)) (h : Hol
       (λ S d lS ld. cell-stored (r .block) (r .stripes) (r .old + m) ps img w long j S d lj lS ∙ column-below (r .block) (r .stripes) (r .old) j m (cellIn r img j) S d lS ld)
       (λ S d lS lo hi. cell-stored (r .block) (r .stripes) (r .old + m) ps img w long j S d lj lS ∙ column-zero (r .block) (r .stripes) (r .old) j m (cellIn r img j) S d lS lo hi) in
       rw (bytes-with-new g′ (r .block) bs j)
-      (stored-with-new g′ good (absent (r .health)) (cellIn r J j) (bytesAt j bs) (length-map bs (λ (y : List ℕ). getD y j 0) ∙ count-old mz) s₃) in
+      (stored-with-new g′ good (absent (r .health)) (cellIn r J j) (bytesAt j bs) (capacity g′ - length bs) (length-map bs (λ (y : List ℕ). getD y j 0) ∙ count-old mz) s₃) in
       record {
         answer = refl;
         state = recorded-last ps x r;

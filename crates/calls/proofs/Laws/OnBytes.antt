@@ -1,7 +1,7 @@
 -- A call on a record's bytes is the call on the record. Assumes nothing.
 use Prim.Native.Nat.{ℕ, zero, suc}
 use mathlib.Core.Path.{_≡_, refl, ap₂}
-use mathlib.Core.Bool.{Bool, true, false, not}
+use mathlib.Core.Bool.{Bool, true, false, cond, not, _||_}
 use mathlib.Core.Logic.{_≢_}
 use mathlib.Core.List.{List}
 use native.Mathlib.Omega.{arith}
@@ -12,13 +12,13 @@ use Rattle.state.specs.declared.Record.{Record}
 use Rattle.state.specs.Good.{geometry, good}
 use Rattle.state.specs.Bytes.{decode, plain, goodBytes, encode}
 use Rattle.state.proofs.Laws.Bytes.{decode-encode, length-encode, plain-encode}
-use Rattle.calls.specs.Call.{Call, format, read, view, write, grow, advance, out, rebuild, status, locate, owner, Event, on, Fed, fed, accepted}
+use Rattle.calls.specs.Call.{Call, format, Event, on, Fed, fed, accepted}
 use Rattle.calls.specs.Health.{formatted}
 use Rattle.calls.specs.Images.{zeroDisks}
-use Rattle.calls.specs.Table.{word, table, refusal, rowsBytes, refusalBytes}
+use Rattle.calls.specs.Table.{looks, terms, laterRows, table, word, refusal, rowsBytes, refusalBytes}
 use Rattle.calls.specs.Effect.{effect, Left, act, untouched, settle, called, sealed, calledBytes}
 use Rattle.calls.proofs.Laws.Stores.{recorded-last}
-use Rattle.calls.proofs.Laws.Acting.{accepts}
+use Rattle.calls.proofs.Laws.Kinds.{facts}
 
 pub good-encode : (r : Record) → goodBytes (encode r) ≡ good r
 good-encode r = rw (plain-encode r, decode-encode r)
@@ -37,48 +37,19 @@ on-bytes e r = rw (refusal-encode r (fed e), decode-encode r) (go (refusal r (ca
 
 -- ---- the same by the bytes lent, for a call that decodes them
 
--- does a call look at the record?
-abbrev pub looks : Call → Bool
-looks (format n B T) = false
-looks (read b) = true
-looks (view b) = true
-looks (write b v) = true
-looks (grow m) = true
-looks (advance k) = true
-looks (out d) = true
-looks (rebuild d) = true
-looks status = true
-looks (locate b) = true
-looks (owner S d) = true
-
-module _ (bad : Bool) (r : Record) (cap len room : ℕ) where
-  short-first : (c : Call) → word (table c true bad r cap len room) ≡ 1
+-- row 1, whatever the call
+module _ (bad : Bool) (r : Record) (cap len room : ℕ) (c : Call) where
+  short-first : word (table c true bad r cap len room) ≡ 1
   unfolding table
-  short-first (format n B T) = refl
-  short-first (read b) = refl
-  short-first (view b) = refl
-  short-first (write b v) = refl
-  short-first (grow m) = refl
-  short-first (advance k) = refl
-  short-first (out d) = refl
-  short-first (rebuild d) = refl
-  short-first status = refl
-  short-first (locate b) = refl
-  short-first (owner S d) = refl
+  short-first = go (looks c)
+    where
+      go : (l : Bool) → _≡_ {A = ℕ} (cond (cond l (true || bad) true) 1 (word (laterRows c r cap len room))) 1
+      go true = refl
+      go false = refl
 
-  bad-first : (c : Call) → looks c ≡ true → bad ≡ true → word (table c false bad r cap len room) ≡ 1
+  bad-first : looks c ≡ true → bad ≡ true → word (table c false bad r cap len room) ≡ 1
   unfolding table
-  bad-first (format n B T) l q = absurd (let w : _≡_ {A = ℕ} 0 1 = cc in omega arith)
-  bad-first (read b) l q = rw q refl
-  bad-first (view b) l q = rw q refl
-  bad-first (write b v) l q = rw q refl
-  bad-first (grow m) l q = rw q refl
-  bad-first (advance k) l q = rw q refl
-  bad-first (out d) l q = rw q refl
-  bad-first (rebuild d) l q = rw q refl
-  bad-first status l q = rw q refl
-  bad-first (locate b) l q = rw q refl
-  bad-first (owner S d) l q = rw q refl
+  bad-first l q = rw (l, q) refl
 
 -- bytes that are not 16, or that no record is written as
 pub bytes-short : (e : Event) (b : List ℕ) → length b ≢ 16 → calledBytes e b ≡ untouched e b 1
@@ -100,7 +71,7 @@ pub record Seals (b : List ℕ) (x : Left (List ℕ)) (y : Left Record) : Type 0
 
 seals : (e : Event) (b : List ℕ) (r : Record) (n : ℕ) → Seals b (settle n (untouched e b) (sealed (act e r))) (settle n (untouched e r) (act e r))
 seals e b r zero =
-    let no-refusal : accepted (act e r .answer) ≡ true = accepts (e .call) r e in
+    let no-refusal : accepted (act e r .answer) ≡ true = facts r e (e .call) .accepts in
     record { answer = refl; images = refl; room = refl; kept = λ q. absurd (let w : _≡_ {A = ℕ} 0 1 = cc in omega arith); written = λ q. refl }
 seals e b r (suc n) = record { answer = refl; images = refl; room = refl; kept = λ q. refl; written = λ q. absurd (let w : _≡_ {A = ℕ} 0 1 = cc in omega arith) }
 
@@ -120,7 +91,7 @@ module _ (n B T : ℕ) (img room b : List ℕ) (r : Record) (long : length b ≡
   e = on (format n B T) img room
 
   as-on : refusalBytes b (fed e) ≡ refusal r (capacity (geometry r)) (fed e)
-  unfolding refusalBytes rowsBytes refusal table
+  unfolding refusalBytes rowsBytes refusal table laterRows terms
   as-on = rw long refl
 
   acts-as-on : act e (decode b) ≡ act e r

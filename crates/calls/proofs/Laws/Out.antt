@@ -13,7 +13,7 @@ use Rattle.state.specs.Good.{geometry, OutBelow}
 use Rattle.calls.specs.Call.{out}
 use Rattle.calls.specs.Health.{isLost, absent, afterOut, withHealth}
 use Rattle.calls.specs.Images.{disksOf}
-use Rattle.calls.specs.Table.{table, word}
+use Rattle.calls.specs.Table.{laterRows, word}
 use Rattle.calls.proofs.Laws.Column.{reseen}
 use Rattle.calls.proofs.Laws.Holding.{Holding, bytesAt, cellIn, single}
 use Rattle.calls.proofs.Laws.Passed as passed
@@ -22,7 +22,7 @@ use Rattle.calls.proofs.Laws.Passed as passed
 pub lost-by : (o d : ℕ) → afterOut (Out o) d ≡ Lost
 lost-by o d = refl
 
-module _ (r : Record) (left : List ℕ) (bs : List (List ℕ)) (h : Holding r left bs) (d : ℕ) (short bad : Bool) (c len room : ℕ) where
+module _ (r : Record) (left : List ℕ) (bs : List (List ℕ)) (h : Holding r left bs) (d : ℕ) (c len room : ℕ) where
   out-below : (x : Health) → d < disksOf r → OutBelow (disksOf r) (afterOut x d)
   out-below Whole l = l
   out-below (Out o) l = tt
@@ -35,9 +35,9 @@ module _ (r : Record) (left : List ℕ) (bs : List (List ℕ)) (h : Holding r le
   same-seen (Out o) u j S e q = absurd (let w : _≡_ {A = ℕ} 0 1 = cc in omega arith)
   same-seen Lost u j S e q = absurd (let w : _≡_ {A = ℕ} 0 1 = cc in omega arith)
 
-  pub outs : word (table (out d) short bad r c len room) ≡ 0 → Holding (withHealth r (afterOut (r .health) d)) left bs
+  pub outs : word (laterRows (out d) r c len room) ≡ 0 → Holding (withHealth r (afterOut (r .health) d)) left bs
   outs z =
-      let q = passed.falls short bad r c len room d z in
+      let q = passed.falls r c len room d z in
       record {
         limits = record { array = h .limits .array; block-low = h .limits .block-low; block-high = h .limits .block-high; out = out-below (r .health) (q .disk-lt) };
         long = h .long;

@@ -1,7 +1,7 @@
--- What a call has passed that the table lets through, call by call. Assumes nothing.
+-- What a call has passed that the table lets through: a good record, if it looks at it, and then call by call. Assumes nothing.
 use Prim.Native.Nat.{ℕ, _*_, _<_}
 use mathlib.Core.Path.{_≡_, refl, sym, ap}
-use mathlib.Core.Bool.{Bool, true, false, not, _||_}
+use mathlib.Core.Bool.{Bool, true, false, cond, not, _||_}
 use mathlib.Core.List.{List}
 use native.Mathlib.Omega.{arith}
 use lib.Dec.{eqb, ltb}
@@ -10,11 +10,13 @@ use borrow.Author.Tests.{eqb-true, not-false}
 use Rattle.state.specs.declared.Health.the-variants.{Whole, Out, Lost}
 use Rattle.state.specs.declared.Health.{Health}
 use Rattle.state.specs.declared.Record.{Record}
-use Rattle.state.specs.Good.{geometry, newGood}
-use Rattle.calls.specs.Call.{format, read, view, write, grow, advance, out, rebuild, status, locate, owner}
+use Rattle.layout.specs.Layout.{capacity}
+use Rattle.state.specs.Good.{geometry, newGood, good}
+use Rattle.state.specs.Bytes.{decode, goodBytes}
+use Rattle.calls.specs.Call.{Call, Fed, format, read, view, write, grow, advance, out, rebuild, locate, owner}
 use Rattle.calls.specs.Health.{isLost, isDegraded, isOut}
 use Rattle.calls.specs.Images.{disksOf, size, sizeWith}
-use Rattle.calls.specs.Table.{idle, formable, word, table}
+use Rattle.calls.specs.Table.{idle, formable, looks, terms, laterRows, word, table, refusal, rowsBytes, refusalBytes}
 use Rattle.calls.proofs.Laws.Table.{passes, equal, below, neither}
 
 -- every disk is in
@@ -33,131 +35,130 @@ pub record Formats (n B T len : ℕ) : Type 0 where
   pub fits : formable n B T ≡ true
   pub long : len ≡ n * (T * B)
 
--- read, view and write, with a block or data of room bytes; bad is row 1's condition
-pub record Reaches (bad : Bool) (r : Record) (c len b room : ℕ) : Type 0 where
-  pub good : bad ≡ false
+-- read, view and write, with a block or data of room bytes
+pub record Reaches (r : Record) (c len b room : ℕ) : Type 0 where
   pub here : isLost (r .health) ≡ false
   pub long : len ≡ size r
   pub block-lt : b < c
   pub whole : room ≡ r .block
 
-pub record Grows (bad : Bool) (r : Record) (len m : ℕ) : Type 0 where
-  pub good : bad ≡ false
+pub record Grows (r : Record) (len m : ℕ) : Type 0 where
   pub all-in : r .health ≡ Whole
   pub first : r .new ≡ 0
   pub fits : newGood (r .old) m (r .stripes) ≡ true
   pub long : len ≡ sizeWith r m
 
-pub record Moves (bad : Bool) (r : Record) (len : ℕ) : Type 0 where
-  pub good : bad ≡ false
+pub record Moves (r : Record) (len : ℕ) : Type 0 where
   pub all-in : r .health ≡ Whole
   pub busy : idle (geometry r) ≡ false
   pub long : len ≡ size r
 
-pub record Falls (bad : Bool) (r : Record) (d : ℕ) : Type 0 where
-  pub good : bad ≡ false
+pub record Falls (r : Record) (d : ℕ) : Type 0 where
   pub here : isLost (r .health) ≡ false
   pub disk-lt : d < disksOf r
   pub still-in : isOut (r .health) d ≡ false
 
-pub record Rebuilds (bad : Bool) (r : Record) (len d : ℕ) : Type 0 where
-  pub good : bad ≡ false
+pub record Rebuilds (r : Record) (len d : ℕ) : Type 0 where
   pub is-out : r .health ≡ Out d
   pub long : len ≡ size r
 
-pub record Asks (bad : Bool) : Type 0 where
-  pub good : bad ≡ false
-
-pub record Locates (bad : Bool) (c b : ℕ) : Type 0 where
-  pub good : bad ≡ false
-  pub block-lt : b < c
-
-pub record Owns (bad : Bool) (r : Record) (S d : ℕ) : Type 0 where
-  pub good : bad ≡ false
+pub record Owns (r : Record) (S d : ℕ) : Type 0 where
   pub stripe-lt : S < r .stripes
   pub disk-lt : d < disksOf r
 
-module _ (short bad : Bool) (r : Record) (c len room : ℕ) where
-  pub formats : (n B T : ℕ) → word (table (format n B T) short bad r c len room) ≡ 0 → Formats n B T len
-  unfolding table
+-- ---- row 1, of every call
+
+-- a call that is let through passes the rows behind it
+pub passed-on : (x : Call) (short bad : Bool) (r : Record) (c len room : ℕ) → word (table x short bad r c len room) ≡ 0 → word (laterRows x r c len room) ≡ 0
+unfolding table
+passed-on x short bad r c len room z = passes (cond (looks x) (short || bad) short) 0 (word (laterRows x r c len room)) z .1
+
+pub passed : (r : Record) (c : ℕ) (e : Fed) → refusal r c e ≡ 0 → word (laterRows (e .call) r c (e .images) (e .room)) ≡ 0
+unfolding refusal
+passed r c e z = passed-on (e .call) false (not (good r)) r c (e .images) (e .room) z
+
+pub passed-bytes : (b : List ℕ) (e : Fed) → refusalBytes b e ≡ 0 → word (laterRows (e .call) (decode b) (capacity (geometry (decode b))) (e .images) (e .room)) ≡ 0
+unfolding refusalBytes rowsBytes
+passed-bytes b e z =
+    let r : Record = decode b in
+    passed-on (e .call) (not (eqb (length b) 16)) (not (goodBytes b)) r (capacity (geometry r)) (e .images) (e .room) z
+
+-- and if it looks at the record, that is good
+pub was-good : (r : Record) (c : ℕ) (e : Fed) → looks (e .call) ≡ true → refusal r c e ≡ 0 → good r ≡ true
+unfolding refusal table
+was-good r c e l z =
+    let p = passes (cond (looks (e .call)) (false || not (good r)) false) 0 (word (laterRows (e .call) r c (e .images) (e .room))) z .0 in
+    not-false _ (rw l at p)
+
+-- ---- the rows behind it
+
+module _ (r : Record) (c len room : ℕ) where
+  pub formats : (n B T : ℕ) → word (laterRows (format n B T) r c len room) ≡ 0 → Formats n B T len
+  unfolding laterRows terms
   formats n B T z =
-      let (p₁, z₁) = passes short 0 _ z in
-      let (p₆, z₆) = passes (not (formable n B T)) 5 _ z₁ in
+      let (p₆, z₆) = passes (not (formable n B T)) 5 _ z in
       let (p₇, z₇) = passes (not (eqb len (n * (T * B)))) 6 _ z₆ in
       record { fits = not-false _ p₆; long = equal len (n * (T * B)) p₇ }
 
-  pub reads : (b : ℕ) → word (table (read b) short bad r c len room) ≡ 0 → Reaches (short || bad) r c len b room
-  unfolding table
+  pub reads : (b : ℕ) → word (laterRows (read b) r c len room) ≡ 0 → Reaches r c len b room
+  unfolding laterRows terms
   reads b z =
-      let (p₁, z₁) = passes (short || bad) 0 _ z in
-      let (p₂, z₂) = passes (isLost (r .health)) 1 _ z₁ in
+      let (p₂, z₂) = passes (isLost (r .health)) 1 _ z in
       let (p₇, z₇) = passes (not (eqb len (size r))) 6 _ z₂ in
       let (p₈, z₈) = passes (not (ltb b c)) 7 _ z₇ in
       let (p₉, z₉) = passes (not (eqb room (r .block))) 8 _ z₈ in
-      record { good = p₁; here = p₂; long = equal len (size r) p₇; block-lt = below b c p₈; whole = equal room (r .block) p₉ }
+      record { here = p₂; long = equal len (size r) p₇; block-lt = below b c p₈; whole = equal room (r .block) p₉ }
 
-  pub views : (b : ℕ) → word (table (view b) short bad r c len room) ≡ 0 → Reaches (short || bad) r c len b room
-  unfolding table
+  pub views : (b : ℕ) → word (laterRows (view b) r c len room) ≡ 0 → Reaches r c len b room
+  unfolding laterRows terms
   views b z = reads b z
 
-  pub grows : (m : ℕ) → word (table (grow m) short bad r c len room) ≡ 0 → Grows (short || bad) r len m
-  unfolding table
+  pub grows : (m : ℕ) → word (laterRows (grow m) r c len room) ≡ 0 → Grows r len m
+  unfolding laterRows terms
   grows m z =
-      let (p₁, z₁) = passes (short || bad) 0 _ z in
-      let (p₂, z₂) = passes (isLost (r .health)) 1 _ z₁ in
+      let (p₂, z₂) = passes (isLost (r .health)) 1 _ z in
       let (p₃, z₃) = passes (isDegraded (r .health)) 2 _ z₂ in
       let (p₄, z₄) = passes (not (eqb (r .new) 0)) 3 _ z₃ in
       let (p₆, z₆) = passes (not (newGood (r .old) m (r .stripes))) 5 _ z₄ in
       let (p₇, z₇) = passes (not (eqb len (sizeWith r m))) 6 _ z₆ in
-      record { good = p₁; all-in = all-in (r .health) p₃; first = equal (r .new) 0 p₄; fits = not-false _ p₆; long = equal len (sizeWith r m) p₇ }
+      record { all-in = all-in (r .health) p₃; first = equal (r .new) 0 p₄; fits = not-false _ p₆; long = equal len (sizeWith r m) p₇ }
 
-  pub moves : (k : ℕ) → word (table (advance k) short bad r c len room) ≡ 0 → Moves (short || bad) r len
-  unfolding table
+  pub moves : (k : ℕ) → word (laterRows (advance k) r c len room) ≡ 0 → Moves r len
+  unfolding laterRows terms
   moves k z =
-      let (p₁, z₁) = passes (short || bad) 0 _ z in
-      let (p₂, z₂) = passes (isLost (r .health)) 1 _ z₁ in
+      let (p₂, z₂) = passes (isLost (r .health)) 1 _ z in
       let (p₃, z₃) = passes (isDegraded (r .health)) 2 _ z₂ in
       let (p₅, z₅) = passes (idle (geometry r)) 4 _ z₃ in
       let (p₇, z₇) = passes (not (eqb len (size r))) 6 _ z₅ in
-      record { good = p₁; all-in = all-in (r .health) p₃; busy = p₅; long = equal len (size r) p₇ }
+      record { all-in = all-in (r .health) p₃; busy = p₅; long = equal len (size r) p₇ }
 
-  pub falls : (d : ℕ) → word (table (out d) short bad r c len room) ≡ 0 → Falls (short || bad) r d
-  unfolding table
+  pub falls : (d : ℕ) → word (laterRows (out d) r c len room) ≡ 0 → Falls r d
+  unfolding laterRows terms
   falls d z =
-      let (p₁, z₁) = passes (short || bad) 0 _ z in
-      let (p₂, z₂) = passes (isLost (r .health)) 1 _ z₁ in
+      let (p₂, z₂) = passes (isLost (r .health)) 1 _ z in
       let (p₁₀, z₁₀) = passes (not (ltb d (disksOf r)) || isOut (r .health) d) 9 _ z₂ in
       let (l, o) = neither (not (ltb d (disksOf r))) (isOut (r .health) d) p₁₀ in
-      record { good = p₁; here = p₂; disk-lt = below d (disksOf r) l; still-in = o }
+      record { here = p₂; disk-lt = below d (disksOf r) l; still-in = o }
 
-  pub rebuilds : (d : ℕ) → word (table (rebuild d) short bad r c len room) ≡ 0 → Rebuilds (short || bad) r len d
-  unfolding table
+  pub rebuilds : (d : ℕ) → word (laterRows (rebuild d) r c len room) ≡ 0 → Rebuilds r len d
+  unfolding laterRows terms
   rebuilds d z =
-      let (p₁, z₁) = passes (short || bad) 0 _ z in
-      let (p₂, z₂) = passes (isLost (r .health)) 1 _ z₁ in
+      let (p₂, z₂) = passes (isLost (r .health)) 1 _ z in
       let (p₇, z₇) = passes (not (eqb len (size r))) 6 _ z₂ in
       let (p₁₀, z₁₀) = passes (not (isOut (r .health) d)) 9 _ z₇ in
-      record { good = p₁; is-out = which (r .health) d p₂ (not-false _ p₁₀); long = equal len (size r) p₇ }
+      record { is-out = which (r .health) d p₂ (not-false _ p₁₀); long = equal len (size r) p₇ }
 
-  pub asks : word (table status short bad r c len room) ≡ 0 → Asks (short || bad)
-  unfolding table
-  asks z = record { good = passes (short || bad) 0 _ z .0 }
+  pub locates : (b : ℕ) → word (laterRows (locate b) r c len room) ≡ 0 → b < c
+  unfolding laterRows terms
+  locates b z = let (p₈, z₈) = passes (not (ltb b c)) 7 _ z in below b c p₈
 
-  pub locates : (b : ℕ) → word (table (locate b) short bad r c len room) ≡ 0 → Locates (short || bad) c b
-  unfolding table
-  locates b z =
-      let (p₁, z₁) = passes (short || bad) 0 _ z in
-      let (p₈, z₈) = passes (not (ltb b c)) 7 _ z₁ in
-      record { good = p₁; block-lt = below b c p₈ }
-
-  pub owns : (S d : ℕ) → word (table (owner S d) short bad r c len room) ≡ 0 → Owns (short || bad) r S d
-  unfolding table
+  pub owns : (S d : ℕ) → word (laterRows (owner S d) r c len room) ≡ 0 → Owns r S d
+  unfolding laterRows terms
   owns S d z =
-      let (p₁, z₁) = passes (short || bad) 0 _ z in
-      let (p₈, z₈) = passes (not (ltb S (r .stripes))) 7 _ z₁ in
+      let (p₈, z₈) = passes (not (ltb S (r .stripes))) 7 _ z in
       let (p₁₀, z₁₀) = passes (not (ltb d (disksOf r))) 9 _ z₈ in
-      record { good = p₁; stripe-lt = below S (r .stripes) p₈; disk-lt = below d (disksOf r) p₁₀ }
+      record { stripe-lt = below S (r .stripes) p₈; disk-lt = below d (disksOf r) p₁₀ }
 
-pub writes : (short bad : Bool) (r : Record) (c len room b : ℕ) (v : List ℕ) → word (table (write b v) short bad r c len room) ≡ 0 → Reaches (short || bad) r c len b (length v)
-unfolding table
-writes short bad r c len room b v z = reads short bad r c len (length v) b z
+pub writes : (r : Record) (c len room b : ℕ) (v : List ℕ) → word (laterRows (write b v) r c len room) ≡ 0 → Reaches r c len b (length v)
+unfolding laterRows terms
+writes r c len room b v z = reads r c len (length v) b z

@@ -11,7 +11,7 @@ use Rattle.state.specs.Good.{geometry}
 use Rattle.calls.specs.Call.{read, view, bytes}
 use Rattle.calls.specs.Health.{absent}
 use Rattle.calls.specs.Images.{size, placeIn, othersIn, seen, stored, recorded}
-use Rattle.calls.specs.Table.{table, word}
+use Rattle.calls.specs.Table.{laterRows, word}
 use Rattle.calls.specs.Effect.{placeOf, blockOf, part, scratch, viewOf, scratchLeft, viewed, effect, act}
 use Rattle.calls.proofs.Laws.Holding.{Holding, Leaves, block-is}
 use Rattle.calls.proofs.Laws.Passed as passed
@@ -32,16 +32,16 @@ viewed-is r img room b = go (absent (r .health) S d)
     go true = refl
     go false = refl
 
-module _ (r : Record) (img room : List ℕ) (bs : List (List ℕ)) (lends : length img ≡ size r → Holding r img bs) (b : ℕ) (short bad : Bool) where
-  given : Reaches (short || bad) r (capacity (geometry r)) (length img) b (length room) → (blockOf r img b ≡ getD bs b []) × Holding r img bs
+module _ (r : Record) (img room : List ℕ) (bs : List (List ℕ)) (lends : length img ≡ size r → Holding r img bs) (b : ℕ) where
+  given : Reaches r (capacity (geometry r)) (length img) b (length room) → (blockOf r img b ≡ getD bs b []) × Holding r img bs
   given q = let h : Holding r img bs = lends (q .long) in (block-is r img bs h b (q .block-lt) (q .here), h)
 
-  pub reads : word (table (read b) short bad r (capacity (geometry r)) (length img) (length room)) ≡ 0
+  pub reads : word (laterRows (read b) r (capacity (geometry r)) (length img) (length room)) ≡ 0
       → Leaves (act (record { call = read b; images = img; room = room }) r) (bytes (getD bs b [])) r bs
   unfolding effect stored recorded
-  reads z = let (p, h) = given (passed.reads short bad r (capacity (geometry r)) (length img) (length room) b z) in record { answer = ap bytes p; state = refl; holding = h }
+  reads z = let (p, h) = given (passed.reads r (capacity (geometry r)) (length img) (length room) b z) in record { answer = ap bytes p; state = refl; holding = h }
 
-  pub views : word (table (view b) short bad r (capacity (geometry r)) (length img) (length room)) ≡ 0
+  pub views : word (laterRows (view b) r (capacity (geometry r)) (length img) (length room)) ≡ 0
       → Leaves (act (record { call = view b; images = img; room = room }) r) (bytes (getD bs b [])) r bs
   unfolding effect stored recorded
-  views z = let (p, h) = given (passed.views short bad r (capacity (geometry r)) (length img) (length room) b z) in record { answer = ap bytes (viewed-is r img room b ∙ p); state = refl; holding = h }
+  views z = let (p, h) = given (passed.views r (capacity (geometry r)) (length img) (length room) b z) in record { answer = ap bytes (viewed-is r img room b ∙ p); state = refl; holding = h }

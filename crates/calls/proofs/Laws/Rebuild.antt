@@ -18,7 +18,7 @@ use Rattle.state.specs.Good.{geometry, OutBelow}
 use Rattle.calls.specs.Call.{rebuild, done}
 use Rattle.calls.specs.Health.{isLost, absent, withHealth}
 use Rattle.calls.specs.Images.{disksOf, size, othersIn, Store, stored, fillDisk}
-use Rattle.calls.specs.Table.{table, word}
+use Rattle.calls.specs.Table.{laterRows, word}
 use Rattle.calls.specs.Effect.{effect, act}
 use Rattle.calls.proofs.Laws.Column.{reseen}
 use Rattle.calls.proofs.Laws.Stores.{length-stored, cell-stored, stored-last, recorded-last, column-fill, within-fill}
@@ -33,7 +33,7 @@ put-seen N I d e = go (ℕ-discrete e d)
     go (yes q) = rw (q, put-same I d (rest N d I), eq-eqb d d refl)
     go (no n) = rw (put-other I d (rest N d I) e n, ne-eqb e d n)
 
-module _ (r : Record) (img room : List ℕ) (bs : List (List ℕ)) (lends : length img ≡ size r → Holding r img bs) (d : ℕ) (short bad : Bool) (c k : ℕ) where
+module _ (r : Record) (img room : List ℕ) (bs : List (List ℕ)) (lends : length img ≡ size r → Holding r img bs) (d : ℕ) (c k : ℕ) where
   abbrev ps : List Store
   ps = fillDisk (r .stripes) d (λ S. othersIn r img S d)
 
@@ -47,11 +47,11 @@ module _ (r : Record) (img room : List ℕ) (bs : List (List ℕ)) (lends : leng
       ∙ ap (λ (x : ℕ). put (cellIn r img j S) d x e) (getD-others (r .block) (r .stripes) img S (disksOf r) d j lj)
       ∙ put-seen (disksOf r) (cellIn r img j S) d e
 
-  pub rebuilds : word (table (rebuild d) short bad r c (length img) k) ≡ 0
+  pub rebuilds : word (laterRows (rebuild d) r c (length img) k) ≡ 0
       → Leaves (act (record { call = rebuild d; images = img; room = room }) r) done (withHealth r Whole) bs
   unfolding effect
   rebuilds z =
-      let q = passed.rebuilds short bad r c (length img) k d z in
+      let q = passed.rebuilds r c (length img) k d z in
       let long : length img ≡ size r = q .long in
       let h : Holding r img bs = lends long in
       let hd : r .health ≡ Out d = q .is-out in

@@ -8,9 +8,9 @@ use native.Mathlib.Omega.{arith}
 use lib.Dec.{eqb}
 use lib.ListN.{getD}
 use Rattle.state.specs.declared.Record.{Record}
-use Rattle.calls.specs.Call.{Call}
+use Rattle.calls.specs.Call.{Call, column}
 use Rattle.calls.specs.Table.{Row, table, word}
-use Rattle.calls.specs.Refusals.{columnOf, marks, marked, numbers}
+use Rattle.calls.specs.Refusals.{marks, marked, numbers}
 use Rattle.calls.specs.Theorem.{NoneHolds, Given}
 use Rattle.calls.proofs.Refusals.{rowwise}
 
@@ -41,7 +41,7 @@ rising (x ∷ rows) low a = (a .0, rising rows (x .0) (a .1))
 
 pub rises : (c : Call) (short bad : Bool) (r : Record) (cap len room : ℕ) → Rising 0 (table c short bad r cap len room)
 rises c short bad r cap len room =
-    rising (table c short bad r cap len room) 0 (subst (Ascending 0) (sym (rowwise c short bad r cap len room)) (ascending (columnOf c) 1 0 marks (omega arith)))
+    rising (table c short bad r cap len room) 0 (subst (Ascending 0) (sym (rowwise c short bad r cap len room)) (ascending (column c) 1 0 marks (omega arith)))
 
 -- rows behind others
 behind : (before : List Row) (low : ℕ) (x : Row) (after : List Row) → Rising low (before ++ x ∷ after) → (low < x .0) × Rising (x .0) after

@@ -23,7 +23,7 @@ use Rattle.state.specs.Good.{geometry, Limits}
 use Rattle.calls.specs.Call.{write, done}
 use Rattle.calls.specs.Health.{isLost, absent}
 use Rattle.calls.specs.Images.{disksOf, size, seen, Store, block, stored, recorded, unless}
-use Rattle.calls.specs.Table.{table, word}
+use Rattle.calls.specs.Table.{laterRows, word}
 use Rattle.calls.specs.Effect.{placeOf, writeStores, effect, act}
 use Rattle.calls.proofs.Laws.Column.{Mask, storeIf, see, Fits, fits-of, fits-set, Agree, Even, Holds, Single, Stored, seen-is, relent, agree-store, even-pair}
 use Rattle.calls.proofs.Laws.Stores.{Within, length-stored, cell-stored, recorded-append, column-append, within-append, within-unless, column-unless, recorded-unless}
@@ -208,12 +208,12 @@ module _ (r : Record) (img : List ℕ) (bs : List (List ℕ)) (h : Holding r img
 
 -- ---- the call
 
-module _ (r : Record) (img room : List ℕ) (bs : List (List ℕ)) (lends : length img ≡ size r → Holding r img bs) (b : ℕ) (v : List ℕ) (short bad : Bool) (k : ℕ) where
-  pub writes : word (table (write b v) short bad r (capacity (geometry r)) (length img) k) ≡ 0
+module _ (r : Record) (img room : List ℕ) (bs : List (List ℕ)) (lends : length img ≡ size r → Holding r img bs) (b : ℕ) (v : List ℕ) (k : ℕ) where
+  pub writes : word (laterRows (write b v) r (capacity (geometry r)) (length img) k) ≡ 0
       → Leaves (act (record { call = write b v; images = img; room = room }) r) done r (set bs b v)
   unfolding effect
   writes z =
-      let q = passed.writes short bad r (capacity (geometry r)) (length img) k b v z in
+      let q = passed.writes r (capacity (geometry r)) (length img) k b v z in
       let h : Holding r img bs = lends (q .long) in
       record {
         answer = refl;

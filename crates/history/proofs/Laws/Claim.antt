@@ -1,30 +1,29 @@
 -- Demand 3 of calls on a record's bytes: `on-bytes`. Assumes nothing.
 use Prim.Native.Nat.{ℕ, zero, suc, _<_}
 use mathlib.Core.Path.{_≡_, refl, sym, ap, ap₂, _∙_, subst}
-use mathlib.Core.Bool.{Bool, true, false, not}
+use mathlib.Core.Bool.{Bool, true, false}
 use mathlib.Core.Logic.{_↔_, _≢_}
 use mathlib.Core.List.{List, [], _∷_}
 use native.Mathlib.Omega.{arith}
-use lib.Dec.{eqb}
 use lib.ListN.{length, getD}
 use Rattle.layout.specs.Layout.{totalOf, capacity, layout}
 use Rattle.layout.specs.Limits.{Good}
 use Rattle.state.specs.declared.Record.{Record}
 use Rattle.state.specs.Good.{geometry}
-use Rattle.state.specs.Bytes.{decode, encode, goodBytes}
+use Rattle.state.specs.Bytes.{decode, encode}
 use Rattle.state.proofs.Laws.Good.{within-limits}
 use Rattle.state.proofs.Laws.Bytes.{decode-encode}
 use Rattle.calls.specs.Call.{Call, format, read, view, advance, Event, fed, Answer, bytes, accepted}
 use Rattle.calls.specs.Health.{isLost, absent}
 use Rattle.calls.specs.Images.{placeIn}
-use Rattle.calls.specs.Table.{idle, word, table, refusal, rowsBytes, refusalBytes}
+use Rattle.calls.specs.Table.{idle, laterRows, word, refusal, refusalBytes}
 use Rattle.calls.specs.Effect.{placeOf, blockOf, parityAfter, Left, act, untouched, settle, sealed, calledBytes}
 use Rattle.calls.specs.Sound.{Sound}
 use Rattle.calls.proofs.Theorem.{demand1}
 use Rattle.calls.proofs.Laws.Acting.{fills, shows, parity-first, parity-last}
 use Rattle.calls.proofs.Laws.OnBytes.{good-encode}
 use Rattle.calls.proofs.Laws.Table.{some-new}
-use Rattle.calls.proofs.Laws.Passed.{moves}
+use Rattle.calls.proofs.Laws.Passed.{passed-bytes, moves}
 use Rattle.calls.proofs.Laws.Holding.{Holding, block-is}
 use Rattle.calls.proofs.Laws.Sound.{sound}
 use Rattle.calls.proofs.Laws.Advance.{parity-kept}
@@ -69,9 +68,9 @@ module _ (e : Event) (a : Cabinet (List ℕ)) where
       (ap (λ (c : Bool). imagesAfter c (takes (e .call) (decode (a .rec))) (a .img) (leaves asBytes e a .images)) u)
 
   -- an accepted call passed the table
-  passed : accepted (leaves asBytes e a .answer) ≡ true → word (rowsBytes (a .rec) (fed e)) ≡ 0
-  unfolding calledBytes refusalBytes
-  passed u = go (refusalBytes (a .rec) (fed e)) u
+  let-through : accepted (leaves asBytes e a .answer) ≡ true → refusalBytes (a .rec) (fed e) ≡ 0
+  unfolding calledBytes
+  let-through u = go (refusalBytes (a .rec) (fed e)) u
     where
       go : (n : ℕ) → accepted (X n .answer) ≡ true → n ≡ 0
       go zero v = refl
@@ -79,14 +78,12 @@ module _ (e : Event) (a : Cabinet (List ℕ)) where
 
   parities : Good (geometry (decode (a .rec))) → (k i S : ℕ) → e .call ≡ advance k → accepted (leaves asBytes e a .answer) ≡ true → S < decode (a .rec) .stripes
       → parityAfter (suc i) (decode (a .rec)) (e .images) S ≡ parityAfter i (decode (a .rec)) (e .images) S
-  unfolding rowsBytes
   parities gd k i S q u lS =
       let r : Record = decode (a .rec) in
-      let short : Bool = not (eqb (length (a .rec)) 16) in
-      let bad : Bool = not (goodBytes (a .rec)) in
-      let z : word (table (advance k) short bad r (capacity (geometry r)) (length (e .images)) (length (e .room))) ≡ 0 =
-      subst (λ (c : Call). word (table c short bad r (capacity (geometry r)) (length (e .images)) (length (e .room))) ≡ 0) q (passed u) in
-      let w = moves short bad r (capacity (geometry r)) (length (e .images)) (length (e .room)) k z in
+      let cap : ℕ = capacity (geometry r) in
+      let z : word (laterRows (advance k) r cap (length (e .images)) (length (e .room))) ≡ 0 =
+      subst (λ (c : Call). word (laterRows c r cap (length (e .images)) (length (e .room))) ≡ 0) q (passed-bytes (a .rec) (fed e) (let-through u)) in
+      let w = moves r cap (length (e .images)) (length (e .room)) k z in
       let nz : r .new ≢ 0 = some-new (geometry r) (w .busy) in
       parity-kept (suc i) r (e .images) gd nz (w .long) S lS ∙ sym (parity-kept i r (e .images) gd nz (w .long) S lS)
 

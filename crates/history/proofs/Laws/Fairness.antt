@@ -13,8 +13,9 @@ use Rattle.state.proofs.Laws.Tests.{both}
 use Rattle.calls.specs.Call.{Event, fed}
 use Rattle.calls.specs.Health.{absent}
 use Rattle.calls.specs.Images.{disksOf, placeIn}
+use Rattle.calls.specs.Table.{Takes, nothing, anything, those}
 use Rattle.history.specs.Flat.{Flat, flatStep}
-use Rattle.history.specs.Lent.{Form, Cabinet, Takes, nothing, anything, those, takes, Keeps, Lent, Lends, next}
+use Rattle.history.specs.Lent.{Form, Cabinet, takes, Keeps, Lent, Lends, next}
 use Rattle.history.specs.Theorem.{Fair}
 
 -- ---- tests
@@ -35,7 +36,7 @@ keeps r left lent = below (r .stripes) (λ S. below (disksOf r) (λ d. absent (r
 
 unfoldable pub lends : Takes → Record → List ℕ → List ℕ → Bool
 lends nothing r left lent = true
-lends anything r left lent = true
+lends (anything len) r left lent = true
 lends (those len) r left lent = not (eqb (length lent) len) || keeps r left lent
 
 unfoldable pub fairly : {R : Type 0} → Form R → List Event → Cabinet R → Flat → Bool
@@ -73,7 +74,7 @@ is-kept r left lent q S d lS ld u =
 may-lend : (t : Takes) (r : Record) (left lent : List ℕ) → lends t r left lent ≡ true → Lent t r left lent
 unfolding lends
 may-lend nothing r left lent q = tt
-may-lend anything r left lent q = tt
+may-lend (anything len) r left lent q = tt
 may-lend (those len) r left lent q =
     λ z. is-kept r left lent (other (not (eqb (length lent) len)) (keeps r left lent) q (ap not (eq-eqb (length lent) len z)))
 

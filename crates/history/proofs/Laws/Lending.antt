@@ -16,10 +16,10 @@ use Rattle.state.specs.declared.Record.{Record}
 use Rattle.calls.specs.Call.{Call, Event}
 use Rattle.calls.specs.Health.{absent}
 use Rattle.calls.specs.Images.{disksOf, size, placeIn}
-use Rattle.calls.specs.Table.{refusal}
-use Rattle.history.specs.Lent.{Takes, nothing, anything, those, takes, Keeps, Lent, Lends}
+use Rattle.calls.specs.Table.{Takes, nothing, anything, those, terms}
+use Rattle.calls.proofs.Laws.Asked.{turned-away}
+use Rattle.history.specs.Lent.{takes, Keeps, Lent, Lends}
 use Rattle.history.specs.Theorem.{FreeToLend}
-use Rattle.history.proofs.Laws.Asked.{asked}
 
 -- ---- what stands may be lent
 
@@ -45,7 +45,7 @@ module _ (e : Event) (r : Record) (left : List ℕ) where
     where
       go : (t : Takes) → Lent t r left (e .images)
       go nothing = tt
-      go anything = tt
+      go (anything len) = tt
       go (those len) = λ z. k
 
   by-length : ((len : ℕ) → takes (e .call) r ≡ those len → length (e .images) ≢ len) → Lends e r left
@@ -54,7 +54,7 @@ module _ (e : Event) (r : Record) (left : List ℕ) where
     where
       go : (t : Takes) → takes (e .call) r ≡ t → Lent t r left (e .images)
       go nothing q = tt
-      go anything q = tt
+      go (anything len) q = tt
       go (those len) q = λ z. absurd (ne len q z)
 
   same-length : {m n : ℕ} → those m ≡ those n → m ≡ n
@@ -62,7 +62,7 @@ module _ (e : Event) (r : Record) (left : List ℕ) where
     where
       asked-length : Takes → ℕ
       asked-length nothing = 0
-      asked-length anything = 0
+      asked-length (anything len) = 0
       asked-length (those len) = len
 
   -- a disk that is not out is another one
@@ -70,13 +70,13 @@ module _ (e : Event) (r : Record) (left : List ℕ) where
   others o h S d u = eqb-false d o (ap (λ (x : Health). absent x S d) (sym h) ∙ u)
 
   pub free-to-lend : FreeToLend e r left
-  unfolding Keeps Lends takes refusal
+  unfolding Keeps Lends terms
   free-to-lend =
       record {
         what-stands = λ behind long q. by-keeping (subst (Keeps r left) (sym q) (keeps r left behind long));
         any-format = λ n B T q. subst (λ (c : Call). Lent (takes c r) r left (e .images)) (sym q) tt;
         any-length = λ len q ne. by-length (λ n p z. ne (z ∙ same-length (sym p ∙ q)));
-        turned-away = λ c z. by-length (λ n q. asked r c (length (e .images)) (length (e .room)) n (e .call) q z);
+        turned-away = λ c z. by-length (λ n q. turned-away r c (length (e .images)) (length (e .room)) n (e .call) q z);
         any-out = λ o h k. by-keeping (λ S d lS ld u. k S d lS ld (others o h S d u));
         any-lost = λ h. by-keeping (λ S d lS ld u. absurd (let w : _≡_ {A = ℕ} 0 1 = cc (ap (λ (x : Health). absent x S d) h) in omega arith));
         no-images = λ q. subst (λ (t : Takes). Lent t r left (e .images)) (sym q) tt;

@@ -1,7 +1,7 @@
 -- Two disks out: the flat list stands still, and every read is refused 2, until a format is accepted. Assumes nothing.
 use Prim.Native.Nat.{ℕ, zero, suc}
 use mathlib.Core.Path.{_≡_, refl, sym, ap, _∙_, subst}
-use mathlib.Core.Bool.{true, false, cond, not}
+use mathlib.Core.Bool.{true, false}
 use mathlib.Core.List.{List, [], _∷_}
 use native.Mathlib.Omega.{arith}
 use lib.ListN.{length}
@@ -9,11 +9,13 @@ use Rattle.state.specs.declared.Health.the-variants.{Out, Lost}
 use Rattle.state.specs.declared.Record.{Record}
 use Rattle.state.specs.Good.{good}
 use Rattle.state.proofs.Laws.Good.{limits, within-limits}
-use Rattle.calls.specs.Call.{Call, format, read, view, write, grow, advance, out, rebuild, status, locate, owner, Fed, Answer, refused, accepted}
-use Rattle.calls.specs.Health.{isLost, withHealth}
-use Rattle.calls.specs.Table.{table, refusal}
+use Rattle.calls.specs.Call.{Call, format, read, view, write, grow, advance, out, Fed, Answer, refused, accepted}
+use Rattle.calls.specs.Health.{withHealth}
+use Rattle.calls.specs.Table.{terms, refusal}
+use Rattle.calls.proofs.Laws.Table.{StopsLost, given-2}
 use Rattle.history.specs.Flat.{Flat, flatAct, flatSettle, flatStep}
 use Rattle.history.specs.Theorem.{NoReads}
+use Rattle.history.proofs.Laws.Look.{Look, opens, puts, grows, moves, turns, tells, look}
 
 -- a good record stays good when it is lost
 good-lost : (r : Record) → good r ≡ true → good (withHealth r Lost) ≡ true
@@ -46,17 +48,17 @@ module _ (f : Flat) where
     abbrev call : Call → Fed
     call c = record { call = c; images = len; room = room }
 
-    -- the number of a call whose rows begin with 1 and 2
-    is-2 : (w : ℕ) → cond (not (good (f .numbers))) 1 (cond (isLost (f .numbers .health)) 2 w) ≡ 2
-    is-2 w = rw (g, h) refl
+    -- the number of a call whose rows go on with 2
+    is-2 : (c : Call) → StopsLost (f .numbers) c → R (call c) ≡ 2
+    is-2 c s = given-2 (f .numbers) (length (f .blocks)) len room c s g h
 
     no-read : (b : ℕ) → R (call (read b)) ≡ 2
-    unfolding refusal table
-    no-read b = is-2 _
+    unfolding terms
+    no-read b = is-2 (read b) (_, refl)
 
     no-view : (b : ℕ) → R (call (view b)) ≡ 2
-    unfolding refusal table
-    no-view b = is-2 _
+    unfolding terms
+    no-view b = is-2 (view b) (_, refl)
 
     -- a format that is refused leaves the list
     no-format : (n B T : ℕ) → accepted (flatStep (call (format n B T)) f .0) ≡ false → flatStep (call (format n B T)) f .1 ≡ f
@@ -67,19 +69,13 @@ module _ (f : Flat) where
         go zero u = absurd (let w : _≡_ {A = ℕ} 0 1 = cc in omega arith)
         go (suc k) u = refl
 
-    frozen : (c : Call) → ((n B T : ℕ) → c ≡ format n B T → accepted (flatStep (call c) f .0) ≡ false) → flatStep (call c) f .1 ≡ f
-    unfolding refusal table flatAct
-    frozen (format n B T) u = no-format n B T (u n B T refl)
-    frozen (read b) u = quiet (call (read b)) refl
-    frozen (view b) u = quiet (call (view b)) refl
-    frozen (write b v) u = given (call (write b v)) 1 (is-2 _) .1
-    frozen (grow m) u = given (call (grow m)) 1 (is-2 _) .1
-    frozen (advance k) u = given (call (advance k)) 1 (is-2 _) .1
-    frozen (out d) u = given (call (out d)) 1 (is-2 _) .1
-    frozen (rebuild d) u = given (call (rebuild d)) 1 (is-2 _) .1
-    frozen status u = quiet (call status) refl
-    frozen (locate b) u = quiet (call (locate b)) refl
-    frozen (owner S d) u = quiet (call (owner S d)) refl
+    frozen : {c : Call} → Look (f .numbers) (f .blocks) c → ((n B T : ℕ) → c ≡ format n B T → accepted (flatStep (call c) f .0) ≡ false) → flatStep (call c) f .1 ≡ f
+    frozen (opens n B T) u = no-format n B T (u n B T refl)
+    frozen (puts b v s) u = given (call (write b v)) 1 (is-2 (write b v) s) .1
+    frozen (grows m s) u = given (call (grow m)) 1 (is-2 (grow m) s) .1
+    frozen (moves k s) u = given (call (advance k)) 1 (is-2 (advance k) s) .1
+    frozen (turns c x e n s) u = given (call c) 1 (is-2 c s) .1
+    frozen (tells c e n) u = quiet (call c) e
 
 no-reads : (es : List Fed) (f : Flat) → good (f .numbers) ≡ true → f .numbers .health ≡ Lost → NoReads es f
 unfolding NoReads
@@ -87,7 +83,7 @@ no-reads [] f g h = tt
 no-reads (e ∷ es) f g h = (
   λ b q. given f e 1 (subst (λ (c : Call). R f (record { call = c; images = e .images; room = e .room }) ≡ 2) (sym q) (no-read f (e .images) (e .room) g h b)) .0,
   λ b q. given f e 1 (subst (λ (c : Call). R f (record { call = c; images = e .images; room = e .room }) ≡ 2) (sym q) (no-view f (e .images) (e .room) g h b)) .0,
-  λ u. rw (frozen f (e .images) (e .room) g h (e .call) u) (no-reads es f g h),
+  λ u. rw (frozen f (e .images) (e .room) g h (look (f .numbers) (f .blocks) (e .call)) u) (no-reads es f g h),
 )
 
 -- an accepted out of a second disk

@@ -1,23 +1,23 @@
 -- The array and the flat list, call by call: from images that hold the list, equal answers and records, and images that hold the next list. Assumes nothing.
-use Prim.Native.Nat.{ℕ, zero, suc}
+use Prim.Native.Nat.{ℕ, zero, suc, _+_, _-_, _*_}
 use mathlib.Core.Path.{_≡_, refl, sym, ap, _∙_, subst}
 use mathlib.Core.Bool.{Bool, true, false, cond, not}
-use mathlib.Core.List.{List}
+use mathlib.Core.List.{List, _++_}
 use native.Mathlib.Omega.{arith}
 use lib.Dec.{eqb}
 use lib.ListN.{length, getD}
-use Rattle.layout.specs.Layout.{capacity}
+use Rattle.layout.specs.Layout.{totalOf, openStripes, capacity}
 use Rattle.blocks.proofs.Laws.Stripe.{getD-place}
 use Rattle.state.specs.declared.Health.the-variants.{Whole, Out, Lost}
 use Rattle.state.specs.declared.Health.{Health}
 use Rattle.state.specs.declared.Record.{Record}
-use Rattle.state.specs.Good.{geometry, good}
+use Rattle.state.specs.Good.{geometry}
 use Rattle.state.specs.Bytes.{decode, encode}
 use Rattle.state.proofs.Laws.Bytes.{decode-encode}
 use Rattle.calls.specs.Call.{Call, format, read, view, write, grow, advance, out, rebuild, status, locate, owner, Event, fed, Answer, accepted}
-use Rattle.calls.specs.Health.{afterOut, withHealth}
-use Rattle.calls.specs.Images.{size, stored, recorded}
-use Rattle.calls.specs.Table.{word, table, refusal, rowsBytes, refusalBytes}
+use Rattle.calls.specs.Health.{afterOut, grownBy, withHealth}
+use Rattle.calls.specs.Images.{size, recorded}
+use Rattle.calls.specs.Table.{terms, laterRows, table, word, refusal, refusalOf, rowsBytes, refusalBytes}
 use Rattle.calls.specs.Effect.{effect, Left, act, untouched, settle, sealed, calledBytes}
 use Rattle.calls.proofs.Laws.OnBytes.{refusal-encode}
 use Rattle.calls.proofs.Laws.Holding.{Holding, Leaves, Kept, relends}
@@ -25,10 +25,12 @@ use Rattle.calls.proofs.Laws.Format.{formats}
 use Rattle.calls.proofs.Laws.Read.{reads, views}
 use Rattle.calls.proofs.Laws.Write.{writes}
 use Rattle.calls.proofs.Laws.Grow.{grows}
-use Rattle.calls.proofs.Laws.Advance.{advances}
+use Rattle.calls.proofs.Laws.Advance.{advanced, advances}
+use Rattle.calls.proofs.Laws.Lists.{with-new}
+use Rattle.calls.proofs.Laws.Passed.{passed}
 use Rattle.calls.proofs.Laws.Out.{outs}
 use Rattle.calls.proofs.Laws.Rebuild.{rebuilds}
-use Rattle.history.specs.Flat.{Flat, flat, fallen, flatAct, flatSettle, flatStep}
+use Rattle.history.specs.Flat.{Flat, flat, zeroBlocks, reached, lengthened, fallen, flatAct, flatSettle, flatStep}
 use Rattle.history.specs.Lent.{asBytes, Cabinet, takes, Keeps, Lends, leaves, imagesAfter, next}
 
 -- ---- an accepted call
@@ -52,12 +54,24 @@ same-health Whole d = refl
 same-health (Out o) d = refl
 same-health Lost d = refl
 
+-- the flat list's length is the capacity, so both machines lengthen it alike
+same-length : (r : Record) → capacity (geometry r) ≡ reached r
+unfolding capacity openStripes
+same-length r = go (eqb (r .moves) (totalOf (geometry r)))
+  where
+    go : (b : Bool) → r .stripes * (r .old - 1) + cond b (r .stripes) 0 * r .new ≡ r .stripes * (r .old - 1) + cond b (r .stripes * r .new) 0
+    go true = refl
+    go false = omega arith
+
+longer : {x : Left Record} {a : Answer} (r : Record) (bs : List (List ℕ)) → Leaves x a r (with-new (geometry r) (r .block) bs) → Leaves x a r (lengthened r bs)
+longer {x} {a} r bs l = subst (λ (n : ℕ). Leaves x a r (bs ++ zeroBlocks (n - length bs) (r .block))) (same-length r) l
+
 abbrev event : Call → List ℕ → List ℕ → Event
 event c img room = record { call = c; images = img; room = room }
 
 module _ (r : Record) (left : List ℕ) (bs : List (List ℕ)) (h : Holding r left bs) (img room : List ℕ) where
   abbrev Passes : Call → Type 0
-  Passes c = word (table c false (not (good r)) r (capacity (geometry r)) (length img) (length room)) ≡ 0
+  Passes c = word (laterRows c r (capacity (geometry r)) (length img) (length room)) ≡ 0
 
   -- images that may be lent hold the list too
   lent : (length img ≡ size r → Keeps r left img) → length img ≡ size r → Holding r img bs
@@ -68,18 +82,22 @@ module _ (r : Record) (left : List ℕ) (bs : List (List ℕ)) (h : Holding r le
       → Leaves x a r′ cs → Acted c x r left (a, flat r′ cs)
   left-by c same ok l = record { answer = l .answer; taken = ok; state = l .state; holding = rw same (l .holding) }
 
+  abbrev cap : ℕ
+  cap = capacity (geometry r)
+
   acts : (c : Call) → Lends (event c img room) r left → Passes c → Acted c (act (event c img room) r) r left (flatAct c r bs)
-  unfolding Lends takes flatAct effect stored recorded
-  acts (format n B T) l z = left-by (format n B T) refl refl (formats n B T img room false (not (good r)) r (capacity (geometry r)) (length room) z)
-  acts (read b) l z = left-by (read b) refl refl (reads r img room bs (lent l) b false (not (good r)) z)
-  acts (view b) l z = left-by (view b) refl refl (views r img room bs (lent l) b false (not (good r)) z)
-  acts (write b v) l z = left-by (write b v) refl refl (writes r img room bs (lent l) b v false (not (good r)) (length room) z)
-  acts (grow m) l z = left-by (grow m) refl refl (grows r left img room bs h m (λ q. kept-bytes r left img (l q)) false (not (good r)) (capacity (geometry r)) (length room) z)
-  acts (advance k) l z = left-by (advance k) refl refl (advances r img room bs (lent l) k false (not (good r)) (capacity (geometry r)) (length room) z)
+  unfolding Lends terms flatAct effect recorded
+  acts (format n B T) l z = left-by (format n B T) refl refl (formats n B T img room r cap (length room) z)
+  acts (read b) l z = left-by (read b) refl refl (reads r img room bs (lent l) b z)
+  acts (view b) l z = left-by (view b) refl refl (views r img room bs (lent l) b z)
+  acts (write b v) l z = left-by (write b v) refl refl (writes r img room bs (lent l) b v (length room) z)
+  acts (grow m) l z =
+      left-by (grow m) refl refl (longer (grownBy r m) bs (grows r left img room bs h m (λ q. kept-bytes r left img (l q)) cap (length room) z))
+  acts (advance k) l z = left-by (advance k) refl refl (longer (advanced k r) bs (advances r img room bs (lent l) k cap (length room) z))
   acts (out d) l z =
-      let x : Holding (withHealth r (afterOut (r .health) d)) left bs = outs r left bs h d false (not (good r)) (capacity (geometry r)) (length img) (length room) z in
+      let x : Holding (withHealth r (afterOut (r .health) d)) left bs = outs r left bs h d cap (length img) (length room) z in
       record { answer = refl; taken = refl; state = ap (withHealth r) (same-health (r .health) d); holding = rw (same-health (r .health) d) at x }
-  acts (rebuild d) l z = left-by (rebuild d) refl refl (rebuilds r img room bs (lent l) d false (not (good r)) (capacity (geometry r)) (length room) z)
+  acts (rebuild d) l z = left-by (rebuild d) refl refl (rebuilds r img room bs (lent l) d cap (length room) z)
   acts status l z = record { answer = rw (h .count); taken = refl; state = refl; holding = h }
   acts (locate b) l z = record { answer = refl; taken = refl; state = refl; holding = h }
   acts (owner S d) l z = record { answer = refl; taken = refl; state = refl; holding = h }
@@ -104,15 +122,14 @@ module _ (r : Record) (left : List ℕ) (bs : List (List ℕ)) (h : Holding r le
   abbrev f : Flat
   f = record { numbers = r; blocks = bs }
 
-  settled : Settled e (encode r) left (settle (refusal r (capacity (geometry r)) (fed e)) (untouched e (encode r)) (sealed (act e r)))
-      (flatSettle (refusal r (capacity (geometry r)) (fed e)) f (flatAct (e .call) r bs))
-  unfolding refusal
-  settled = go (refusal r (capacity (geometry r)) (fed e)) refl
+  settled : Settled e (encode r) left (settle (refusalOf r (fed e)) (untouched e (encode r)) (sealed (act e r)))
+      (flatSettle (refusalOf r (fed e)) f (flatAct (e .call) r bs))
+  settled = go (refusalOf r (fed e)) refl
     where
-      go : (n : ℕ) → refusal r (capacity (geometry r)) (fed e) ≡ n
+      go : (n : ℕ) → refusalOf r (fed e) ≡ n
           → Settled e (encode r) left (settle n (untouched e (encode r)) (sealed (act e r))) (flatSettle n f (flatAct (e .call) r bs))
       go zero z =
-          let x = acts r left bs h (e .images) (e .room) (e .call) l z in
+          let x = acts r left bs h (e .images) (e .room) (e .call) l (passed r (capacity (geometry r)) (fed e) z) in
           record { answer = x .answer; fields = ap encode (x .state); holding = rw (decode-encode r, ap accepted (x .answer) ∙ x .taken) (x .holding) }
       go (suc n) z = record { answer = refl; fields = refl; holding = h }
 
@@ -143,20 +160,20 @@ module _ (n B T : ℕ) (img room : List ℕ) (a : Cabinet (List ℕ)) (f : Flat)
   short = not (eqb (length (a .rec)) 16)
 
   abbrev W : ℕ
-  W = word (table (format n B T) false false (f .numbers) 0 (length img) (length room))
+  W = word (laterRows (format n B T) (f .numbers) 0 (length img) (length room))
 
   abbrev X : ℕ → Left (List ℕ)
   X k = settle k (untouched e (a .rec)) (sealed (act e (decode (a .rec))))
 
   opened : (k : ℕ) → W ≡ k → accepted (X k .answer) ≡ true → Settled e (a .rec) (a .img) (X k) (flatSettle k f (flatAct (format n B T) (f .numbers) (f .blocks)))
-  unfolding table flatAct effect takes
+  unfolding laterRows terms flatAct effect
   opened zero z u =
-      let x = formats n B T img room false false (decode (a .rec)) 0 (length room) z in
+      let x = formats n B T img room (decode (a .rec)) 0 (length room) z in
       record { answer = x .answer; fields = ap encode (x .state); holding = x .holding }
   opened (suc k) z u = absurd (let w : _≡_ {A = ℕ} 0 1 = cc in omega arith)
 
   pub opens : accepted (leaves asBytes e a .answer) ≡ true → Alike e a (flatStep (fed e) f)
-  unfolding calledBytes refusalBytes rowsBytes refusal flatStep table next
+  unfolding calledBytes refusalBytes rowsBytes refusal flatStep table laterRows terms next
   opens u = let x = go short refl u in record { answer = x .answer; fields = x .fields; holding = x .holding }
     where
       go : (b : Bool) → short ≡ b → accepted (X (cond b 1 W) .answer) ≡ true → Settled e (a .rec) (a .img) (X (cond b 1 W)) (flatStep (fed e) f)

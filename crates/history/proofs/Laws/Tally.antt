@@ -1,36 +1,44 @@
 -- The moves done are the sum of the counts reported since the growth began, on the flat list. Assumes nothing.
 use Prim.Native.Nat.{ℕ, zero, suc}
-use mathlib.Core.Path.{_≡_, refl, sym, _∙_}
-use mathlib.Core.Bool.{true}
+use mathlib.Core.Path.{_≡_, refl, sym, ap, _∙_}
+use mathlib.Core.Bool.{Bool, true, false, cond}
 use mathlib.Core.Logic.{_↔_, _≢_}
 use mathlib.Core.List.{List}
 use lib.ListN.{length}
 use Rattle.layout.specs.declared.Geometry.{Geometry}
 use Rattle.layout.specs.Layout.{totalOf}
 use Rattle.state.specs.declared.Record.{Record}
-use Rattle.calls.specs.Call.{Call, format, read, view, write, grow, advance, out, rebuild, status, locate, owner, Fed, Answer}
+use Rattle.calls.specs.Call.{Call, Fed, Answer, accepted, count}
 use Rattle.calls.specs.Table.{idle, refusal}
 use Rattle.calls.proofs.Laws.Table.{none-left, over}
 use Rattle.history.specs.Flat.{Flat, flatAct, flatSettle, flatStep}
 use Rattle.history.specs.Theorem.{tallied, tally}
+use Rattle.history.proofs.Laws.Look.{Uncounted, Look, opens, puts, grows, moves, turns, tells, look}
 
 -- once there are new disks, t is the sum
 unfoldable pub Counted : Flat → ℕ → Type 0
 Counted f sum = f .numbers .new ≢ 0 → f .numbers .moves ≡ sum
 
-counted-act : (c : Call) (r : Record) (bs : List (List ℕ)) (sum : ℕ) → (r .new ≢ 0 → r .moves ≡ sum) → Counted (flatAct c r bs .1) (tally c (flatAct c r bs .0) sum)
+-- a call that is not counted leaves the sum
+same-sum : (c : Call) (a : Answer) (sum : ℕ) → Uncounted c → tally c a sum ≡ sum
+unfolding tally
+same-sum c a sum u = go (accepted a)
+  where
+    go : (b : Bool) → cond b (tallied c (count a) sum) sum ≡ sum
+    go true = u (count a) sum
+    go false = refl
+
+counted-act : {c : Call} (r : Record) (bs : List (List ℕ)) (sum : ℕ) → Look r bs c → (r .new ≢ 0 → r .moves ≡ sum)
+    → Counted (flatAct c r bs .1) (tally c (flatAct c r bs .0) sum)
 unfolding Counted flatAct tallied tally
-counted-act (format n B T) r bs sum h = λ q. absurd (q refl)
-counted-act (read b) r bs sum h = h
-counted-act (view b) r bs sum h = h
-counted-act (write b v) r bs sum h = h
-counted-act (grow m) r bs sum h = λ q. refl
-counted-act (advance k) r bs sum h = λ q. rw (h q)
-counted-act (out d) r bs sum h = h
-counted-act (rebuild d) r bs sum h = h
-counted-act status r bs sum h = h
-counted-act (locate b) r bs sum h = h
-counted-act (owner S d) r bs sum h = h
+counted-act r bs sum (opens n B T) h = λ q. absurd (q refl)
+counted-act r bs sum (puts b v s) h = h
+counted-act r bs sum (grows m s) h = λ q. refl
+counted-act r bs sum (moves k s) h = λ q. rw (h q)
+counted-act r bs sum (turns c x e u s) h =
+    λ q. ap (λ (f : Flat). f .numbers .moves) e ∙ h (λ z. q (ap (λ (f : Flat). f .numbers .new) e ∙ z)) ∙ sym (same-sum c (flatAct c r bs .0) sum u)
+counted-act r bs sum (tells c e u) h =
+    λ q. ap (λ (f : Flat). f .numbers .moves) e ∙ h (λ z. q (ap (λ (f : Flat). f .numbers .new) e ∙ z)) ∙ sym (same-sum c (flatAct c r bs .0) sum u)
 
 pub counted-step : (e : Fed) (f : Flat) (sum : ℕ) → Counted f sum → Counted (flatStep e f .1) (tally (e .call) (flatStep e f .0) sum)
 unfolding flatStep Counted tally
@@ -40,7 +48,7 @@ counted-step e f sum h = go (refusal (f .numbers) (length (f .blocks)) e)
     acted = flatAct (e .call) (f .numbers) (f .blocks)
 
     go : (n : ℕ) → Counted (flatSettle n f acted .1) (tally (e .call) (flatSettle n f acted .0) sum)
-    go zero = counted-act (e .call) (f .numbers) (f .blocks) sum h
+    go zero = counted-act (f .numbers) (f .blocks) sum (look (f .numbers) (f .blocks) (e .call)) h
     go (suc n) = h
 
 -- so the growth is over exactly when the sum is the total
