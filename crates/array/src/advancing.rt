@@ -10,7 +10,7 @@ ghost use Rattle.layout.specs.Layout.{totalOf};
 ghost use Rattle.state.specs.Good.{geometry, Limits};
 ghost use Rattle.array.specs.Answers.{advancedAnswer, advancedRecord};
 ghost use Rattle.calls.specs.Call.{advance, on};
-ghost use Rattle.calls.specs.Images.{size, stored};
+ghost use Rattle.calls.specs.Images.{size, storedIn};
 ghost use Rattle.calls.specs.Table.{idle};
 ghost use Rattle.calls.specs.Effect.{moveStores, advanceStores, called};
 use crate::Advanced;
@@ -26,7 +26,7 @@ use state::geometry_of;
 // The next move: the block to its new place, zeroes where it stood.
 fn make_move(r: Record, images: &mut [u8])
     requires { ⌜ Limits r × (idle (geometry r) ≡ false) × (length (now images) ≡ size r) ⌝ }
-    ensures { λ _. ⌜ now (images .exit) ≡ stored (r .block) (r .stripes) (moveStores r (now (images .entry))) (now (images .entry)) ⌝ }
+    ensures { λ _. ⌜ now (images .exit) ≡ storedIn r (moveStores r (now (images .entry))) (now (images .entry)) ⌝ }
 {
     let x = move_of(r.old as u64, r.new as u64, r.moves as u64);
     let from = place_at(r, x.stripe, x.from);
@@ -37,7 +37,7 @@ fn make_move(r: Record, images: &mut [u8])
 // The next `count` moves, of which there are so many.
 fn make_moves(r: Record, images: &mut [u8], count: u32)
     requires { ⌜ Limits r × (r .new ≢ 0) × (r .moves + count ≤ totalOf (geometry r)) × (length (now images) ≡ size r) ⌝ }
-    ensures { λ _. ⌜ now (images .exit) ≡ stored (r .block) (r .stripes) (advanceStores count r (now (images .entry))) (now (images .entry)) ⌝ }
+    ensures { λ _. ⌜ now (images .exit) ≡ storedIn r (advanceStores count r (now (images .entry))) (now (images .entry)) ⌝ }
 {
     let mut made = 0;
     while made < count {

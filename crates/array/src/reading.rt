@@ -1,10 +1,8 @@
 // Document 01: "**Read**: fills a lent block."
 ghost use mathlib.Core.Path.{_≡_};
 ghost use lib.ListN.{length};
-ghost use Rattle.layout.specs.Layout.{capacity};
-ghost use Rattle.state.specs.Good.{geometry};
 ghost use Rattle.calls.specs.Call.{read, feed, on, number};
-ghost use Rattle.calls.specs.Table.{refusal};
+ghost use Rattle.calls.specs.Table.{refusalOf};
 ghost use Rattle.calls.specs.Effect.{blockOf, called};
 use crate::health::is_absent;
 use crate::places::place_at;
@@ -17,7 +15,7 @@ use state::geometry_of;
 
 // Block b, on a call that the table lets through.
 fn fill(r: Record, images: &[u8], b: u64, block: &mut [u8])
-    requires { ⌜ refusal r (capacity (geometry r)) (feed (read b) (length (now images)) (length (now block))) ≡ 0 ⌝ }
+    requires { ⌜ refusalOf r (feed (read b) (length (now images)) (length (now block))) ≡ 0 ⌝ }
     ensures { λ _. ⌜ now (block .exit) ≡ blockOf r (now (images .entry)) b ⌝ }
 {
     let q = place_of(geometry_of(r), b);

@@ -6,7 +6,7 @@ ghost use lib.ListN.{length};
 ghost use Rattle.state.specs.Good.{Limits};
 ghost use Rattle.array.specs.Answers.{changedAnswer, changedRecord};
 ghost use Rattle.calls.specs.Call.{rebuild, on};
-ghost use Rattle.calls.specs.Images.{disksOf, size, othersIn, stored, fillDisk};
+ghost use Rattle.calls.specs.Images.{disksOf, size, othersIn, storedIn, fillDisk};
 ghost use Rattle.calls.specs.Effect.{called};
 use crate::Changed;
 use crate::health::with_health;
@@ -19,7 +19,7 @@ use state::Record;
 // Disk d of every stripe, each summed into `block` and then stored: two slices are told apart once and for all, two parts of the images are not.
 fn fill_disk(r: Record, images: &mut [u8], d: u64, block: &mut [u8])
     requires { ⌜ Limits r × (d < disksOf r) × (length (now images) ≡ size r) × (length (now block) ≡ r .block) ⌝ }
-    ensures { λ _. ⌜ now (images .exit) ≡ stored (r .block) (r .stripes) (fillDisk (r .stripes) d (λ S. othersIn r (now (images .entry)) S d)) (now (images .entry)) ⌝ }
+    ensures { λ _. ⌜ now (images .exit) ≡ storedIn r (fillDisk (r .stripes) d (λ S. othersIn r (now (images .entry)) S d)) (now (images .entry)) ⌝ }
 {
     let disks = disks_of(r) as usize;
     let stripes = r.stripes as usize;
@@ -33,7 +33,7 @@ fn fill_disk(r: Record, images: &mut [u8], d: u64, block: &mut [u8])
 // The same, with a block of its own to sum into.
 fn fill_disk_alone(r: Record, images: &mut [u8], d: u64)
     requires { ⌜ Limits r × (d < disksOf r) × (length (now images) ≡ size r) ⌝ }
-    ensures { λ _. ⌜ now (images .exit) ≡ stored (r .block) (r .stripes) (fillDisk (r .stripes) d (λ S. othersIn r (now (images .entry)) S d)) (now (images .entry)) ⌝ }
+    ensures { λ _. ⌜ now (images .exit) ≡ storedIn r (fillDisk (r .stripes) d (λ S. othersIn r (now (images .entry)) S d)) (now (images .entry)) ⌝ }
 {
     let mut block = [0u8; 4096];
     let len = r.block as usize;

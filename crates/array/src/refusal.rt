@@ -1,14 +1,12 @@
 // The table of refusals, call by call: the first number whose condition holds, or 0. Nothing is looked at but the record, the numbers
 // given and the lengths lent.
 ghost use mathlib.Core.Path.{_≡_};
-ghost use mathlib.Core.Bool.{not};
-ghost use mathlib.Core.List.{[], _∷_};
 ghost use Prim.Native.Nat.{_≤_};
 ghost use Rattle.layout.specs.Layout.{capacity};
-ghost use Rattle.state.specs.Good.{geometry, good, Limits};
+ghost use Rattle.state.specs.Good.{geometry, Limits};
 ghost use Rattle.calls.specs.Call.{format, read, grow, advance, out, rebuild, status, locate, owner, feed};
 ghost use Rattle.calls.specs.Images.{disksOf, sizeWith};
-ghost use Rattle.calls.specs.Table.{badRecord, lost, idle, formable, word, refusal};
+ghost use Rattle.calls.specs.Table.{idle, formable, word, kept, keptWhole, keptLent, refusalOf};
 use crate::health::is_degraded;
 use crate::health::is_lost;
 use crate::health::is_out;
@@ -87,7 +85,7 @@ fn is_formable(n: u64, block: u64, stripes: u64) -> bool
 }
 
 pub fn of_format(images: usize, n: u64, block: u64, stripes: u64) -> u8
-    ensures { λ k. ⌜ ((r : Record) → k ≡ refusal r (capacity (geometry r)) (feed (format n block stripes) images 0)) ⌝ }
+    ensures { λ k. ⌜ ((r : Record) → k ≡ refusalOf r (feed (format n block stripes) images 0)) ⌝ }
 {
     if !is_formable(n, block, stripes) {
         return GEOMETRY;
@@ -98,9 +96,9 @@ pub fn of_format(images: usize, n: u64, block: u64, stripes: u64) -> u8
     0
 }
 
-// The rows of the record, with which the calls that reach its array begin.
-fn of_record(r: Record) -> u8
-    ensures { λ k. ⌜ k ≡ word (badRecord (not (good r)) ∷ lost r ∷ []) ⌝ }
+// How the rows of many calls begin: 1, 2 ..
+fn of_kept(r: Record) -> u8
+    ensures number { λ k. ⌜ k ≡ word (kept r) ⌝ }
 {
     if !is_good(r) {
         return RECORD;
@@ -112,16 +110,42 @@ fn of_record(r: Record) -> u8
     0
 }
 
-// Of read, view and write: room is the length of the block that is lent.
-pub fn of_reach(r: Record, images: usize, b: u64, room: usize) -> u8
-    ensures { λ k. ⌜ k ≡ refusal r (capacity (geometry r)) (feed (read b) images room) ⌝ }
+// .. 1, 2, 3 ..
+fn of_whole(r: Record) -> u8
+    ensures number { λ k. ⌜ k ≡ word (keptWhole r) ⌝ }
 {
-    let k = of_record(r);
+    let k = of_kept(r);
+    if k != 0 {
+        return k;
+    }
+    let health = r.health;
+    if is_degraded(health) {
+        return DEGRADED;
+    }
+    0
+}
+
+// .. and 1, 2, 7.
+fn of_lent(r: Record, images: usize) -> u8
+    ensures number { λ k. ⌜ k ≡ word (keptLent r images) ⌝ }
+{
+    let k = of_kept(r);
     if k != 0 {
         return k;
     }
     if images as u64 != size_with(r, r.new as u64) {
         return IMAGES;
+    }
+    0
+}
+
+// Of read, view and write: room is the length of the block that is lent.
+pub fn of_reach(r: Record, images: usize, b: u64, room: usize) -> u8
+    ensures { λ k. ⌜ k ≡ refusalOf r (feed (read b) images room) ⌝ }
+{
+    let k = of_lent(r, images);
+    if k != 0 {
+        return k;
     }
     if blocks_of(r) <= b {
         return PAST_THE_END;
@@ -133,15 +157,11 @@ pub fn of_reach(r: Record, images: usize, b: u64, room: usize) -> u8
 }
 
 pub fn of_grow(r: Record, images: usize, m: u64) -> u8
-    ensures { λ k. ⌜ k ≡ refusal r (capacity (geometry r)) (feed (grow m) images 0) ⌝ }
+    ensures { λ k. ⌜ k ≡ refusalOf r (feed (grow m) images 0) ⌝ }
 {
-    let k = of_record(r);
+    let k = of_whole(r);
     if k != 0 {
         return k;
-    }
-    let health = r.health;
-    if is_degraded(health) {
-        return DEGRADED;
     }
     if r.new != 0 {
         return GROWN;
@@ -156,15 +176,11 @@ pub fn of_grow(r: Record, images: usize, m: u64) -> u8
 }
 
 pub fn of_advance(r: Record, images: usize, k: u64) -> u8
-    ensures { λ x. ⌜ x ≡ refusal r (capacity (geometry r)) (feed (advance k) images 0) ⌝ }
+    ensures { λ x. ⌜ x ≡ refusalOf r (feed (advance k) images 0) ⌝ }
 {
-    let w = of_record(r);
+    let w = of_whole(r);
     if w != 0 {
         return w;
-    }
-    let health = r.health;
-    if is_degraded(health) {
-        return DEGRADED;
     }
     if is_idle(r) {
         return NOTHING_TO_MOVE;
@@ -176,9 +192,9 @@ pub fn of_advance(r: Record, images: usize, k: u64) -> u8
 }
 
 pub fn of_out(r: Record, d: u64) -> u8
-    ensures { λ k. ⌜ k ≡ refusal r (capacity (geometry r)) (feed (out d) 0 0) ⌝ }
+    ensures { λ k. ⌜ k ≡ refusalOf r (feed (out d) 0 0) ⌝ }
 {
-    let k = of_record(r);
+    let k = of_kept(r);
     if k != 0 {
         return k;
     }
@@ -193,14 +209,11 @@ pub fn of_out(r: Record, d: u64) -> u8
 }
 
 pub fn of_rebuild(r: Record, images: usize, d: u64) -> u8
-    ensures { λ k. ⌜ k ≡ refusal r (capacity (geometry r)) (feed (rebuild d) images 0) ⌝ }
+    ensures { λ k. ⌜ k ≡ refusalOf r (feed (rebuild d) images 0) ⌝ }
 {
-    let k = of_record(r);
+    let k = of_lent(r, images);
     if k != 0 {
         return k;
-    }
-    if images as u64 != size_with(r, r.new as u64) {
-        return IMAGES;
     }
     let health = r.health;
     if !is_out(health, d) {
@@ -210,7 +223,7 @@ pub fn of_rebuild(r: Record, images: usize, d: u64) -> u8
 }
 
 pub fn of_status(r: Record) -> u8
-    ensures { λ k. ⌜ k ≡ refusal r (capacity (geometry r)) (feed status 0 0) ⌝ }
+    ensures { λ k. ⌜ k ≡ refusalOf r (feed status 0 0) ⌝ }
 {
     if !is_good(r) {
         return RECORD;
@@ -219,7 +232,7 @@ pub fn of_status(r: Record) -> u8
 }
 
 pub fn of_locate(r: Record, b: u64) -> u8
-    ensures { λ k. ⌜ k ≡ refusal r (capacity (geometry r)) (feed (locate b) 0 0) ⌝ }
+    ensures { λ k. ⌜ k ≡ refusalOf r (feed (locate b) 0 0) ⌝ }
 {
     if !is_good(r) {
         return RECORD;
@@ -231,7 +244,7 @@ pub fn of_locate(r: Record, b: u64) -> u8
 }
 
 pub fn of_owner(r: Record, s: u64, d: u64) -> u8
-    ensures { λ k. ⌜ k ≡ refusal r (capacity (geometry r)) (feed (owner s d) 0 0) ⌝ }
+    ensures { λ k. ⌜ k ≡ refusalOf r (feed (owner s d) 0 0) ⌝ }
 {
     if !is_good(r) {
         return RECORD;

@@ -3,11 +3,9 @@
 ghost use Prim.Native.Nat.{_≤_};
 ghost use mathlib.Core.Path.{_≡_};
 ghost use lib.ListN.{length};
-ghost use Rattle.layout.specs.Layout.{capacity};
-ghost use Rattle.state.specs.Good.{geometry};
 ghost use Rattle.array.specs.Answers.{choiceOf, choiceAnswer, begins, ends};
 ghost use Rattle.calls.specs.Call.{view, feed, on, number, shown};
-ghost use Rattle.calls.specs.Table.{refusal};
+ghost use Rattle.calls.specs.Table.{refusalOf};
 ghost use Rattle.calls.specs.Effect.{viewOf, scratchLeft, called};
 use crate::Choice;
 use crate::health::is_absent;
@@ -20,7 +18,7 @@ use state::geometry_of;
 
 // Which it is, with the scratch filled if it is that one, on a call that the table lets through.
 fn choose(r: Record, images: &[u8], b: u64, scratch: &mut [u8]) -> Choice
-    requires { ⌜ refusal r (capacity (geometry r)) (feed (view b) (length (now images)) (length (now scratch))) ≡ 0 ⌝ }
+    requires { ⌜ refusalOf r (feed (view b) (length (now images)) (length (now scratch))) ≡ 0 ⌝ }
     ensures { λ x. ⌜ x ≡ choiceOf 0 (viewOf r b) ⌝ }
     ensures { λ _. ⌜ now (scratch .exit) ≡ scratchLeft r (now (images .entry)) b (now (scratch .entry)) ⌝ }
 {

@@ -3,11 +3,9 @@
 ghost use mathlib.Core.Path.{_≡_};
 ghost use mathlib.Core.List.{[]};
 ghost use lib.ListN.{length};
-ghost use Rattle.layout.specs.Layout.{capacity};
-ghost use Rattle.state.specs.Good.{geometry};
 ghost use Rattle.calls.specs.Call.{write, feed, on, number};
-ghost use Rattle.calls.specs.Images.{stored};
-ghost use Rattle.calls.specs.Table.{refusal};
+ghost use Rattle.calls.specs.Images.{storedIn};
+ghost use Rattle.calls.specs.Table.{refusalOf};
 ghost use Rattle.calls.specs.Effect.{writeStores, called};
 use crate::health::is_absent;
 use crate::places::place_at;
@@ -23,8 +21,8 @@ use state::geometry_of;
 
 // The parity, then the data, on a call that the table lets through.
 fn put(r: Record, images: &mut [u8], b: u64, bytes: &[u8])
-    requires { ⌜ refusal r (capacity (geometry r)) (feed (write b (now bytes)) (length (now images)) 0) ≡ 0 ⌝ }
-    ensures { λ _. ⌜ now (images .exit) ≡ stored (r .block) (r .stripes) (writeStores r (now (images .entry)) b (now (bytes .entry))) (now (images .entry)) ⌝ }
+    requires { ⌜ refusalOf r (feed (write b (now bytes)) (length (now images)) 0) ≡ 0 ⌝ }
+    ensures { λ _. ⌜ now (images .exit) ≡ storedIn r (writeStores r (now (images .entry)) b (now (bytes .entry))) (now (images .entry)) ⌝ }
 {
     let g = geometry_of(r);
     let q = place_of(g, b);

@@ -10,8 +10,9 @@ use Rattle.state.specs.declared.Record.{Record}
 use Rattle.state.specs.Bytes.{plain, decode}
 use Rattle.state.proofs.Laws.Tests.{both}
 use Rattle.calls.specs.Call.{Event}
+use Rattle.calls.specs.Table.{looks}
 use Rattle.calls.specs.Effect.{untouched, called, calledBytes}
-use Rattle.calls.proofs.Laws.OnBytes.{looks, Seals, bytes-short, bytes-damaged, record-seals}
+use Rattle.calls.proofs.Laws.OnBytes.{Seals, bytes-short, bytes-damaged, record-seals}
 use Rattle.pbm.specs.Opening.{readable}
 
 pub long : (b : List ℕ) → readable b ≡ true → length b ≡ 16

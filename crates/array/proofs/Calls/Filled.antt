@@ -1,13 +1,11 @@
 -- Rebuild: disk d, stripe by stripe, as the xor of the others; what is stored on it changes none of these. Assumes nothing.
 use Prim.Native.Nat.{ℕ, zero, suc, _+_, _≤_, _<_}
 use mathlib.Core.Path.{_≡_, refl, sym, ap, ap₂, _∙_, subst}
-use mathlib.Core.Bool.{false, not}
 use mathlib.Core.Logic.{inr}
 use mathlib.Core.List.{List, [], _∷_}
 use native.Mathlib.Nat.{le-antisymm}
 use native.Mathlib.Numerals.{add-one}
 use native.Mathlib.Omega.{arith}
-use borrow.Author.Tests.{not-false}
 use lib.ListN.{length}
 use Rattle.layout.specs.Layout.{capacity}
 use Rattle.blocks.specs.Block.{store}
@@ -16,15 +14,14 @@ use Rattle.blocks.proofs.Laws.Stripe.{length-others, others-store}
 use Rattle.state.specs.declared.Health.the-variants.{Whole}
 use Rattle.state.specs.declared.Health.{Health}
 use Rattle.state.specs.declared.Record.{Record}
-use Rattle.state.specs.Good.{geometry, good, OutBelow, Limits}
-use Rattle.state.proofs.Laws.Good.{limits}
+use Rattle.state.specs.Good.{geometry, OutBelow, Limits}
 use Rattle.calls.specs.Call.{rebuild, feed, on, done}
 use Rattle.calls.specs.Health.{withHealth}
 use Rattle.calls.specs.Images.{disksOf, size, othersIn, block, stored, fillDisk}
-use Rattle.calls.specs.Table.{refusal}
+use Rattle.calls.specs.Table.{refusalOf}
 use Rattle.calls.specs.Effect.{effect, called}
 use Rattle.calls.proofs.Laws.Stores.{length-stored, stored-append, stored-last, recorded-last}
-use Rattle.calls.proofs.Laws.Passed.{Rebuilds, rebuilds}
+use Rattle.calls.proofs.Laws.Passed.{passed, in-limits, Rebuilds, rebuilds}
 use Rattle.array.proofs.Calls.Called.{called-done}
 
 module _ (B T N d : ℕ) (img : List ℕ) where
@@ -75,16 +72,15 @@ module _ (B T N d : ℕ) (img : List ℕ) where
 
 -- ---- the call
 
-module _ (img : List ℕ) (r : Record) (d : ℕ) (z : refusal r (capacity (geometry r)) (feed (rebuild d) (length img) 0) ≡ 0) where
-  passed : Rebuilds (not (good r)) r (length img) d
-  unfolding refusal
-  passed = rebuilds false (not (good r)) r (capacity (geometry r)) (length img) 0 d z
+module _ (img : List ℕ) (r : Record) (d : ℕ) (z : refusalOf r (feed (rebuild d) (length img) 0) ≡ 0) where
+  at-once : Rebuilds r (length img) d
+  at-once = rebuilds r (capacity (geometry r)) (length img) 0 d (passed r (capacity (geometry r)) (feed (rebuild d) (length img) 0) z)
 
   -- what filling a disk asks for
   pub rebuild-passed : Limits r × (d < disksOf r) × (length img ≡ size r)
   rebuild-passed =
-      let l : Limits r = limits r (not-false _ (passed .good)) in
-      (l, subst (λ (h : Health). OutBelow (disksOf r) h) (passed .is-out) (l .out), passed .long)
+      let l : Limits r = in-limits r (capacity (geometry r)) (feed (rebuild d) (length img) 0) refl z in
+      (l, subst (λ (h : Health). OutBelow (disksOf r) h) (at-once .is-out) (l .out), at-once .long)
 
   pub rebuild-done : called (on (rebuild d) img []) r
       ≡ record { answer = done; state = withHealth r Whole; images = stored (r .block) (r .stripes) (fillDisk (r .stripes) d (λ S. othersIn r img S d)) img; room = [] }

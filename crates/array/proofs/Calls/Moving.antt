@@ -1,13 +1,12 @@
 -- Advance, move by move: what a move asks for, the moves made so far, and that behind the last there are none. Assumes nothing.
 use Prim.Native.Nat.{ℕ, _+_, _-_, _*_, _≤_, _<_, min}
 use mathlib.Core.Path.{_≡_, refl, sym, ap, ap₂, _∙_, subst}
-use mathlib.Core.Bool.{Bool, true, false, not}
+use mathlib.Core.Bool.{Bool, true, false}
 use mathlib.Core.Logic.{_≢_}
 use mathlib.Core.List.{List, [], _++_, append-nil}
 use native.Mathlib.Decide.{decLt}
 use native.Mathlib.Nat.{div-le-self}
 use native.Mathlib.Omega.{arith}
-use borrow.Author.Tests.{not-false}
 use lib.ListN.{length}
 use Rattle.layout.specs.declared.Geometry.{Geometry}
 use Rattle.layout.specs.declared.Move.{Move}
@@ -20,16 +19,15 @@ use Rattle.blocks.specs.Block.{blockAt, store, zeros}
 use Rattle.blocks.specs.Stripe.{offset}
 use Rattle.blocks.proofs.Laws.Stripe.{place-in}
 use Rattle.state.specs.declared.Record.{Record}
-use Rattle.state.specs.Good.{geometry, good, Limits}
-use Rattle.state.proofs.Laws.Good.{limits}
+use Rattle.state.specs.Good.{geometry, Limits}
 use Rattle.calls.specs.Call.{advance, feed, on, made}
 use Rattle.calls.specs.Health.{withMoves}
 use Rattle.calls.specs.Images.{disksOf, size, Store, stored, recorded}
-use Rattle.calls.specs.Table.{idle, refusal}
+use Rattle.calls.specs.Table.{idle, refusalOf}
 use Rattle.calls.specs.Effect.{moveStores, advanceStores, effect, Left, called}
 use Rattle.calls.proofs.Laws.Stores.{length-stored, stored-append}
 use Rattle.calls.proofs.Laws.Table.{some-new, some-left, none-left, over}
-use Rattle.calls.proofs.Laws.Passed.{Moves, moves}
+use Rattle.calls.proofs.Laws.Passed.{passed, in-limits, Moves, moves}
 use Rattle.array.proofs.Calls.Called.{called-done}
 use Rattle.calls.proofs.Laws.Advance.{advanced, carried, idle-none, advance-split}
 
@@ -167,17 +165,16 @@ module _ (r : Record) (img : List ℕ) (count : ℕ) (l : Limits r) (nz : r .new
 
 -- ---- the call
 
-module _ (img : List ℕ) (r : Record) (k : ℕ) (z : refusal r (capacity (geometry r)) (feed (advance k) (length img) 0) ≡ 0) where
-  passed : Moves (not (good r)) r (length img)
-  unfolding refusal
-  passed = moves false (not (good r)) r (capacity (geometry r)) (length img) 0 k z
+module _ (img : List ℕ) (r : Record) (k : ℕ) (z : refusalOf r (feed (advance k) (length img) 0) ≡ 0) where
+  lets : Moves r (length img)
+  lets = moves r (capacity (geometry r)) (length img) 0 k (passed r (capacity (geometry r)) (feed (advance k) (length img) 0) z)
 
   pub advance-limits : Limits r
-  advance-limits = limits r (not-false _ (passed .good))
+  advance-limits = in-limits r (capacity (geometry r)) (feed (advance k) (length img) 0) refl z
 
   -- what making moves asks for, of which there are so many
   pub advance-passed : (count : ℕ) → r .moves + count ≤ totalOf (geometry r) → Limits r × (r .new ≢ 0) × (r .moves + count ≤ totalOf (geometry r)) × (length img ≡ size r)
-  advance-passed count some = (advance-limits, some-new (geometry r) (passed .busy), some, passed .long)
+  advance-passed count some = (advance-limits, some-new (geometry r) (lets .busy), some, lets .long)
 
   abbrev leaves : ℕ → Record → List Store → Left Record
   leaves n x ps = record { answer = made n; state = x; images = stored (r .block) (r .stripes) ps img; room = [] }
@@ -189,7 +186,7 @@ module _ (img : List ℕ) (r : Record) (k : ℕ) (z : refusal r (capacity (geome
   pub advance-done : (count : ℕ) → count ≡ min k (totalOf (geometry r) - r .moves)
       → called (on (advance k) img []) r ≡ leaves count (withMoves r (r .moves + count)) (advanceStores count r img)
   advance-done count e =
-      let nz : r .new ≢ 0 = some-new (geometry r) (passed .busy) in
+      let nz : r .new ≢ 0 = some-new (geometry r) (lets .busy) in
       let x : Record = withMoves r (r .moves + count) in
       let same : advanceStores k r img ≡ advanceStores count r img = as-many r advance-limits nz img k ∙ ap (λ (n : ℕ). advanceStores n r img) (sym e) in
       let state : recorded (advanceStores k r img) r ≡ x = state-of k r img (advance-limits .array) nz ∙ ap {B = Record} (λ (n : ℕ). withMoves r (r .moves + n)) (sym e) in

@@ -1,12 +1,11 @@
--- What a read, a view or a write stands on that the table lets through: the rows of the three are the same. Assumes nothing.
+-- What a read, a view or a write stands on that the table lets through. Assumes nothing.
 use Prim.Native.Nat.{ℕ, _+_, _*_, _≤_, _<_}
 use mathlib.Core.Path.{_≡_, refl, sym, ap, _∙_, subst}
-use mathlib.Core.Bool.{true, false, not}
+use mathlib.Core.Bool.{true, false}
 use mathlib.Core.Logic.{_≢_}
 use mathlib.Core.List.{List}
 use native.Mathlib.Omega.{arith}
 use lib.ListN.{length}
-use borrow.Author.Tests.{not-false}
 use Rattle.layout.specs.declared.Geometry.{Geometry}
 use Rattle.layout.specs.declared.Place.{Place}
 use Rattle.layout.specs.Layout.{capacity, layout}
@@ -15,16 +14,15 @@ use Rattle.blocks.specs.Block.{blockAt}
 use Rattle.blocks.specs.Stripe.{offset}
 use Rattle.blocks.proofs.Laws.Stripe.{place-in}
 use Rattle.state.specs.declared.Record.{Record}
-use Rattle.state.specs.Good.{geometry, good, Limits}
-use Rattle.state.proofs.Laws.Good.{limits}
+use Rattle.state.specs.Good.{geometry, Limits}
 use Rattle.array.specs.declared.Choice.the-variants.{Part, Scratch}
 use Rattle.array.specs.Answers.{choiceOf}
-use Rattle.calls.specs.Call.{read, view, write, feed}
+use Rattle.calls.specs.Call.{read, feed}
 use Rattle.calls.specs.Health.{isLost, absent}
 use Rattle.calls.specs.Images.{disksOf, size, othersIn, seen}
-use Rattle.calls.specs.Table.{table, refusal}
+use Rattle.calls.specs.Table.{refusalOf}
 use Rattle.calls.specs.Effect.{placeOf, blockOf, viewOf, scratchLeft}
-use Rattle.calls.proofs.Laws.Passed.{Reaches, reads}
+use Rattle.calls.proofs.Laws.Passed.{passed, in-limits, Reaches, reads}
 use Rattle.calls.proofs.Laws.Write.{lS, ld, lp, parity-apart}
 use Rattle.array.proofs.Calls.Bounds.{bounded}
 
@@ -34,15 +32,6 @@ place-fits r s d l ls ld =
     let a = l .array in
     let n : disksOf r ≤ 32 = omega (arith, a .disks .n-high, a .disks .m-high) in
     omega (arith, place-in (r .block) (r .stripes) s d (disksOf r) ls ld, bounded (disksOf r) (r .stripes) (r .block) n (a .stripes-high) (l .block-high) .all)
-
-module _ (r : Record) (len b : ℕ) where
-  pub as-view : (room : ℕ) → refusal r (capacity (geometry r)) (feed (view b) len room) ≡ refusal r (capacity (geometry r)) (feed (read b) len room)
-  unfolding refusal table
-  as-view room = refl
-
-  pub as-write : (v : List ℕ) (room : ℕ) → refusal r (capacity (geometry r)) (feed (write b v) len room) ≡ refusal r (capacity (geometry r)) (feed (read b) len (length v))
-  unfolding refusal table
-  as-write v room = refl
 
 -- block b stands at q, inside the images, and the parity of its stripe on another disk
 pub record Reached (r : Record) (len b room : ℕ) (q : Place) : Type 0 where
@@ -56,27 +45,26 @@ pub record Reached (r : Record) (len b room : ℕ) (q : Place) : Type 0 where
   pub parity-lt : layout (geometry r) .parity (q .stripe) < disksOf r
   pub apart : layout (geometry r) .parity (q .stripe) ≢ q .disk
 
-module _ (r : Record) (len b room : ℕ) (z : refusal r (capacity (geometry r)) (feed (read b) len room) ≡ 0) (g : Geometry) (e : g ≡ geometry r) where
-  passed : Reaches (not (good r)) r (capacity (geometry r)) len b room
-  unfolding refusal
-  passed = reads false (not (good r)) r (capacity (geometry r)) len room b z
+module _ (r : Record) (len b room : ℕ) (z : refusalOf r (feed (read b) len room) ≡ 0) (g : Geometry) (e : g ≡ geometry r) where
+  lets : Reaches r (capacity (geometry r)) len b room
+  lets = reads r (capacity (geometry r)) len room b (passed r (capacity (geometry r)) (feed (read b) len room) z)
 
-  in-limits : Limits r
-  in-limits = limits r (not-false _ (passed .good))
+  bounds : Limits r
+  bounds = in-limits r (capacity (geometry r)) (feed (read b) len room) refl z
 
   pub asked : Good g × (b < capacity g)
-  asked = subst (λ (x : Geometry). Good x × (b < capacity x)) (sym e) (in-limits .array, passed .block-lt)
+  asked = subst (λ (x : Geometry). Good x × (b < capacity x)) (sym e) (bounds .array, lets .block-lt)
 
   pub reached : (q : Place) → q ≡ layout g .place b → Reached r len b room q
   reached q f =
       let is : q ≡ placeOf r b = f ∙ ap (λ (x : Geometry). layout x .place b) e in
-      let a = in-limits .array in
-      let lb = passed .block-lt in
+      let a = bounds .array in
+      let lb = lets .block-lt in
       record {
-        limits = in-limits;
-        here = passed .here;
-        long = passed .long;
-        whole = passed .whole;
+        limits = bounds;
+        here = lets .here;
+        long = lets .long;
+        whole = lets .whole;
         is = is;
         stripe-lt = rw is (lS (geometry r) a b lb);
         disk-lt = rw is (ld (geometry r) a b lb);

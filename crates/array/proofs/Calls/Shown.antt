@@ -15,10 +15,11 @@ use Rattle.array.specs.declared.Choice.the-variants.{Refused}
 use Rattle.array.specs.Answers.{choiceOf, choiceAnswer, ends}
 use Rattle.calls.specs.Call.{view, Event, on, fed, Answer, bytes, number}
 use Rattle.calls.specs.Health.{absent}
-use Rattle.calls.specs.Table.{refusal}
+use Rattle.calls.specs.Table.{refusalOf}
 use Rattle.calls.specs.Effect.{placeOf, View, part, scratch, viewOf, scratchLeft, viewed, effect, called}
 use Rattle.array.proofs.Calls.Called.{called-refused, called-done}
-use Rattle.array.proofs.Calls.Reach.{as-view, Reached, reached, inside}
+use Rattle.calls.proofs.Laws.Table.{view-rows}
+use Rattle.array.proofs.Calls.Reach.{Reached, reached, inside}
 
 pub choice-refused : (k : ℕ) (v : View) → k ≢ 0 → Refused k ≡ choiceOf k v
 choice-refused zero v nz = absurd (nz refl)
@@ -40,15 +41,15 @@ module _ (r : Record) (img room : List ℕ) (b : ℕ) where
   let-through true left l = (omega arith, refl)
   let-through false left l = (l, refl)
 
-  by-number : (k : ℕ) → refusal r (capacity (geometry r)) (fed e) ≡ k
+  by-number : (k : ℕ) → refusalOf r (fed e) ≡ k
       → Shows (choiceOf (number (called e r .answer)) (viewOf r b)) (called e r .answer) (called e r .room)
   unfolding effect viewOf
   by-number zero z =
-      let x : Reached r (length img) b (length room) (placeOf r b) = reached r (length img) b (length room) (sym (as-view r (length img) b (length room)) ∙ z) (geometry r) refl (placeOf r b) refl in
+      let x : Reached r (length img) b (length room) (placeOf r b) = reached r (length img) b (length room) (sym (view-rows r (capacity (geometry r)) (length img) (length room) b) ∙ z) (geometry r) refl (placeOf r b) refl in
       let l : start + length room ≤ length img = inside x refl in
       rw (called-done e r z) (let-through (absent (r .health) (placeOf r b .stripe) (placeOf r b .disk)) (scratchLeft r img b room) (rw (x .whole) at l))
   by-number (suc k) z = rw (called-refused e r (suc k) z (omega arith)) (omega arith, refl)
 
   pub shows : (x : Choice) → x ≡ choiceOf (number (called e r .answer)) (viewOf r b)
       → (ends x (r .block) ≤ length img) × (choiceAnswer x (r .block) img (called e r .room) ≡ called e r .answer)
-  shows x q = subst (λ (y : Choice). Shows y (called e r .answer) (called e r .room)) (sym q) (by-number (refusal r (capacity (geometry r)) (fed e)) refl)
+  shows x q = subst (λ (y : Choice). Shows y (called e r .answer) (called e r .room)) (sym q) (by-number (refusalOf r (fed e)) refl)

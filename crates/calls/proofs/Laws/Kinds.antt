@@ -13,7 +13,6 @@ use Rattle.state.specs.declared.Health.the-variants.{Whole}
 use Rattle.state.specs.declared.Health.{Health}
 use Rattle.state.specs.declared.Record.{Record}
 use Rattle.state.specs.Good.{geometry, OutBelow, Limits}
-use Rattle.state.proofs.Laws.Good.{limits}
 use Rattle.calls.specs.Call.{Call, format, read, view, write, grow, advance, out, rebuild, status, locate, owner}
 use Rattle.calls.specs.Call.{Event, Fed, feed, Answer, accepted, number, done}
 use Rattle.calls.specs.Health.{absent, formatted, grownBy, withHealth}
@@ -28,7 +27,7 @@ use Rattle.calls.proofs.Laws.Acting.{zero-done}
 use Rattle.calls.proofs.Laws.Holding.{length-seen}
 use Rattle.calls.proofs.Laws.Write.{within-write, recorded-write}
 use Rattle.calls.proofs.Laws.Passed as passed
-use Rattle.calls.proofs.Laws.Passed.{Formats, Reaches, Grows, Moves, Rebuilds, was-good}
+use Rattle.calls.proofs.Laws.Passed.{Formats, Reaches, Grows, Moves, Rebuilds, in-limits}
 use Rattle.calls.proofs.Laws.Kept.{inside-within, within-advance}
 
 -- a record stored behind blocks
@@ -53,7 +52,7 @@ module _ (r : Record) (e : Event) where
   Passed c = refusalOf r (feed c (length (e .images)) (length (e .room))) ≡ 0
 
   pub bounds : (c : Call) → looks c ≡ true → Passed c → Limits r
-  bounds c l z = limits r (was-good r cap (asked c) l z)
+  bounds c l z = in-limits r cap (asked c) l z
 
   pub formatting : (n B T : ℕ) → Passed (format n B T) → Formats n B T (length img)
   formatting n B T z = passed.formats r cap (length img) (length (e .room)) n B T (passed.passed r cap (asked (format n B T)) z)

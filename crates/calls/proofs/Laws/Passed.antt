@@ -11,8 +11,9 @@ use Rattle.state.specs.declared.Health.the-variants.{Whole, Out, Lost}
 use Rattle.state.specs.declared.Health.{Health}
 use Rattle.state.specs.declared.Record.{Record}
 use Rattle.layout.specs.Layout.{capacity}
-use Rattle.state.specs.Good.{geometry, newGood, good}
+use Rattle.state.specs.Good.{geometry, newGood, good, Limits}
 use Rattle.state.specs.Bytes.{decode, goodBytes}
+use Rattle.state.proofs.Laws.Good.{limits}
 use Rattle.calls.specs.Call.{Call, Fed, format, read, view, write, grow, advance, out, rebuild, locate, owner}
 use Rattle.calls.specs.Health.{isLost, isDegraded, isOut}
 use Rattle.calls.specs.Images.{disksOf, size, sizeWith}
@@ -84,11 +85,14 @@ passed-bytes b e z =
     passed-on (e .call) (not (eqb (length b) 16)) (not (goodBytes b)) r (capacity (geometry r)) (e .images) (e .room) z
 
 -- and if it looks at the record, that is good
-pub was-good : (r : Record) (c : ℕ) (e : Fed) → looks (e .call) ≡ true → refusal r c e ≡ 0 → good r ≡ true
+was-good : (r : Record) (c : ℕ) (e : Fed) → looks (e .call) ≡ true → refusal r c e ≡ 0 → good r ≡ true
 unfolding refusal table
 was-good r c e l z =
     let p = passes (cond (looks (e .call)) (false || not (good r)) false) 0 (word (laterRows (e .call) r c (e .images) (e .room))) z .0 in
     not-false _ (rw l at p)
+
+pub in-limits : (r : Record) (c : ℕ) (e : Fed) → looks (e .call) ≡ true → refusal r c e ≡ 0 → Limits r
+in-limits r c e l z = limits r (was-good r c e l z)
 
 -- ---- the rows behind it
 

@@ -5,7 +5,7 @@ use borrow.Author.Needs.{needs}
 use Rattle.layout.specs.Layout.{capacity}
 use Rattle.state.specs.Good.{geometry}
 use Rattle.calls.specs.Call.{owner, feed, on}
-use Rattle.calls.specs.Table.{refusal}
+use Rattle.calls.specs.Table.{refusalOf}
 use Rattle.calls.specs.Effect.{effect}
 use Rattle.array.proofs.Calls.Asking.{owner-asks}
 use Rattle.array.proofs.Calls.Called.{called-refused, called-done}
@@ -23,7 +23,7 @@ returns c =
 geometry-of-requires : tie.Need-geometry-of-requires
 geometry-of-requires c κs = search needs
 
-passed : (c : tie.Else1) → let a = c .before .before .args in refusal (a .r) (capacity (geometry (a .r))) (feed (owner (a .s) (a .d)) 0 0) ≡ 0
+passed : (c : tie.Else1) → let a = c .before .before .args in refusalOf (a .r) (feed (owner (a .s) (a .d)) 0 0) ≡ 0
 passed c = sym (c .before .of-owner .ensures) ∙ c .if1 .left
 
 owner-of-requires : tie.Need-owner-of-requires

@@ -8,7 +8,7 @@ use Rattle.state.specs.Good.{geometry}
 use Rattle.calls.specs.Call.{out, feed, on}
 use Rattle.calls.specs.Health.{withHealth}
 use Rattle.calls.specs.Images.{recorded}
-use Rattle.calls.specs.Table.{refusal}
+use Rattle.calls.specs.Table.{refusalOf}
 use Rattle.calls.specs.Effect.{effect}
 use Rattle.array.proofs.Calls.Asking.{out-asks}
 use Rattle.array.proofs.Calls.Called.{called-refused, called-done}
@@ -23,7 +23,7 @@ returns c =
     let a = c .before .before .args in
     rw (called-refused (on (out (a .d)) [] []) (a .r) _ (sym (c .before .of-out .ensures)) (c .if1 .taken)) (refl, refl)
 
-passed : (c : tie.Else1) → let a = c .before .before .args in refusal (a .r) (capacity (geometry (a .r))) (feed (out (a .d)) 0 0) ≡ 0
+passed : (c : tie.Else1) → let a = c .before .before .args in refusalOf (a .r) (feed (out (a .d)) 0 0) ≡ 0
 passed c = sym (c .before .of-out .ensures) ∙ c .if1 .left
 
 cast-after-out : tie.Need-cast-after-out

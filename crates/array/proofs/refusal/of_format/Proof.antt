@@ -1,10 +1,15 @@
 -- `of_format` meets its contract. Assumes nothing.
-use mathlib.Core.Path.{_≡_, refl}
-use mathlib.Core.Bool.{true}
+use Prim.Native.Nat.{_*_}
+use mathlib.Core.Path.{_≡_, refl, sym, ap, _∙_}
+use mathlib.Core.Bool.{true, not}
+use mathlib.Core.List.{[], _∷_}
 use native.Mathlib.Omega.{arith}
 use borrow.Author.Needs.{needs}
 use Rattle.state.proofs.Laws.Tests.{went-on, returned}
-use Rattle.calls.specs.Table.{formable, table, refusal}
+use Rattle.calls.specs.Table.{formable, images}
+use Rattle.calls.proofs.Laws.Table.{given, skipped, format-rows}
+use Rattle.layout.specs.Layout.{capacity}
+use Rattle.state.specs.Good.{geometry}
 use Rattle.array.proofs.Calls.Asked.{same, other}
 use Rattle.array.proofs.Calls.Bounds.{Bounded, bounded}
 use Rattle.calls.proofs.Laws.Format.{limits}
@@ -15,8 +20,10 @@ is-formable-requires : tie.Need-is-formable-requires
 is-formable-requires c κs = search needs
 
 returns : tie.Need-returns
-unfolding refusal table
-returns c = λ r. rw (returned (c .before .is-formable .ensures) (c .if1 .taken)) refl
+returns c = λ r.
+    let a = c .before .before .args in
+    sym (format-rows r (capacity (geometry r)) (a .images) 0 (a .n) (a .block) (a .stripes)
+    ∙ given 6 (images (a .n * (a .stripes * a .block)) (a .images) ∷ []) (ap not (returned (c .before .is-formable .ensures) (c .if1 .taken))))
 
 -- what the first test has shown
 fits : (c : tie.Else1) → formable (c .before .before .args .n) (c .before .before .args .block) (c .before .before .args .stripes) ≡ true
@@ -34,12 +41,16 @@ mul-if2-2 : tie.Need-mul-if2-2
 mul-if2-2 c = omega (arith, sizes c .all)
 
 returns-2 : tie.Need-returns-2
-unfolding refusal table
-returns-2 c = λ r. rw (fits (c .before), other refl (c .if2 .taken)) refl
+returns-2 c = λ r.
+    let a = c .before .before .before .args in
+    sym (format-rows r (capacity (geometry r)) (a .images) 0 (a .n) (a .block) (a .stripes)
+    ∙ skipped 6 (images (a .n * (a .stripes * a .block)) (a .images) ∷ []) (ap not (fits (c .before))) ∙ given 7 [] (ap not (other refl (c .if2 .taken))))
 
 returns-3 : tie.Need-returns-3
-unfolding refusal table
-returns-3 c = λ r. rw (fits (c .before), same refl (c .if2 .left)) refl
+returns-3 c = λ r.
+    let a = c .before .before .before .args in
+    sym (format-rows r (capacity (geometry r)) (a .images) 0 (a .n) (a .block) (a .stripes)
+    ∙ skipped 6 (images (a .n * (a .stripes * a .block)) (a .images) ∷ []) (ap not (fits (c .before))) ∙ skipped 7 [] (ap not (same refl (c .if2 .left))))
 
 pub of-format-spec : {M : Type 1} → statement M
 of-format-spec =

@@ -1,70 +1,75 @@
 -- `of_reach` meets its contract. Assumes nothing.
-use mathlib.Core.Path.{refl}
+use mathlib.Core.Path.{refl, sym, ap, _∙_}
+use mathlib.Core.Bool.{not}
+use mathlib.Core.List.{[], _∷_}
 use borrow.Author.Needs.{needs}
-use Rattle.calls.specs.Table.{table, refusal}
+use Rattle.layout.specs.Layout.{capacity}
+use Rattle.state.specs.Good.{geometry}
+use Rattle.calls.specs.Table.{pastEnd, blockLength, keptLent}
+use Rattle.calls.proofs.Laws.Table.{stops, given, skipped, lent-on, read-rows}
 use Rattle.array.proofs.Calls.Asked.{same, other, under, over}
-use Rattle.array.proofs.Calls.Ready.{Ready, ready, unready}
+use Rattle.array.proofs.Calls.Ready.{ready-lent}
 use Rattle.array.proofs.refusal.of_reach.Statement.{statement}
 use Rattle.array.proofs.refusal.of_reach.Tie as tie
 
-of-record-requires : tie.Need-of-record-requires
-of-record-requires c κs = search needs
-
--- what the first test has shown
-is-ready : (c : tie.Else1) → Ready (c .before .before .args .r)
-is-ready c = ready _ (c .before .of-record .ensures) (c .if1 .left)
+of-lent-requires : tie.Need-of-lent-requires
+of-lent-requires c κs = search needs
 
 returns : tie.Need-returns
-unfolding refusal table
-returns c = unready _ (c .before .of-record .ensures) (c .if1 .taken) _
-
-cast-size-with : tie.Need-cast-size-with
-cast-size-with c = search needs
-
-size-with-requires : tie.Need-size-with-requires
-size-with-requires c κs = let l = is-ready (c .before) .limits in (l, l .array .disks .m-high)
-
-returns-2 : tie.Need-returns-2
-unfolding refusal table
-returns-2 c =
-    let i = is-ready (c .before .before .before) in
-    rw (i .good, i .here, other (c .before .size-with .ensures) (c .if2 .taken)) refl
+returns c =
+    let a = c .before .before .args in
+    let cap = capacity (geometry (a .r)) in
+    stops (keptLent (a .r) (a .images)) (pastEnd (a .b) cap ∷ blockLength (a .r) (a .room) ∷ []) (c .before .of-lent .ensures) (c .if1 .taken)
+    ∙ sym (read-rows (a .r) cap (a .images) (a .room) (a .b))
 
 blocks-of-requires : tie.Need-blocks-of-requires
-blocks-of-requires c κs = is-ready (c .before .before .before) .limits
+blocks-of-requires c κs = ready-lent (c .before .before .args .r) (c .before .before .args .images) (c .before .of-lent .ensures) (c .if1 .left)
+
+returns-2 : tie.Need-returns-2
+returns-2 c =
+    let c1 = c .before .before in
+    let a = c1 .before .before .args in
+    let cap = capacity (geometry (a .r)) in
+    let ys = blockLength (a .r) (a .room) ∷ [] in
+    sym (read-rows (a .r) cap (a .images) (a .room) (a .b)
+    ∙ lent-on (a .r) (pastEnd (a .b) cap ∷ ys) (a .images) (c1 .before .of-lent .ensures) (c1 .if1 .left)
+    ∙ given 8 ys (ap not (over (c .before .blocks-of .ensures) (c .if2 .taken))))
+
+cast-if3 : tie.Need-cast-if3
+cast-if3 c = search needs
 
 returns-3 : tie.Need-returns-3
-unfolding refusal table
 returns-3 c =
-    let i = is-ready (c .before .before .before .before .before) in
-    rw (i .good, i .here, same (c .before .before .before .size-with .ensures) (c .before .before .if2 .left), over (c .before .blocks-of .ensures) (c .if3 .taken)) refl
-
-cast-if4 : tie.Need-cast-if4
-cast-if4 c = search needs
+    let c2 = c .before .before in
+    let c1 = c2 .before .before in
+    let a = c1 .before .before .args in
+    let cap = capacity (geometry (a .r)) in
+    let ys = blockLength (a .r) (a .room) ∷ [] in
+    sym (read-rows (a .r) cap (a .images) (a .room) (a .b)
+    ∙ lent-on (a .r) (pastEnd (a .b) cap ∷ ys) (a .images) (c1 .before .of-lent .ensures) (c1 .if1 .left)
+    ∙ skipped 8 ys (ap not (under (c2 .before .blocks-of .ensures) (c2 .if2 .left)))
+    ∙ given 9 [] (ap not (other refl (c .if3 .taken))))
 
 returns-4 : tie.Need-returns-4
-unfolding refusal table
 returns-4 c =
-    let i = is-ready (c .before .before .before .before .before .before .before) in
-    rw (i .good, i .here, same (c .before .before .before .before .before .size-with .ensures) (c .before .before .before .before .if2 .left), under (c .before .before .before .blocks-of .ensures) (c .before .before .if3 .left), other refl (c .if4 .taken)) refl
-
-returns-5 : tie.Need-returns-5
-unfolding refusal table
-returns-5 c =
-    let i = is-ready (c .before .before .before .before .before .before .before) in
-    rw (i .good, i .here, same (c .before .before .before .before .before .size-with .ensures) (c .before .before .before .before .if2 .left), under (c .before .before .before .blocks-of .ensures) (c .before .before .if3 .left), same refl (c .if4 .left)) refl
+    let c2 = c .before .before in
+    let c1 = c2 .before .before in
+    let a = c1 .before .before .args in
+    let cap = capacity (geometry (a .r)) in
+    let ys = blockLength (a .r) (a .room) ∷ [] in
+    sym (read-rows (a .r) cap (a .images) (a .room) (a .b)
+    ∙ lent-on (a .r) (pastEnd (a .b) cap ∷ ys) (a .images) (c1 .before .of-lent .ensures) (c1 .if1 .left)
+    ∙ skipped 8 ys (ap not (under (c2 .before .blocks-of .ensures) (c2 .if2 .left)))
+    ∙ skipped 9 [] (ap not (same refl (c .if3 .left))))
 
 pub of-reach-spec : {M : Type 1} → statement M
 of-reach-spec =
     tie.close
     (tie.spec
-    of-record-requires
+    of-lent-requires
     returns
-    cast-size-with
-    size-with-requires
-    returns-2
     blocks-of-requires
+    returns-2
+    cast-if3
     returns-3
-    cast-if4
-    returns-4
-    returns-5)
+    returns-4)

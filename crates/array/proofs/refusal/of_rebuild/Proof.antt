@@ -1,60 +1,54 @@
 -- `of_rebuild` meets its contract. Assumes nothing.
-use mathlib.Core.Path.{refl}
+use mathlib.Core.Path.{sym, ap, _∙_}
+use mathlib.Core.Bool.{not}
+use mathlib.Core.List.{[], _∷_}
 use borrow.Author.Needs.{needs}
+use Rattle.layout.specs.Layout.{capacity}
+use Rattle.state.specs.Good.{geometry}
 use Rattle.state.proofs.Laws.Tests.{went-on, returned}
-use Rattle.calls.specs.Table.{table, refusal}
-use Rattle.array.proofs.Calls.Asked.{same, other}
-use Rattle.array.proofs.Calls.Ready.{Ready, ready, unready}
+use Rattle.calls.specs.Health.{isOut}
+use Rattle.calls.specs.Table.{disk, keptLent}
+use Rattle.calls.proofs.Laws.Table.{stops, given, skipped, lent-on, rebuild-rows}
 use Rattle.array.proofs.refusal.of_rebuild.Statement.{statement}
 use Rattle.array.proofs.refusal.of_rebuild.Tie as tie
 
-of-record-requires : tie.Need-of-record-requires
-of-record-requires c κs = search needs
-
--- what the first test has shown
-is-ready : (c : tie.Else1) → Ready (c .before .before .args .r)
-is-ready c = ready _ (c .before .of-record .ensures) (c .if1 .left)
+of-lent-requires : tie.Need-of-lent-requires
+of-lent-requires c κs = search needs
 
 returns : tie.Need-returns
-unfolding refusal table
-returns c = unready _ (c .before .of-record .ensures) (c .if1 .taken) _
-
-cast-size-with : tie.Need-cast-size-with
-cast-size-with c = search needs
-
-size-with-requires : tie.Need-size-with-requires
-size-with-requires c κs = let l = is-ready (c .before) .limits in (l, l .array .disks .m-high)
-
-returns-2 : tie.Need-returns-2
-unfolding refusal table
-returns-2 c =
-    let i = is-ready (c .before .before .before) in
-    rw (i .good, i .here, other (c .before .size-with .ensures) (c .if2 .taken)) refl
+returns c =
+    let a = c .before .before .args in
+    let r = a .r in
+    stops (keptLent r (a .images)) (disk (not (isOut (r .health) (a .d))) ∷ []) (c .before .of-lent .ensures) (c .if1 .taken)
+    ∙ sym (rebuild-rows r (capacity (geometry r)) (a .images) 0 (a .d))
 
 is-out-requires : tie.Need-is-out-requires
 is-out-requires c κs = search needs
 
-returns-3 : tie.Need-returns-3
-unfolding refusal table
-returns-3 c =
-    let i = is-ready (c .before .before .before .before .before) in
-    rw (i .good, i .here, same (c .before .before .before .size-with .ensures) (c .before .before .if2 .left), returned (c .before .is-out .ensures) (c .if3 .taken)) refl
+returns-2 : tie.Need-returns-2
+returns-2 c =
+    let c1 = c .before .before in
+    let a = c1 .before .before .args in
+    let r = a .r in
+    sym (rebuild-rows r (capacity (geometry r)) (a .images) 0 (a .d)
+    ∙ lent-on r (disk (not (isOut (r .health) (a .d))) ∷ []) (a .images) (c1 .before .of-lent .ensures) (c1 .if1 .left)
+    ∙ given 10 [] (ap not (returned (c .before .is-out .ensures) (c .if2 .taken))))
 
-returns-4 : tie.Need-returns-4
-unfolding refusal table
-returns-4 c =
-    let i = is-ready (c .before .before .before .before .before) in
-    rw (i .good, i .here, same (c .before .before .before .size-with .ensures) (c .before .before .if2 .left), went-on (c .before .is-out .ensures) (c .if3 .left)) refl
+returns-3 : tie.Need-returns-3
+returns-3 c =
+    let c1 = c .before .before in
+    let a = c1 .before .before .args in
+    let r = a .r in
+    sym (rebuild-rows r (capacity (geometry r)) (a .images) 0 (a .d)
+    ∙ lent-on r (disk (not (isOut (r .health) (a .d))) ∷ []) (a .images) (c1 .before .of-lent .ensures) (c1 .if1 .left)
+    ∙ skipped 10 [] (ap not (went-on (c .before .is-out .ensures) (c .if2 .left))))
 
 pub of-rebuild-spec : {M : Type 1} → statement M
 of-rebuild-spec =
     tie.close
     (tie.spec
-    of-record-requires
+    of-lent-requires
     returns
-    cast-size-with
-    size-with-requires
-    returns-2
     is-out-requires
-    returns-3
-    returns-4)
+    returns-2
+    returns-3)

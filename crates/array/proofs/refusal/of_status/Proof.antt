@@ -1,8 +1,12 @@
 -- `of_status` meets its contract. Assumes nothing.
-use mathlib.Core.Path.{refl}
+use mathlib.Core.Path.{sym, ap, _∙_}
+use mathlib.Core.Bool.{not}
+use mathlib.Core.List.{[]}
 use borrow.Author.Needs.{needs}
+use Rattle.layout.specs.Layout.{capacity}
+use Rattle.state.specs.Good.{geometry}
 use Rattle.state.proofs.Laws.Tests.{went-on, returned}
-use Rattle.calls.specs.Table.{table, refusal}
+use Rattle.calls.proofs.Laws.Table.{given, skipped, status-rows}
 use Rattle.array.proofs.refusal.of_status.Statement.{statement}
 use Rattle.array.proofs.refusal.of_status.Tie as tie
 
@@ -10,12 +14,14 @@ is-good-requires : tie.Need-is-good-requires
 is-good-requires c κs = search needs
 
 returns : tie.Need-returns
-unfolding refusal table
-returns c = rw (returned (c .before .is-good .ensures) (c .if1 .taken)) refl
+returns c =
+    let r = c .before .before .args .r in
+    sym (status-rows r (capacity (geometry r)) 0 0 ∙ given 1 [] (ap not (returned (c .before .is-good .ensures) (c .if1 .taken))))
 
 returns-2 : tie.Need-returns-2
-unfolding refusal table
-returns-2 c = rw (went-on (c .before .is-good .ensures) (c .if1 .left)) refl
+returns-2 c =
+    let r = c .before .before .args .r in
+    sym (status-rows r (capacity (geometry r)) 0 0 ∙ skipped 1 [] (ap not (went-on (c .before .is-good .ensures) (c .if1 .left))))
 
 pub of-status-spec : {M : Type 1} → statement M
 of-status-spec = tie.close (tie.spec is-good-requires returns returns-2)

@@ -3,7 +3,8 @@ use mathlib.Core.Path.{sym, _∙_}
 use lib.ListN.{length}
 use borrow.Author.Needs.{needs}
 use Rattle.array.proofs.Calls.Asked.{told}
-use Rattle.array.proofs.Calls.Reach.{as-view, Reached, asked, reached, choice-out, choice-in}
+use Rattle.calls.proofs.Laws.Table.{view-rows}
+use Rattle.array.proofs.Calls.Reach.{Reached, asked, reached, choice-out, choice-in}
 use Rattle.array.proofs.viewing.choose.Statement.{statement}
 use Rattle.array.proofs.viewing.choose.Tie as tie
 
@@ -11,11 +12,11 @@ geometry-of-requires : tie.Need-geometry-of-requires
 geometry-of-requires c κs = search needs
 
 place-of-requires : tie.Need-place-of-requires
-place-of-requires c κs = asked _ _ _ _ (sym (as-view _ _ _ _) ∙ c .before .before .before .pre) _ (c .geometry-of .ensures)
+place-of-requires c κs = asked _ _ _ _ (sym (view-rows _ _ _ _ _) ∙ c .before .before .before .pre) _ (c .geometry-of .ensures)
 
 -- the block's place
 stands : (c : tie.After-place-of) → let a = c .before .before .before .before .args in Reached (a .r) (length (a .images .now)) (a .b) (length (a .scratch .now)) (c .place-of .result)
-stands c = reached _ _ _ _ (sym (as-view _ _ _ _) ∙ c .before .before .before .before .pre) _ (c .before .geometry-of .ensures) _ (c .place-of .ensures)
+stands c = reached _ _ _ _ (sym (view-rows _ _ _ _ _) ∙ c .before .before .before .before .pre) _ (c .before .geometry-of .ensures) _ (c .place-of .ensures)
 
 is-absent-requires : tie.Need-is-absent-requires
 is-absent-requires c κs = search needs

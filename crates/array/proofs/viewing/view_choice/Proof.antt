@@ -4,7 +4,7 @@ use borrow.Author.Needs.{needs}
 use Rattle.calls.specs.Call.{view, on}
 use Rattle.calls.specs.Effect.{effect}
 use Rattle.array.proofs.Calls.Called.{called-refused, called-done}
-use Rattle.array.proofs.Calls.Reach.{as-view}
+use Rattle.calls.proofs.Laws.Table.{view-rows}
 use Rattle.array.proofs.Calls.Shown.{choice-refused}
 use Rattle.array.proofs.viewing.view_choice.Statement.{statement}
 use Rattle.array.proofs.viewing.view_choice.Tie as tie
@@ -15,10 +15,10 @@ of-reach-requires c κs = search needs
 returns : tie.Need-returns
 returns c =
     let a = c .before .before .before .before .args in
-    rw (called-refused (on (view (a .b)) (a .images .now) (a .scratch .now)) (a .r) _ (as-view _ _ _ _ ∙ sym (c .before .of-reach .ensures)) (c .if1 .taken)) (choice-refused _ _ (c .if1 .taken), refl)
+    rw (called-refused (on (view (a .b)) (a .images .now) (a .scratch .now)) (a .r) _ (view-rows _ _ _ _ _ ∙ sym (c .before .of-reach .ensures)) (c .if1 .taken)) (choice-refused _ _ (c .if1 .taken), refl)
 
 choose-requires : tie.Need-choose-requires
-choose-requires c κs = as-view _ _ _ _ ∙ sym (c .before .before .of-reach .ensures) ∙ c .before .if1 .left
+choose-requires c κs = view-rows _ _ _ _ _ ∙ sym (c .before .before .of-reach .ensures) ∙ c .before .if1 .left
 
 same-length : tie.Need-same-length
 same-length c = search needs
@@ -29,7 +29,7 @@ returns-2 c =
     let c1 = c .before .before in
     let c2 = c1 .before .before in
     let a = c2 .before .before .before .before .args in
-    rw (called-done (on (view (a .b)) (a .images .now) (a .scratch .now)) (a .r) (as-view _ _ _ _ ∙ sym (c2 .before .of-reach .ensures) ∙ c2 .if1 .left)) (c1 .choose .ensures)
+    rw (called-done (on (view (a .b)) (a .images .now) (a .scratch .now)) (a .r) (view-rows _ _ _ _ _ ∙ sym (c2 .before .of-reach .ensures) ∙ c2 .if1 .left)) (c1 .choose .ensures)
 
 pub view-choice-spec : {M : Type 1} → statement M
 view-choice-spec =

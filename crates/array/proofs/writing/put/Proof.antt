@@ -9,7 +9,8 @@ use Rattle.state.proofs.Laws.Tests.{went-on, returned}
 use Rattle.calls.specs.Images.{stored}
 use Rattle.calls.specs.Effect.{writeStores}
 use Rattle.array.proofs.Calls.Asked.{told}
-use Rattle.array.proofs.Calls.Reach.{as-write, Reached, asked, reached, inside, short, parity-asked}
+use Rattle.calls.proofs.Laws.Table.{write-rows}
+use Rattle.array.proofs.Calls.Reach.{Reached, asked, reached, inside, short, parity-asked}
 use Rattle.array.proofs.Calls.Put.{Aimed, aimed, parity-lt, sums, folds, data-out, both-in, parity-out}
 use Rattle.array.proofs.writing.put.Statement.{statement}
 use Rattle.array.proofs.writing.put.Tie as tie
@@ -18,11 +19,11 @@ geometry-of-requires : tie.Need-geometry-of-requires
 geometry-of-requires c κs = search needs
 
 place-of-requires : tie.Need-place-of-requires
-place-of-requires c κs = asked _ _ _ _ (sym (as-write _ _ _ _ _) ∙ c .before .before .before .pre) _ (c .geometry-of .ensures)
+place-of-requires c κs = asked _ _ _ _ (sym (write-rows _ _ _ _ _ _) ∙ c .before .before .before .pre) _ (c .geometry-of .ensures)
 
 -- the block's place, and its parity's disk
 stands : (c : tie.After-place-of) → let a = c .before .before .before .before .args in Reached (a .r) (length (a .images .now)) (a .b) (length (a .bytes .now)) (c .place-of .result)
-stands c = reached _ _ _ _ (sym (as-write _ _ _ _ _) ∙ c .before .before .before .before .pre) _ (c .before .geometry-of .ensures) _ (c .place-of .ensures)
+stands c = reached _ _ _ _ (sym (write-rows _ _ _ _ _ _) ∙ c .before .before .before .before .pre) _ (c .before .geometry-of .ensures) _ (c .place-of .ensures)
 
 aims : (c : tie.After-parity-of) →
     let a = c .before .before .before .before .before .args in

@@ -6,10 +6,10 @@ use lib.ListN.{length}
 use Rattle.layout.specs.Layout.{capacity}
 use Rattle.state.specs.Good.{geometry}
 use Rattle.calls.specs.Call.{read, write, feed, on}
-use Rattle.calls.specs.Table.{refusal}
+use Rattle.calls.specs.Table.{refusalOf}
 use Rattle.calls.specs.Effect.{effect}
 use Rattle.array.proofs.Calls.Called.{called-refused, called-done}
-use Rattle.array.proofs.Calls.Reach.{as-write}
+use Rattle.calls.proofs.Laws.Table.{write-rows}
 use Rattle.array.proofs.writing.write.Statement.{statement}
 use Rattle.array.proofs.writing.write.Tie as tie
 
@@ -19,11 +19,11 @@ of-reach-requires c κs = search needs
 -- the number is the table's
 numbered : (c : tie.After-of-reach) →
     let a = c .before .before .before .args in
-    refusal (a .r) (capacity (geometry (a .r))) (feed (write (a .b) (a .bytes .now)) (length (a .images .now)) 0) ≡ c .of-reach .result
+    refusalOf (a .r) (feed (write (a .b) (a .bytes .now)) (length (a .images .now)) 0) ≡ c .of-reach .result
 numbered c =
     let a = c .before .before .before .args in
-    let n : c .of-reach .result ≡ refusal (a .r) (capacity (geometry (a .r))) (feed (read (a .b)) (length (a .images .now)) (length (a .bytes .now))) = c .of-reach .ensures in
-    as-write (a .r) (length (a .images .now)) (a .b) (a .bytes .now) 0 ∙ sym n
+    let n : c .of-reach .result ≡ refusalOf (a .r) (feed (read (a .b)) (length (a .images .now)) (length (a .bytes .now))) = c .of-reach .ensures in
+    write-rows (a .r) (capacity (geometry (a .r))) (length (a .images .now)) 0 (a .b) (a .bytes .now) ∙ sym n
 
 returns : tie.Need-returns
 returns c =

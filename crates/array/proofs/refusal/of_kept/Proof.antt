@@ -1,10 +1,10 @@
--- `of_record` meets its contract. Assumes nothing.
+-- `of_kept` meets its contract. Assumes nothing.
 use mathlib.Core.Path.{refl}
 use borrow.Author.Needs.{needs}
 use Rattle.state.proofs.Laws.Tests.{went-on, returned}
 use Rattle.array.proofs.Calls.Asked.{told}
-use Rattle.array.proofs.refusal.of_record.Statement.{statement}
-use Rattle.array.proofs.refusal.of_record.Tie as tie
+use Rattle.array.proofs.refusal.of_kept.Statement.{statement}
+use Rattle.array.proofs.refusal.of_kept.Tie as tie
 
 is-good-requires : tie.Need-is-good-requires
 is-good-requires c κs = search needs
@@ -25,5 +25,5 @@ returns-3 c =
     let c1 = c .before .before in
     rw (went-on (c1 .before .is-good .ensures) (c1 .if1 .left), told (c .before .is-lost .ensures) (c .if2 .left)) refl
 
-pub of-record-spec : {M : Type 1} → statement M
-of-record-spec = tie.close (tie.spec is-good-requires returns is-lost-requires returns-2 returns-3)
+pub of-kept-spec : {M : Type 1} → statement M
+of-kept-spec = tie.close (tie.spec is-good-requires returns is-lost-requires returns-2 returns-3)
