@@ -20,5 +20,5 @@ abbrev pub zeros : ℕ → List ℕ
 zeros len = replicate len 0
 
 -- len bytes from at on and len′ bytes from at′ on have none in common
-abbrev pub Apart : ℕ → ℕ → ℕ → ℕ → Type 0
-Apart at len at′ len′ = (at + len ≤ at′) ⊎ (at′ + len′ ≤ at)
+abbrev pub Disjoint : ℕ → ℕ → ℕ → ℕ → Type 0
+Disjoint at len at′ len′ = (at + len ≤ at′) ⊎ (at′ + len′ ≤ at)

@@ -11,7 +11,7 @@ abbrev pub sumTo : ℕ → List ℕ → Group → ℕ → List ℕ
 sumTo B l x k = others B (x .stripes) l (x .stripe) k (x .out)
 
 -- the group's places lie within images of so many bytes
-pub record Inside (x : Group) (B images : ℕ) : Type 0 where
+pub record GroupInside (x : Group) (B images : ℕ) : Type 0 where
   pub long : 1 ≤ B
   pub stripe-lt : x .stripe < x .stripes
   pub order : x .first ≤ x .last

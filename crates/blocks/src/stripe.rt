@@ -6,16 +6,9 @@ ghost use Rattle.blocks.specs.Block.{store};
 ghost use Rattle.blocks.specs.Xor.{xorB};
 ghost use Rattle.blocks.specs.Stripe.{offset, place, others};
 use crate::copy::copy_in;
+use crate::place::offset_of;
 use crate::sum::xor_others;
 use crate::xor::fold_block;
-
-// Where the place of stripe s on disk d begins.
-pub fn offset_of(stripes: usize, len: usize, s: usize, d: usize) -> usize
-    requires { ⌜ (1 ≤ len) × (offset len stripes s d < 18446744073709551616) ⌝ }
-    ensures { λ r. ⌜ r ≡ offset len stripes s d ⌝ }
-{
-    (d * stripes + s) * len
-}
 
 // Writes the place of stripe s on disk `out` as the xor of the stripe's other places, through the lent block.
 pub fn rebuild_place(

@@ -6,12 +6,12 @@ ghost use lib.Dec.{eqb};
 ghost use lib.ListN.{length, take};
 ghost use Rattle.blocks.specs.Block.{blockAt, store, zeros};
 ghost use Rattle.blocks.specs.Stripe.{others};
-ghost use Rattle.blocks.specs.Sum.{sumTo, Inside, Begun};
+ghost use Rattle.blocks.specs.Sum.{sumTo, GroupInside, Begun};
 use crate::Group;
 use crate::copy::load_bytes;
 use crate::copy::store_bytes;
 use crate::copy::zero_block;
-use crate::stripe::offset_of;
+use crate::place::offset_of;
 use crate::xor::xor_out;
 
 // The bytes that are summed at once: as many as there is room for in registers.
@@ -24,7 +24,7 @@ const GROUP: usize = 16;
 
 // Takes part, the bytes from at on of a block of len, from the sum before the group to the sum behind it.
 fn add_disks(images: &[u8], x: Group, len: usize, at: usize, part: &mut [u8])
-    requires { ⌜ Inside x len (length (now images)) × (at + length (now part) ≤ len) × (now part ≡ blockAt (sumTo len (now images) x (x .first)) at (length (now part))) ⌝ }
+    requires { ⌜ GroupInside x len (length (now images)) × (at + length (now part) ≤ len) × (now part ≡ blockAt (sumTo len (now images) x (x .first)) at (length (now part))) ⌝ }
     ensures { λ _. ⌜ now (part .exit) ≡ blockAt (sumTo len (now (images .entry)) x (x .last)) at (length (now (part .entry))) ⌝ }
 {
     let out = x.out;
@@ -54,7 +54,7 @@ fn begin(block: &[u8], at: usize, first: usize, part: &mut [u8])
 
 // Takes the bytes of block from at on, as many as piece has, from the sum before the group to the sum behind it, through piece.
 fn add_through(images: &[u8], x: Group, at: usize, block: &mut [u8], piece: &mut [u8])
-    requires { ⌜ Inside x (length (now block)) (length (now images)) × (at + length (now piece) ≤ length (now block)) × Begun x (blockAt (now block) at (length (now piece))) (blockAt (sumTo (length (now block)) (now images) x (x .first)) at (length (now piece))) ⌝ }
+    requires { ⌜ GroupInside x (length (now block)) (length (now images)) × (at + length (now piece) ≤ length (now block)) × Begun x (blockAt (now block) at (length (now piece))) (blockAt (sumTo (length (now block)) (now images) x (x .first)) at (length (now piece))) ⌝ }
     ensures { λ _. ⌜ now (block .exit) ≡ store (now (block .entry)) at (blockAt (sumTo (length (now (block .entry))) (now (images .entry)) x (x .last)) at (length (now (piece .entry)))) ⌝ }
 {
     let len = block.len();
@@ -65,7 +65,7 @@ fn add_through(images: &[u8], x: Group, at: usize, block: &mut [u8], piece: &mut
 
 // The same for a whole piece.
 fn add_piece(images: &[u8], x: Group, at: usize, block: &mut [u8])
-    requires { ⌜ Inside x (length (now block)) (length (now images)) × (at + 128 ≤ length (now block)) × Begun x (blockAt (now block) at 128) (blockAt (sumTo (length (now block)) (now images) x (x .first)) at 128) ⌝ }
+    requires { ⌜ GroupInside x (length (now block)) (length (now images)) × (at + 128 ≤ length (now block)) × Begun x (blockAt (now block) at 128) (blockAt (sumTo (length (now block)) (now images) x (x .first)) at 128) ⌝ }
     ensures { λ _. ⌜ now (block .exit) ≡ store (now (block .entry)) at (blockAt (sumTo (length (now (block .entry))) (now (images .entry)) x (x .last)) at 128) ⌝ }
 {
     let mut piece = [0u8; 128];
@@ -74,7 +74,7 @@ fn add_piece(images: &[u8], x: Group, at: usize, block: &mut [u8])
 
 // The same for count bytes, half a piece at most.
 fn add_less(images: &[u8], x: Group, at: usize, count: usize, block: &mut [u8])
-    requires { ⌜ Inside x (length (now block)) (length (now images)) × (count ≤ 64) × (at + count ≤ length (now block)) × Begun x (blockAt (now block) at count) (blockAt (sumTo (length (now block)) (now images) x (x .first)) at count) ⌝ }
+    requires { ⌜ GroupInside x (length (now block)) (length (now images)) × (count ≤ 64) × (at + count ≤ length (now block)) × Begun x (blockAt (now block) at count) (blockAt (sumTo (length (now block)) (now images) x (x .first)) at count) ⌝ }
     ensures { λ _. ⌜ now (block .exit) ≡ store (now (block .entry)) at (blockAt (sumTo (length (now (block .entry))) (now (images .entry)) x (x .last)) at count) ⌝ }
 {
     let mut piece = [0u8; 64];
@@ -83,7 +83,7 @@ fn add_less(images: &[u8], x: Group, at: usize, count: usize, block: &mut [u8])
 
 // The same for the whole pieces of block. Answers where they end.
 fn add_pieces(images: &[u8], x: Group, block: &mut [u8]) -> usize
-    requires { ⌜ Inside x (length (now block)) (length (now images)) × Begun x (now block) (sumTo (length (now block)) (now images) x (x .first)) ⌝ }
+    requires { ⌜ GroupInside x (length (now block)) (length (now images)) × Begun x (now block) (sumTo (length (now block)) (now images) x (x .first)) ⌝ }
     ensures { λ at. ⌜ (at ≤ length (now (block .entry))) × (length (now (block .entry)) < at + 128) × (now (block .exit) ≡ store (now (block .entry)) 0 (take at (sumTo (length (now (block .entry))) (now (images .entry)) x (x .last)))) ⌝ }
 {
     let len = block.len();
@@ -97,7 +97,7 @@ fn add_pieces(images: &[u8], x: Group, block: &mut [u8]) -> usize
 
 // The same for all of block.
 fn add_group(images: &[u8], x: Group, block: &mut [u8])
-    requires { ⌜ Inside x (length (now block)) (length (now images)) × Begun x (now block) (sumTo (length (now block)) (now images) x (x .first)) ⌝ }
+    requires { ⌜ GroupInside x (length (now block)) (length (now images)) × Begun x (now block) (sumTo (length (now block)) (now images) x (x .first)) ⌝ }
     ensures { λ _. ⌜ now (block .exit) ≡ sumTo (length (now (block .entry))) (now (images .entry)) x (x .last) ⌝ }
 {
     let len = block.len();

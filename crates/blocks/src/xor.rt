@@ -2,7 +2,7 @@
 ghost use mathlib.Core.Path.{_≡_};
 ghost use Prim.Native.Nat.{_+_, _≤_};
 ghost use lib.ListN.{length};
-ghost use Rattle.blocks.specs.Block.{blockAt, store, Apart};
+ghost use Rattle.blocks.specs.Block.{blockAt, store, Disjoint};
 ghost use Rattle.blocks.specs.Xor.{xorB, folded};
 
 // Xors the images' bytes from at on into block.
@@ -19,7 +19,7 @@ pub(crate) fn xor_out(images: &[u8], at: usize, block: &mut [u8])
 
 // Folds a write of bytes at `at` into the parity, from `parity` on. The bytes themselves are not stored.
 pub fn fold_parity(images: &mut [u8], parity: usize, at: usize, bytes: &[u8])
-    requires { ⌜ (parity + length (now bytes) ≤ length (now images)) × (at + length (now bytes) ≤ length (now images)) × Apart parity (length (now bytes)) at (length (now bytes)) ⌝ }
+    requires { ⌜ (parity + length (now bytes) ≤ length (now images)) × (at + length (now bytes) ≤ length (now images)) × Disjoint parity (length (now bytes)) at (length (now bytes)) ⌝ }
     ensures { λ _. ⌜ now (images .exit) ≡ store (now (images .entry)) parity (folded (now (images .entry)) parity at (now (bytes .entry))) ⌝ }
 {
     let mut i = 0;
