@@ -15,6 +15,10 @@ store (x ∷ l) (suc at) b = x ∷ store l at b
 store (x ∷ l) zero [] = x ∷ l
 store (x ∷ l) zero (y ∷ b) = y ∷ store l zero b
 
+-- l with the len bytes of m from offset `from` on copied to offset `to`
+abbrev pub copiedTo : List ℕ → ℕ → List ℕ → ℕ → ℕ → List ℕ
+copiedTo l to m from len = store l to (blockAt m from len)
+
 -- a block of zeroes
 abbrev pub zeros : ℕ → List ℕ
 zeros len = replicate len 0
