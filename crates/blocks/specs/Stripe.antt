@@ -12,7 +12,7 @@ offset B T S d = (d * T + S) * B
 abbrev pub place : ℕ → ℕ → List ℕ → ℕ → ℕ → List ℕ
 place B T l S d = blockAt l (offset B T S d) B
 
--- it is one of those of N disks, which lie within images of so many bytes; a block has 1 to 4,096
+-- place (S, d) is one of N disks' places, which lie within images of so many bytes; a block has 1 to 4,096
 abbrev pub PlaceInside : ℕ → ℕ → ℕ → ℕ → ℕ → ℕ → Type 0
 PlaceInside B T S d N images = (1 ≤ B) × (B ≤ 4096) × (S < T) × (d < N) × (N * (T * B) ≤ images)
 

@@ -23,7 +23,11 @@ pub record GroupInside (x : Group) (B images : ℕ) : Type 0 where
 abbrev pub Begun : Group → List ℕ → List ℕ → Type 0
 Begun x b sum = (x .first ≡ 0) ⊎ (b ≡ sum)
 
--- the n bytes of the block b from at on begin so, for a group within the images l
+-- the block b does, for a group within the images l
+abbrev pub GroupBegun : Group → List ℕ → List ℕ → Type 0
+GroupBegun x l b = GroupInside x (length b) (length l) × Begun x b (sumTo (length b) l x (x .first))
+
+-- its n bytes from at on do
 abbrev pub PartBegun : Group → List ℕ → List ℕ → ℕ → ℕ → Type 0
 PartBegun x l b at n =
     GroupInside x (length b) (length l) × (at + n ≤ length b)

@@ -6,7 +6,7 @@ ghost use lib.Dec.{eqb};
 ghost use lib.ListN.{length};
 ghost use Rattle.blocks.specs.Block.{blockAt, zeros};
 ghost use Rattle.blocks.specs.Stripe.{others};
-ghost use Rattle.blocks.specs.Sum.{sumTo, GroupInside, Begun, PartBegun, partAdded};
+ghost use Rattle.blocks.specs.Sum.{sumTo, GroupInside, GroupBegun, PartBegun, partAdded};
 use crate::Group;
 use crate::copy::load_bytes;
 use crate::copy::store_bytes;
@@ -85,8 +85,7 @@ fn add_less(images: &[u8], x: Group, at: usize, count: usize, block: &mut [u8])
 
 // The same for the whole pieces of block. Answers where they end.
 fn add_pieces(images: &[u8], x: Group, block: &mut [u8]) -> usize
-    requires { ⌜ GroupInside x (length (now block)) (length (now images))
-        × Begun x (now block) (sumTo (length (now block)) (now images) x (x .first)) ⌝ }
+    requires { ⌜ GroupBegun x (now images) (now block) ⌝ }
     ensures { λ at. ⌜ (at ≤ length (now (block .entry))) × (length (now (block .entry)) < at + 128)
         × (now (block .exit) ≡ partAdded x (now (images .entry)) (now (block .entry)) 0 at) ⌝ }
 {
@@ -101,8 +100,7 @@ fn add_pieces(images: &[u8], x: Group, block: &mut [u8]) -> usize
 
 // The same for all of block.
 fn add_group(images: &[u8], x: Group, block: &mut [u8])
-    requires { ⌜ GroupInside x (length (now block)) (length (now images))
-        × Begun x (now block) (sumTo (length (now block)) (now images) x (x .first)) ⌝ }
+    requires { ⌜ GroupBegun x (now images) (now block) ⌝ }
     ensures { λ _. ⌜ now (block .exit) ≡ sumTo (length (now (block .entry))) (now (images .entry)) x (x .last) ⌝ }
 {
     let len = block.len();
