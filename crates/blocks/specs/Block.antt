@@ -15,10 +15,14 @@ store (x ∷ l) (suc at) b = x ∷ store l at b
 store (x ∷ l) zero [] = x ∷ l
 store (x ∷ l) zero (y ∷ b) = y ∷ store l zero b
 
+-- l with the len bytes of m from offset `from` on copied to offset `to`
+abbrev pub copiedTo : List ℕ → ℕ → List ℕ → ℕ → ℕ → List ℕ
+copiedTo l to m from len = store l to (blockAt m from len)
+
 -- a block of zeroes
 abbrev pub zeros : ℕ → List ℕ
 zeros len = replicate len 0
 
 -- len bytes from at on and len′ bytes from at′ on have none in common
-abbrev pub Apart : ℕ → ℕ → ℕ → ℕ → Type 0
-Apart at len at′ len′ = (at + len ≤ at′) ⊎ (at′ + len′ ≤ at)
+abbrev pub Disjoint : ℕ → ℕ → ℕ → ℕ → Type 0
+Disjoint at len at′ len′ = (at + len ≤ at′) ⊎ (at′ + len′ ≤ at)

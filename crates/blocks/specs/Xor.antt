@@ -22,6 +22,10 @@ without [] i = []
 without (x ∷ xs) zero = xs
 without (x ∷ xs) (suc i) = x ∷ without xs i
 
--- the parity that a write of b at offset `at` leaves: the old parity, xor the old bytes, xor the new
+-- the parity, from offset `parity` on, that a write of b over the block `old` leaves: the old parity, xor the old block, xor the new
+abbrev pub foldedOver : List ℕ → ℕ → List ℕ → List ℕ → List ℕ
+foldedOver l parity old b = xorB (xorB (blockAt l parity (length b)) old) b
+
+-- the same where the old block stands in l, from offset at on
 abbrev pub folded : List ℕ → ℕ → ℕ → List ℕ → List ℕ
-folded l parity at b = xorB (xorB (blockAt l parity (length b)) (blockAt l at (length b))) b
+folded l parity at b = foldedOver l parity (blockAt l at (length b)) b

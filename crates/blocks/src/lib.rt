@@ -1,5 +1,6 @@
 // One block inside the images: zeroed, copied, moved and xored, and the places of a stripe. Bytes only; no layout and no record.
 mod copy;
+mod place;
 mod stripe;
 mod sum;
 mod xor;
@@ -8,8 +9,8 @@ pub use copy::copy_in;
 pub use copy::copy_out;
 pub use copy::move_block;
 pub use copy::zero_block;
+pub use place::offset_of;
 pub use stripe::fold_others;
-pub use stripe::offset_of;
 pub use stripe::rebuild_place;
 pub use sum::xor_others;
 pub use xor::fold_parity;

@@ -3,15 +3,15 @@ ghost use mathlib.Core.Path.{_≡_};
 ghost use mathlib.Core.Bool.{cond};
 ghost use Prim.Native.Nat.{_+_, _*_, _≤_, _<_};
 ghost use lib.Dec.{eqb};
-ghost use lib.ListN.{length, take};
-ghost use Rattle.blocks.specs.Block.{blockAt, store, zeros};
+ghost use lib.ListN.{length};
+ghost use Rattle.blocks.specs.Block.{blockAt, zeros};
 ghost use Rattle.blocks.specs.Stripe.{others};
-ghost use Rattle.blocks.specs.Sum.{sumTo, Inside, Begun};
+ghost use Rattle.blocks.specs.Sum.{sumTo, GroupInside, GroupBegun, PartBegun, partAdded};
 use crate::Group;
 use crate::copy::load_bytes;
 use crate::copy::store_bytes;
 use crate::copy::zero_block;
-use crate::stripe::offset_of;
+use crate::place::offset_of;
 use crate::xor::xor_out;
 
 // The bytes that are summed at once: as many as there is room for in registers.
@@ -24,7 +24,8 @@ const GROUP: usize = 16;
 
 // Takes part, the bytes from at on of a block of len, from the sum before the group to the sum behind it.
 fn add_disks(images: &[u8], x: Group, len: usize, at: usize, part: &mut [u8])
-    requires { ⌜ Inside x len (length (now images)) × (at + length (now part) ≤ len) × (now part ≡ blockAt (sumTo len (now images) x (x .first)) at (length (now part))) ⌝ }
+    requires { ⌜ GroupInside x len (length (now images)) × (at + length (now part) ≤ len)
+        × (now part ≡ blockAt (sumTo len (now images) x (x .first)) at (length (now part))) ⌝ }
     ensures { λ _. ⌜ now (part .exit) ≡ blockAt (sumTo len (now (images .entry)) x (x .last)) at (length (now (part .entry))) ⌝ }
 {
     let out = x.out;
@@ -42,7 +43,8 @@ fn add_disks(images: &[u8], x: Group, len: usize, at: usize, part: &mut [u8])
 // What part begins with: zeroes if no disk comes before the group, else what the groups before it have left in block.
 fn begin(block: &[u8], at: usize, first: usize, part: &mut [u8])
     requires { ⌜ at + length (now part) ≤ length (now block) ⌝ }
-    ensures { λ _. ⌜ now (part .exit) ≡ cond (eqb first 0) (zeros (length (now (part .entry)))) (blockAt (now (block .entry)) at (length (now (part .entry)))) ⌝ }
+    ensures { λ _. ⌜ now (part .exit) ≡
+        cond (eqb first 0) (zeros (length (now (part .entry)))) (blockAt (now (block .entry)) at (length (now (part .entry)))) ⌝ }
 {
     if first == 0 {
         let len = part.len();
@@ -54,8 +56,8 @@ fn begin(block: &[u8], at: usize, first: usize, part: &mut [u8])
 
 // Takes the bytes of block from at on, as many as piece has, from the sum before the group to the sum behind it, through piece.
 fn add_through(images: &[u8], x: Group, at: usize, block: &mut [u8], piece: &mut [u8])
-    requires { ⌜ Inside x (length (now block)) (length (now images)) × (at + length (now piece) ≤ length (now block)) × Begun x (blockAt (now block) at (length (now piece))) (blockAt (sumTo (length (now block)) (now images) x (x .first)) at (length (now piece))) ⌝ }
-    ensures { λ _. ⌜ now (block .exit) ≡ store (now (block .entry)) at (blockAt (sumTo (length (now (block .entry))) (now (images .entry)) x (x .last)) at (length (now (piece .entry)))) ⌝ }
+    requires { ⌜ PartBegun x (now images) (now block) at (length (now piece)) ⌝ }
+    ensures { λ _. ⌜ now (block .exit) ≡ partAdded x (now (images .entry)) (now (block .entry)) at (length (now (piece .entry))) ⌝ }
 {
     let len = block.len();
     begin(block, at, x.first, piece);
@@ -65,8 +67,8 @@ fn add_through(images: &[u8], x: Group, at: usize, block: &mut [u8], piece: &mut
 
 // The same for a whole piece.
 fn add_piece(images: &[u8], x: Group, at: usize, block: &mut [u8])
-    requires { ⌜ Inside x (length (now block)) (length (now images)) × (at + 128 ≤ length (now block)) × Begun x (blockAt (now block) at 128) (blockAt (sumTo (length (now block)) (now images) x (x .first)) at 128) ⌝ }
-    ensures { λ _. ⌜ now (block .exit) ≡ store (now (block .entry)) at (blockAt (sumTo (length (now (block .entry))) (now (images .entry)) x (x .last)) at 128) ⌝ }
+    requires { ⌜ PartBegun x (now images) (now block) at 128 ⌝ }
+    ensures { λ _. ⌜ now (block .exit) ≡ partAdded x (now (images .entry)) (now (block .entry)) at 128 ⌝ }
 {
     let mut piece = [0u8; 128];
     add_through(images, x, at, block, &mut piece[..PIECE]);
@@ -74,8 +76,8 @@ fn add_piece(images: &[u8], x: Group, at: usize, block: &mut [u8])
 
 // The same for count bytes, half a piece at most.
 fn add_less(images: &[u8], x: Group, at: usize, count: usize, block: &mut [u8])
-    requires { ⌜ Inside x (length (now block)) (length (now images)) × (count ≤ 64) × (at + count ≤ length (now block)) × Begun x (blockAt (now block) at count) (blockAt (sumTo (length (now block)) (now images) x (x .first)) at count) ⌝ }
-    ensures { λ _. ⌜ now (block .exit) ≡ store (now (block .entry)) at (blockAt (sumTo (length (now (block .entry))) (now (images .entry)) x (x .last)) at count) ⌝ }
+    requires { ⌜ (count ≤ 64) × PartBegun x (now images) (now block) at count ⌝ }
+    ensures { λ _. ⌜ now (block .exit) ≡ partAdded x (now (images .entry)) (now (block .entry)) at count ⌝ }
 {
     let mut piece = [0u8; 64];
     add_through(images, x, at, block, &mut piece[..count]);
@@ -83,8 +85,9 @@ fn add_less(images: &[u8], x: Group, at: usize, count: usize, block: &mut [u8])
 
 // The same for the whole pieces of block. Answers where they end.
 fn add_pieces(images: &[u8], x: Group, block: &mut [u8]) -> usize
-    requires { ⌜ Inside x (length (now block)) (length (now images)) × Begun x (now block) (sumTo (length (now block)) (now images) x (x .first)) ⌝ }
-    ensures { λ at. ⌜ (at ≤ length (now (block .entry))) × (length (now (block .entry)) < at + 128) × (now (block .exit) ≡ store (now (block .entry)) 0 (take at (sumTo (length (now (block .entry))) (now (images .entry)) x (x .last)))) ⌝ }
+    requires { ⌜ GroupBegun x (now images) (now block) ⌝ }
+    ensures { λ at. ⌜ (at ≤ length (now (block .entry))) × (length (now (block .entry)) < at + 128)
+        × (now (block .exit) ≡ partAdded x (now (images .entry)) (now (block .entry)) 0 at) ⌝ }
 {
     let len = block.len();
     let mut at = 0;
@@ -97,7 +100,7 @@ fn add_pieces(images: &[u8], x: Group, block: &mut [u8]) -> usize
 
 // The same for all of block.
 fn add_group(images: &[u8], x: Group, block: &mut [u8])
-    requires { ⌜ Inside x (length (now block)) (length (now images)) × Begun x (now block) (sumTo (length (now block)) (now images) x (x .first)) ⌝ }
+    requires { ⌜ GroupBegun x (now images) (now block) ⌝ }
     ensures { λ _. ⌜ now (block .exit) ≡ sumTo (length (now (block .entry))) (now (images .entry)) x (x .last) ⌝ }
 {
     let len = block.len();
@@ -129,7 +132,7 @@ pub fn xor_others(
     block: &mut [u8],
 )
     requires { ⌜ (1 ≤ length (now block)) × (1 ≤ disks) × (s < stripes) × (disks * (stripes * length (now block)) ≤ length (now images)) ⌝ }
-    ensures { λ _. ⌜ now (block .exit) ≡ others (length (now (block .entry))) stripes (now (images .entry)) s disks out ⌝ }
+    ensures block { λ _. ⌜ now (block .exit) ≡ others (length (now (block .entry))) stripes (now (images .entry)) s disks out ⌝ }
 {
     let mut d = 0;
     while d < disks {

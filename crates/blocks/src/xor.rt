@@ -2,8 +2,8 @@
 ghost use mathlib.Core.Path.{_≡_};
 ghost use Prim.Native.Nat.{_+_, _≤_};
 ghost use lib.ListN.{length};
-ghost use Rattle.blocks.specs.Block.{blockAt, store, Apart};
-ghost use Rattle.blocks.specs.Xor.{xorB, folded};
+ghost use Rattle.blocks.specs.Block.{blockAt, store, Disjoint};
+ghost use Rattle.blocks.specs.Xor.{xorB, foldedOver, folded};
 
 // Xors the images' bytes from at on into block.
 pub(crate) fn xor_out(images: &[u8], at: usize, block: &mut [u8])
@@ -19,8 +19,10 @@ pub(crate) fn xor_out(images: &[u8], at: usize, block: &mut [u8])
 
 // Folds a write of bytes at `at` into the parity, from `parity` on. The bytes themselves are not stored.
 pub fn fold_parity(images: &mut [u8], parity: usize, at: usize, bytes: &[u8])
-    requires { ⌜ (parity + length (now bytes) ≤ length (now images)) × (at + length (now bytes) ≤ length (now images)) × Apart parity (length (now bytes)) at (length (now bytes)) ⌝ }
-    ensures { λ _. ⌜ now (images .exit) ≡ store (now (images .entry)) parity (folded (now (images .entry)) parity at (now (bytes .entry))) ⌝ }
+    requires { ⌜ (parity + length (now bytes) ≤ length (now images)) × (at + length (now bytes) ≤ length (now images))
+        × Disjoint parity (length (now bytes)) at (length (now bytes)) ⌝ }
+    ensures images { λ _. ⌜ now (images .exit) ≡
+        store (now (images .entry)) parity (folded (now (images .entry)) parity at (now (bytes .entry))) ⌝ }
 {
     let mut i = 0;
     while i < bytes.len() {
@@ -32,7 +34,8 @@ pub fn fold_parity(images: &mut [u8], parity: usize, at: usize, bytes: &[u8])
 // The same where the old block does not stand in the images.
 pub(crate) fn fold_block(images: &mut [u8], parity: usize, old: &[u8], bytes: &[u8])
     requires { ⌜ (parity + length (now bytes) ≤ length (now images)) × (length (now old) ≡ length (now bytes)) ⌝ }
-    ensures { λ _. ⌜ now (images .exit) ≡ store (now (images .entry)) parity (xorB (xorB (blockAt (now (images .entry)) parity (length (now (bytes .entry)))) (now (old .entry))) (now (bytes .entry))) ⌝ }
+    ensures { λ _. ⌜ now (images .exit) ≡
+        store (now (images .entry)) parity (foldedOver (now (images .entry)) parity (now (old .entry)) (now (bytes .entry))) ⌝ }
 {
     let mut i = 0;
     while i < bytes.len() {

@@ -23,7 +23,8 @@ fieldOf a b c at stop =
     (cond (not (eqb a 48) && isDigit b && eqb c stop) (Number (10 * (a - 48) + (b - 48)) (at + 3)) Bad))
     Bad
 
--- the number of one or two digits at a position, no leading zero, with the byte `stop` behind it. Every limit is below 100, so a longer number is outside it
+-- the number of one or two digits at a position, no leading zero, with the byte `stop` behind it. Every limit is below 100, so a longer
+-- number is outside it
 unfoldable pub fieldAt : List ℕ → ℕ → ℕ → Field
 fieldAt s at stop = fieldOf (getD s at 0) (getD s (at + 1) 0) (getD s (at + 2) 0) at stop
 

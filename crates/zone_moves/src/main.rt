@@ -23,7 +23,8 @@ fn answer_buffer() -> [u8; 4352]
     [0; 4352]
 }
 
-// Reads up to and with a line feed, and no further: to the end of the input or of `line` where none comes. Answers how many bytes it put at the start of `line`.
+// Reads up to and with a line feed, and no further: to the end of the input or of `line` where none comes. Answers how many bytes it put
+// at the start of `line`.
 fn read_line(line: &mut [u8]) -> usize
     ensures { λ r. ⌜ Counts r (now (line .exit)) ⌝ }
 {

@@ -8,7 +8,7 @@ use lib.ListN.{length}
 use Rattle.layout.specs.declared.Geometry.{Geometry}
 use Rattle.layout.specs.declared.Place.{Place}
 use Rattle.layout.specs.Layout.{layout}
-use Rattle.blocks.specs.Block.{store, Apart}
+use Rattle.blocks.specs.Block.{store, Disjoint}
 use Rattle.blocks.specs.Xor.{xorB, folded}
 use Rattle.blocks.specs.Stripe.{offset, place, others}
 use Rattle.blocks.proofs.Laws.Block.{length-store}
@@ -56,7 +56,7 @@ module _ {r : Record} {len b : ℕ} {v : List ℕ} {q : Place} {p : ℕ} (a : Ai
   sums e = let (i, s, l) = summed x e in (i, short x, s, rw e parity-lt, l)
 
   pub folds : {at to : ℕ} → at ≡ offset (r .block) (r .stripes) (q .stripe) (q .disk) → to ≡ offset (r .block) (r .stripes) (q .stripe) p
-      → (to + length v ≤ len) × (at + length v ≤ len) × Apart to (length v) at (length v)
+      → (to + length v ≤ len) × (at + length v ≤ len) × Disjoint to (length v) at (length v)
   folds f t = (
     rw (t, x .whole, x .long) (place-in (r .block) (r .stripes) (q .stripe) p (disksOf r) (x .stripe-lt) parity-lt),
     inside x f,

@@ -7,7 +7,7 @@ use native.Mathlib.Nat.{zero-add, suc-add}
 use native.Mathlib.Omega.{arith}
 use lib.ListN.{length, getD, set, take, drop, length-drop, length-replicate, replicate-append-replicate}
 use lib.Seq.{length-take-le, getD-take, getD-drop, take-take, drop-drop}
-use Rattle.blocks.specs.Block.{blockAt, store, zeros, Apart}
+use Rattle.blocks.specs.Block.{blockAt, store, zeros, Disjoint}
 
 pub length-store : (l : List ℕ) (at : ℕ) (b : List ℕ) → length (store l at b) ≡ length l
 length-store [] at b = refl
@@ -73,7 +73,7 @@ blockAt-before (x ∷ l) (suc at) b (suc at′) n h = blockAt-before l at b at�
 blockAt-before (x ∷ l) (suc at) b zero zero h = refl
 blockAt-before (x ∷ l) (suc at) b zero (suc n) h = ap (λ (r : List ℕ). x ∷ r) (blockAt-before l at b zero n (omega arith))
 
-pub blockAt-other : (l : List ℕ) (at : ℕ) (b : List ℕ) (at′ n : ℕ) → Apart at (length b) at′ n → blockAt (store l at b) at′ n ≡ blockAt l at′ n
+pub blockAt-other : (l : List ℕ) (at : ℕ) (b : List ℕ) (at′ n : ℕ) → Disjoint at (length b) at′ n → blockAt (store l at b) at′ n ≡ blockAt l at′ n
 blockAt-other l at b at′ n (inl h) = ap (take n) (drop-store l at b at′ h)
 blockAt-other l at b at′ n (inr h) = blockAt-before l at b at′ n h
 

@@ -9,7 +9,7 @@ use native.Mathlib.Omega.{arith}
 use lib.Bits.{bitXor}
 use lib.ListN.{length, getD, set, take, length-set}
 use lib.Seq.{take-suc, take-add, take-all, length-take-le}
-use Rattle.blocks.specs.Block.{Apart, store, blockAt}
+use Rattle.blocks.specs.Block.{Disjoint, store, blockAt}
 use Rattle.blocks.specs.Xor.{xorB}
 use Rattle.blocks.specs.declared.Group.{Group}
 use Rattle.blocks.specs.Sum.{Begun}
@@ -51,11 +51,11 @@ filled-other {l₀} {at} {b} {n} {l} {i} f j h =
     ap (λ (r : List ℕ). getD r j 0) (f .is) ∙ getD-store-other l₀ at (take i b) j 0 (subst (λ (k : ℕ). (j < at) ⊎ (at + k ≤ j)) (sym (length-take-le i b (omega arith))) h)
 
 -- a byte of a block that is apart from the one that is written
-outside : {at n from i : ℕ} → Apart at n from n → i < n → (from + i < at) ⊎ (at + i ≤ from + i)
+outside : {at n from i : ℕ} → Disjoint at n from n → i < n → (from + i < at) ⊎ (at + i ≤ from + i)
 outside (inl h) lt = inr (omega arith)
 outside (inr h) lt = inl (omega arith)
 
-pub filled-apart : {l₀ : List ℕ} {at from : ℕ} {b : List ℕ} {n : ℕ} {l : List ℕ} {i : ℕ} → Apart at n from n → i < n → Filled l₀ at b n l i → getD l (from + i) 0 ≡ getD (blockAt l₀ from n) i 0
+pub filled-apart : {l₀ : List ℕ} {at from : ℕ} {b : List ℕ} {n : ℕ} {l : List ℕ} {i : ℕ} → Disjoint at n from n → i < n → Filled l₀ at b n l i → getD l (from + i) 0 ≡ getD (blockAt l₀ from n) i 0
 filled-apart {l₀} {at} {from} {b} {n} {l} {i} apart lt f = filled-other f (from + i) (outside apart lt) ∙ sym (getD-blockAt l₀ from n i lt)
 
 -- ---- a turn of each loop: the byte that it stores is the block's

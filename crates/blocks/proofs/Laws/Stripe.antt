@@ -7,7 +7,7 @@ use native.Mathlib.Decide.{ℕ-discrete, decLt}
 use native.Mathlib.Nat.{mul-le-mul-right}
 use native.Mathlib.Omega.{arith}
 use lib.ListN.{length, getD, length-append, length-replicate}
-use Rattle.blocks.specs.Block.{store, Apart}
+use Rattle.blocks.specs.Block.{store, Disjoint}
 use Rattle.blocks.specs.Xor.{xorB, xorAll, without}
 use Rattle.blocks.specs.Stripe.{offset, place, stripe, others}
 use Rattle.blocks.proofs.Laws.Block.{getD-store-other, blockAt-store, blockAt-other, length-blockAt, getD-blockAt, blockAt-short}
@@ -29,7 +29,7 @@ place-in B T S d N hs hd =
     omega (arith, mul-le-mul-right B next)
 
 -- two places have no byte in common
-pub places-apart : (B T S d S′ d′ : ℕ) → S < T → S′ < T → (S′ ≢ S) ⊎ (d′ ≢ d) → Apart (offset B T S d) B (offset B T S′ d′) B
+pub places-apart : (B T S d S′ d′ : ℕ) → S < T → S′ < T → (S′ ≢ S) ⊎ (d′ ≢ d) → Disjoint (offset B T S d) B (offset B T S′ d′) B
 places-apart B T S d S′ d′ hs hs′ ne = go (decLt (d′ * T + S′) (d * T + S)) (decLt (d * T + S) (d′ * T + S′))
   where
     same-disk : d * T + S ≡ d′ * T + S′ → Dec (d < d′) → Dec (d′ < d) → d′ ≡ d
@@ -44,7 +44,7 @@ places-apart B T S d S′ d′ hs hs′ ne = go (decLt (d′ * T + S′) (d * T 
         n (omega arith)
     never q (inr n) = n (same-disk q (decLt d d′) (decLt d′ d))
 
-    go : Dec (d′ * T + S′ < d * T + S) → Dec (d * T + S < d′ * T + S′) → Apart (offset B T S d) B (offset B T S′ d′) B
+    go : Dec (d′ * T + S′ < d * T + S) → Dec (d * T + S < d′ * T + S′) → Disjoint (offset B T S d) B (offset B T S′ d′) B
     go (yes h) y = inr (omega (arith, mul-le-mul-right B h))
     go (no h) (yes h′) = inl (omega (arith, mul-le-mul-right B h′))
     go (no h) (no h′) = absurd (never (omega arith) ne)
@@ -54,7 +54,7 @@ pub byte-apart : (B T S d S′ d′ j : ℕ) → S < T → S′ < T → j < B �
     → (offset B T S′ d′ + j < offset B T S d) ⊎ (offset B T S d + B ≤ offset B T S′ d′ + j)
 byte-apart B T S d S′ d′ j hs hs′ hj ne = go (places-apart B T S d S′ d′ hs hs′ ne)
   where
-    go : Apart (offset B T S d) B (offset B T S′ d′) B → (offset B T S′ d′ + j < offset B T S d) ⊎ (offset B T S d + B ≤ offset B T S′ d′ + j)
+    go : Disjoint (offset B T S d) B (offset B T S′ d′) B → (offset B T S′ d′ + j < offset B T S d) ⊎ (offset B T S d + B ≤ offset B T S′ d′ + j)
     go (inl h) = inr (omega arith)
     go (inr h) = inl (omega arith)
 
@@ -71,7 +71,7 @@ pub place-store-other : (B T : ℕ) (l : List ℕ) (S d S′ d′ : ℕ) (v : Li
     → place B T (store l (offset B T S′ d′) v) S d ≡ place B T l S d
 place-store-other B T l S d S′ d′ v hs hs′ ne full =
     blockAt-other l (offset B T S′ d′) v (offset B T S d) B
-    (subst (λ (n : ℕ). Apart (offset B T S′ d′) n (offset B T S d) B) (sym full) (⊎-elim inr inl (places-apart B T S d S′ d′ hs hs′ ne)))
+    (subst (λ (n : ℕ). Disjoint (offset B T S′ d′) n (offset B T S d) B) (sym full) (⊎-elim inr inl (places-apart B T S d S′ d′ hs hs′ ne)))
 
 -- a block stored into place (S, d) is that place of the grid of bytes j replaced
 pub cell-store : (B T N : ℕ) (l : List ℕ) (S d : ℕ) (v : List ℕ) (j S′ d′ : ℕ) → length l ≡ N * (T * B) → S < T → d < N → length v ≡ B → j < B → S′ < T

@@ -4,7 +4,7 @@ use mathlib.Core.Path.{sym, ap, _∙_, subst}
 use native.Mathlib.Omega.{arith}
 use borrow.Author.Needs.{needs}
 use lib.ListN.{length}
-use Rattle.blocks.specs.Block.{blockAt, store}
+use Rattle.blocks.specs.Block.{blockAt, copiedTo}
 use Rattle.blocks.proofs.Laws.Block.{length-prefix, length-blockAt, store-whole}
 use Rattle.blocks.proofs.copy.copy_out.Statement.{statement}
 use Rattle.blocks.proofs.copy.copy_out.Tie as tie
@@ -32,7 +32,7 @@ returns c =
     let block = st .args .block .now in
     let images = st .args .images .now in
     c .before .before .before .copy-through .ensures
-    ∙ ap (λ (n : ℕ). store block 0 (blockAt images (st .args .at) n)) (length-prefix (length block) 4096 (st .pre .0))
+    ∙ ap (λ (n : ℕ). copiedTo block 0 images (st .args .at) n) (length-prefix (length block) 4096 (st .pre .0))
     ∙ store-whole block (blockAt images (st .args .at) (length block)) (length-blockAt images (st .args .at) (length block) (st .pre .1))
 
 pub copy-out-spec : {M : Type 1} → statement M

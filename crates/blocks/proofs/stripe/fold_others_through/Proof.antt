@@ -5,8 +5,8 @@ use Prim.Native.Nat.{ℕ, _+_, _*_, _≤_}
 use mathlib.Core.Path.{_≡_, ap, ap₂, _∙_}
 use mathlib.Core.List.{List}
 use lib.ListN.{length}
-use Rattle.blocks.specs.Block.{blockAt, store}
-use Rattle.blocks.specs.Xor.{xorB}
+use Rattle.blocks.specs.Block.{store}
+use Rattle.blocks.specs.Xor.{foldedOver}
 use Rattle.blocks.specs.Stripe.{offset, others}
 use Rattle.blocks.proofs.Laws.Stripe.{place-in}
 use Rattle.blocks.proofs.stripe.fold_others_through.Statement.{statement}
@@ -42,7 +42,7 @@ returns c =
     let a = st .args in
     let summed : c .before .before .before .before .before .before .before .xor-others .last .1 .1 .1 .1 .1 .0 ≡ others (length (a .bytes .now)) (a .stripes) (a .images .now) (a .s) (a .disks) (a .out) = c .before .before .before .before .before .before .before .xor-others .ensures ∙ ap (λ (n : ℕ). others n (a .stripes) (a .images .now) (a .s) (a .disks) (a .out)) (st .pre .1) in
     c .before .before .fold-block .ensures
-    ∙ ap₂ (λ (at : ℕ) (b : List ℕ). store (a .images .now) at (xorB (xorB (blockAt (a .images .now) at (length (a .bytes .now))) b) (a .bytes .now))) (c .before .before .before .before .before .before .before .before .before .before .offset-of .ensures) summed
+    ∙ ap₂ (λ (at : ℕ) (b : List ℕ). store (a .images .now) at (foldedOver (a .images .now) at b (a .bytes .now))) (c .before .before .before .before .before .before .before .before .before .before .offset-of .ensures) summed
 
 pub fold-others-through-spec : {M : Type 1} → statement M
 fold-others-through-spec =

@@ -5,8 +5,8 @@ use mathlib.Core.List.{List}
 use native.Mathlib.Omega.{arith}
 use borrow.Author.Needs.{needs}
 use lib.ListN.{length, take}
-use Rattle.blocks.specs.Block.{blockAt, store}
-use Rattle.blocks.specs.Sum.{sumTo, Inside, Begun}
+use Rattle.blocks.specs.Block.{copiedTo}
+use Rattle.blocks.specs.Sum.{sumTo, PartBegun, partAdded}
 use Rattle.blocks.proofs.Laws.Block.{length-store}
 use Rattle.blocks.proofs.Laws.Stripe.{length-others}
 use Rattle.blocks.proofs.Laws.Fill.{Filled, filled-all₀, run-more, begun-kept}
@@ -30,12 +30,11 @@ pieces c =
 
 -- what a part asks, and what it gives
 module _ (c : tie.Start) {b : List ℕ} {at : ℕ} (f : Done c b at) (n : ℕ) (h : at + n ≤ length (c .args .block .now)) where
-  asked : n ≤ 64
-      → Inside (c .args .x) (length b) (length (c .args .images .now)) × (n ≤ 64) × (at + n ≤ length b) × Begun (c .args .x) (blockAt b at n) (blockAt (sum c (length b) (c .args .x .first)) at n)
-  asked k = rw (f .size) (c .pre .0, k, h, begun-kept (c .args .x) (c .pre .1) f n)
+  asked : n ≤ 64 → (n ≤ 64) × PartBegun (c .args .x) (c .args .images .now) b at n
+  asked k = (k, rw (f .size) (c .pre .0, h, begun-kept (c .args .x) (c .pre .1) f n))
 
-  given : {b′ : List ℕ} → b′ ≡ store b at (blockAt (sum c (length b) (c .args .x .last)) at n) → Done c b′ (at + n)
-  given e = run-more f n h (e ∙ ap (λ (m : ℕ). store b at (blockAt (sum c m (c .args .x .last)) at n)) (f .size))
+  given : {b′ : List ℕ} → b′ ≡ partAdded (c .args .x) (c .args .images .now) b at n → Done c b′ (at + n)
+  given e = run-more f n h (e ∙ ap (λ (m : ℕ). copiedTo b at (sum c m (c .args .x .last)) at n) (f .size))
 
 -- behind half a piece more
 half : (c : tie.After-add-less) → Done (c .before .before .before .before .before .before .before .before .before) (c .add-less .last .1 .1 .1 .1 .0) (c .before .before .before .before .before .add-pieces .result + 64)

@@ -3,7 +3,7 @@ use Prim.Native.Nat.{ℕ, _-_}
 use mathlib.Core.Path.{_≡_, ap, _∙_}
 use native.Mathlib.Omega.{arith}
 use lib.ListN.{length}
-use Rattle.blocks.specs.Block.{blockAt, store}
+use Rattle.blocks.specs.Block.{copiedTo}
 use Rattle.blocks.specs.Sum.{sumTo}
 use Rattle.blocks.proofs.Laws.Stripe.{length-others}
 use Rattle.blocks.proofs.Laws.Fill.{Filled, filled-none, run-more, begun-kept}
@@ -41,7 +41,7 @@ loop-again : tie.Need-loop-again Inv-loop μ-loop
 loop-again c =
     let a = c .before .before .before .before .before .before .before .before .args in
     let l = c .before .before .before .before .before .loop in
-    run-more (l .inv) 128 (omega arith) (c .before .before .add-piece .ensures ∙ ap (λ (n : ℕ). store (l .block) (l .at) (blockAt (sumTo n (a .images .now) (a .x) (a .x .last)) (l .at) 128)) (l .inv .size))
+    run-more (l .inv) 128 (omega arith) (c .before .before .add-piece .ensures ∙ ap (λ (n : ℕ). copiedTo (l .block) (l .at) (sumTo n (a .images .now) (a .x) (a .x .last)) (l .at) 128) (l .inv .size))
 
 same-length : tie.Need-same-length Inv-loop μ-loop
 same-length c = c .before .loop .inv .size

@@ -3,14 +3,13 @@ use native.Mathlib.Omega.{arith}
 use Prim.Native.Nat.{_-_}
 use mathlib.Core.Path.{refl}
 use lib.ListN.{length}
-use Rattle.blocks.specs.Block.{blockAt}
-use Rattle.blocks.specs.Xor.{xorB}
+use Rattle.blocks.specs.Xor.{foldedOver}
 use Rattle.blocks.proofs.Laws.Fill.{Filled, filled-none, filled-all, length-folded, folded-more}
 use Rattle.blocks.proofs.xor.fold_block.Statement.{statement}
 use Rattle.blocks.proofs.xor.fold_block.Tie as tie
 
 abbrev Inv-loop : tie.InvT-loop
-Inv-loop images₀ parity old bytes i₀ images i = Filled images₀ parity (xorB (xorB (blockAt images₀ parity (length bytes)) old) bytes) (length bytes) images i
+Inv-loop images₀ parity old bytes i₀ images i = Filled images₀ parity (foldedOver images₀ parity old bytes) (length bytes) images i
 
 abbrev μ-loop : tie.MeasureT-loop
 μ-loop images₀ parity old bytes i₀ images i = length bytes - i

@@ -4,8 +4,8 @@ use native.Mathlib.Nat.{le-mul-of-pos-right}
 use native.Mathlib.Omega.{arith}
 use Prim.Native.Nat.{_+_, _*_, _≤_}
 use Rattle.blocks.specs.Stripe.{offset}
-use Rattle.blocks.proofs.stripe.offset_of.Statement.{statement}
-use Rattle.blocks.proofs.stripe.offset_of.Tie as tie
+use Rattle.blocks.proofs.place.offset_of.Statement.{statement}
+use Rattle.blocks.proofs.place.offset_of.Tie as tie
 
 -- the number of the place, counted from the first of disk 0
 index : (c : tie.Start) → c .args .d * c .args .stripes + c .args .s ≤ offset (c .args .len) (c .args .stripes) (c .args .s) (c .args .d)
