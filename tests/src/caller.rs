@@ -3,7 +3,7 @@
 use crate::flat::Flat;
 use crate::pbm::{Bytes, Call};
 use crate::random::Random;
-use crate::record::{Health, Record};
+use crate::record::{Health, Record, RECORD_LEN};
 
 pub struct Caller {
     pub random: Random,
@@ -106,7 +106,7 @@ impl Caller {
     /// What the call is lent: record and images as the calls before left them, where document 01 does not say otherwise, at
     /// their lengths or, rarely, at others.
     pub fn lend(&mut self, call: Call, numbers: &Record, images: &[u8]) -> Bytes {
-        let record_len = self.len(16, &[]);
+        let record_len = self.len(RECORD_LEN as u64, &[]);
         let mut lent = Bytes {
             record: self.stretched(&numbers.bytes(), record_len),
             images: Vec::new(),

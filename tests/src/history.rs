@@ -7,7 +7,7 @@ use crate::images;
 use crate::memory::Memory;
 use crate::pbm::{Answer, Bytes, Call, Loan, NAMES};
 use crate::random::Random;
-use crate::record::Health;
+use crate::record::{Health, RECORD_LEN};
 use crate::table::{rows, Lent};
 use std::collections::BTreeMap;
 use std::fmt;
@@ -63,7 +63,7 @@ impl<'a, M: Memory> History<'a, M> {
             unreachable!()
         };
         let lent = Bytes {
-            record: caller.random.bytes(16),
+            record: caller.random.bytes(RECORD_LEN),
             images: caller.random.bytes((n * block_len * stripes) as usize),
             block: Vec::new(),
         };
