@@ -3,6 +3,9 @@
 use crate::pbm::Call::{self, *};
 use crate::record::{Health, Record, RECORD_LEN};
 
+/// Its highest number.
+pub const LAST: u8 = 10;
+
 /// What the table reads of the slices that are lent; the length of one that a call does not take is not looked at.
 #[derive(Clone, Copy, Debug)]
 pub struct Lent {
@@ -83,7 +86,7 @@ pub fn holds(row: u8, record: &Record, call: Call, lent: &Lent) -> bool {
 
 /// The lowest number whose condition holds, or 0.
 pub fn refusal(record: &Record, call: Call, lent: &Lent) -> u8 {
-    (1..=10)
+    (1..=LAST)
         .find(|&row| holds(row, record, call, lent))
         .unwrap_or(0)
 }

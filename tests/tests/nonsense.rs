@@ -47,7 +47,7 @@ fn records() -> Vec<Record> {
 }
 
 /// A call of each kind, right for the record if any is.
-fn calls(record: &Record) -> [Call; 10] {
+fn calls(record: &Record) -> [Call; NAMES.len()] {
     let out = match record.health {
         Health::Out(disk) => disk,
         _ => 0,
@@ -110,7 +110,7 @@ struct Desk {
     loans: [Loan<Guarded>; 2],
     model: Bytewise,
     /// How many calls of each kind were accepted, all of them compared.
-    accepted: [u64; 10],
+    accepted: [u64; NAMES.len()],
 }
 
 impl Desk {
@@ -118,7 +118,7 @@ impl Desk {
         Desk {
             loans: [Loan::guarded(Side::Start), Loan::guarded(Side::End)],
             model: Bytewise::default(),
-            accepted: [0; 10],
+            accepted: [0; NAMES.len()],
         }
     }
 
@@ -146,7 +146,7 @@ impl Desk {
     }
 
     /// Each call was accepted so often, in the order of `NAMES`.
-    fn assert_accepted(&self, least: [u64; 10]) {
+    fn assert_accepted(&self, least: [u64; NAMES.len()]) {
         println!("accepted, in the order {NAMES:?}: {:?}", self.accepted);
         for ((name, count), least) in NAMES.iter().zip(self.accepted).zip(least) {
             assert!(count >= least, "{name} was accepted {count} times");
@@ -373,7 +373,7 @@ fn random_array(random: &mut Random) -> Record {
 }
 
 /// A call of each kind with numbers in their limits, so that health and growth alone can refuse it.
-fn random_calls(random: &mut Random, record: &Record) -> [Call; 10] {
+fn random_calls(random: &mut Random, record: &Record) -> [Call; NAMES.len()] {
     let mut calls = calls(record);
     for call in &mut calls {
         match call {

@@ -8,7 +8,7 @@ use yuzkamide_tests::memory::Side;
 use yuzkamide_tests::pbm::{Answer, Bytes, Call, Loan, NAMES};
 use yuzkamide_tests::random::Random;
 use yuzkamide_tests::record::{at, good, set_field, Health, Record, BENCH, GROWING, RECORD_LEN};
-use yuzkamide_tests::table::{holds, rows, Lent};
+use yuzkamide_tests::table::{holds, rows, Lent, LAST};
 
 /// One call and what it is lent.
 #[derive(Clone, Debug)]
@@ -329,7 +329,7 @@ impl Case {
             block_len: self.block_len as usize,
         };
         let damaged = |row: u8| row == 1 && self.damage.is_some();
-        (1..=10)
+        (1..=LAST)
             .filter(|&row| damaged(row) || holds(row, &self.record, self.call, &lent))
             .collect()
     }
