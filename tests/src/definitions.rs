@@ -34,7 +34,7 @@ pub enum Kind {
 
 /// All definitions of the crates and the header.
 pub fn definitions(root: &Path) -> Vec<Definition> {
-    let parts: [(&str, &str, fn(&str) -> Vec<Found>); 3] = [
+    let parts: [(&str, &str, Reader); 3] = [
         ("crates", "antt", of_proof_language),
         ("crates", "rt", of_rattle),
         ("include", "h", of_header),
@@ -55,6 +55,8 @@ pub fn definitions(root: &Path) -> Vec<Definition> {
 
 /// A name, what it is, and what it is a part of.
 pub type Found = (String, Kind, Option<String>);
+
+type Reader = fn(&str) -> Vec<Found>;
 
 /// The lines of a file in the proof language, without comments and empty lines.
 pub fn lines(text: &str) -> impl Iterator<Item = &str> {

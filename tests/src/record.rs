@@ -2,7 +2,7 @@
 
 use std::ops::Range;
 
-/// The record's bytes.
+/// How many bytes it has.
 pub const RECORD_LEN: usize = 16;
 
 /// The bytes of each field, the least one first.
@@ -21,8 +21,8 @@ pub mod at {
 }
 
 pub fn field(bytes: &[u8], at: Range<usize>) -> u64 {
-    let rising = bytes[at].iter().rev();
-    rising.fold(0, |value, &byte| value << 8 | u64::from(byte))
+    let from_the_last = bytes[at].iter().rev();
+    from_the_last.fold(0, |value, &byte| value << 8 | u64::from(byte))
 }
 
 /// What does not fit the field is lost.
