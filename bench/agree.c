@@ -12,6 +12,8 @@
 #include "peer.h"
 #include "random.h"
 
+enum { ROOM = 2 * PBM_RECORD_LEN }; /* for a record that is lent at another length */
+
 enum op { FORMAT, READ, VIEW, WRITE, GROW, ADVANCE, OUT, REBUILD, LOCATE, OWNER, OPS };
 
 static const char *const names[OPS] = {"format", "read",    "view",   "write", "grow",
@@ -27,7 +29,7 @@ struct call {
 
 /* What one contestant is lent, and what it answered. */
 struct world {
-    uint8_t record[32];
+    uint8_t record[ROOM];
     uint8_t *images, *block;
     uint64_t first, second;
     uint8_t answer;
@@ -100,8 +102,10 @@ static size_t size(struct shape h, uint32_t disks) { return (size_t)disks * h.st
 /* A call that the record lets through, if the health and t do; arguments run a little over their limits. */
 static struct call likely_call(struct random *r, struct shape h, const uint8_t *record)
 {
-    uint32_t disks = h.n + record[1];
-    struct call c = {.op = (enum op)(READ + random_below(r, OPS - READ)), .record_len = 16, .block_len = h.block_len};
+    uint32_t disks = h.n + record[PBM_AT_M];
+    uint8_t health = record[PBM_AT_HEALTH], out = record[PBM_AT_OUT];
+    struct call c = {.record_len = PBM_RECORD_LEN, .block_len = h.block_len};
+    c.op = (enum op)(READ + random_below(r, OPS - READ));
     c.images_len = size(h, c.op == GROW ? h.n + h.m : disks);
     switch (c.op) {
     case READ:
@@ -110,8 +114,8 @@ static struct call likely_call(struct random *r, struct shape h, const uint8_t *
     case LOCATE: c.x = random_below(r, (uint64_t)h.stripes * (disks - 1) + 1); break;
     case GROW: c.x = h.m; break;
     case ADVANCE: c.x = random_below(r, 3 * h.n); break;
-    case OUT: c.x = record[2] == 0 || random_below(r, 9) == 0 ? random_below(r, disks + 1) : record[3]; break;
-    case REBUILD: c.x = record[3]; break;
+    case OUT: c.x = health == 0 || random_below(r, 9) == 0 ? random_below(r, disks + 1) : out; break;
+    case REBUILD: c.x = out; break;
     default: c.x = random_below(r, h.stripes + 1), c.y = random_below(r, disks + 1);
     }
     return c;
@@ -126,11 +130,11 @@ static struct call odd_call(struct random *r, struct shape h, uint8_t *record)
     case 1: c.images_len += random_below(r, 3) - 1; break;
     case 2: c.block_len += random_below(r, 3) - 1; break;
     case 3: c.x = random_next(r); break;
-    case 4: record[random_below(r, 16)] = (uint8_t)random_next(r); break;
-    case 5: record[random_below(r, 16)] ^= (uint8_t)(1u << random_below(r, 8)); break;
-    case 6: c = (struct call){GROW, 16, size(h, h.n + h.m), 0, random_below(r, 18), 0, 0}; break;
+    case 4: record[random_below(r, PBM_RECORD_LEN)] = (uint8_t)random_next(r); break;
+    case 5: record[random_below(r, PBM_RECORD_LEN)] ^= (uint8_t)(1u << random_below(r, 8)); break;
+    case 6: c = (struct call){GROW, PBM_RECORD_LEN, size(h, h.n + h.m), 0, random_below(r, 18), 0, 0}; break;
     default:
-        c = (struct call){FORMAT, 16, size(h, h.n), 0, h.n, h.block_len, h.stripes};
+        c = (struct call){FORMAT, PBM_RECORD_LEN, size(h, h.n), 0, h.n, h.block_len, h.stripes};
         if (random_below(r, 2))
             *(random_below(r, 2) ? &c.x : random_below(r, 2) ? &c.y : &c.z) = random_below(r, 5000);
     }
@@ -144,17 +148,17 @@ static bool same(const struct world *a, const struct world *b, size_t images_len
            memcmp(a->images, b->images, images_len) == 0;
 }
 
-static void start_record(struct random *r, struct shape h, uint8_t record[32], uint32_t moves, uint8_t health)
+static void start_record(struct random *r, struct shape h, uint8_t record[ROOM], uint32_t moves, uint8_t health)
 {
     uint8_t m = moves == BEFORE_GROWTH ? 0 : (uint8_t)h.m;
-    memset(record, 0, 32);
-    record[0] = (uint8_t)h.n;
-    record[1] = m;
-    record[2] = health;
-    record[3] = health == 1 ? (uint8_t)random_below(r, h.n + m) : 0;
-    memcpy(record + 4, &(uint16_t){(uint16_t)h.block_len}, 2);
-    memcpy(record + 8, &h.stripes, 4);
-    memcpy(record + 12, &(uint32_t){m ? moves : 0}, 4);
+    memset(record, 0, ROOM);
+    record[PBM_AT_N] = (uint8_t)h.n;
+    record[PBM_AT_M] = m;
+    record[PBM_AT_HEALTH] = health;
+    record[PBM_AT_OUT] = health == 1 ? (uint8_t)random_below(r, h.n + m) : 0;
+    memcpy(record + PBM_AT_BLOCK_LEN, &(uint16_t){(uint16_t)h.block_len}, 2);
+    memcpy(record + PBM_AT_STRIPES, &h.stripes, 4);
+    memcpy(record + PBM_AT_MOVES, &(uint32_t){m ? moves : 0}, 4);
 }
 
 /* A history from one record. One call in three is odd; a record spoilt for it is mended behind it. */
@@ -166,7 +170,7 @@ static bool history(struct random *r, struct shape h, struct world *a, struct wo
     memcpy(b->images, a->images, all);
     start_record(r, h, a->record, moves, health);
     for (int i = 0; i < 60; i++) {
-        uint8_t kept[32];
+        uint8_t kept[ROOM];
         memcpy(kept, a->record, sizeof kept);
         random_fill(r, a->block, 4096);
         memcpy(b->block, a->block, 4096);
@@ -206,16 +210,17 @@ static bool histories(struct random *r, struct shape h, runner *peer)
 
 static bool same_layout(struct random *r, struct shape h, uint32_t moves)
 {
-    uint8_t record[32];
+    uint8_t record[ROOM];
     uint64_t x[2], y[2];
     start_record(r, h, record, moves, 0);
     for (uint64_t b = 0; b <= (uint64_t)h.stripes * (h.n + h.m - 1); b++)
-        if (pbm_locate(record, 16, b, &x[0], &x[1]) != peer_locate(record, 16, b, &y[0], &y[1]) || x[0] != y[0] ||
-            x[1] != y[1])
+        if (pbm_locate(record, PBM_RECORD_LEN, b, &x[0], &x[1]) != peer_locate(record, PBM_RECORD_LEN, b, &y[0], &y[1]) ||
+            x[0] != y[0] || x[1] != y[1])
             return false;
     for (uint64_t s = 0; s < h.stripes; s++)
         for (uint64_t d = 0; d < h.n + h.m; d++)
-            if (pbm_owner(record, 16, s, d, &x[0], &x[1]) != peer_owner(record, 16, s, d, &y[0], &y[1]) ||
+            if (pbm_owner(record, PBM_RECORD_LEN, s, d, &x[0], &x[1]) !=
+                    peer_owner(record, PBM_RECORD_LEN, s, d, &y[0], &y[1]) ||
                 x[0] != y[0] || x[1] != y[1])
                 return false;
     return true;

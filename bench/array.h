@@ -73,15 +73,15 @@ static inline uint8_t array_open(struct array *a, const uint8_t *record, size_t 
     if (record_len != PBM_RECORD_LEN)
         return PBM_RECORD;
     uint16_t block_len, reserved;
-    memcpy(&block_len, record + 4, 2);
-    memcpy(&reserved, record + 6, 2);
-    memcpy(&a->stripes, record + 8, 4);
-    memcpy(&a->moves, record + 12, 4);
-    a->n = record[0];
-    a->m = record[1];
+    memcpy(&block_len, record + PBM_AT_BLOCK_LEN, 2);
+    memcpy(&reserved, record + PBM_AT_ZERO, 2);
+    memcpy(&a->stripes, record + PBM_AT_STRIPES, 4);
+    memcpy(&a->moves, record + PBM_AT_MOVES, 4);
+    a->n = record[PBM_AT_N];
+    a->m = record[PBM_AT_M];
     a->disks = a->n + a->m;
-    a->health = record[2];
-    a->out = record[3];
+    a->health = record[PBM_AT_HEALTH];
+    a->out = record[PBM_AT_OUT];
     a->block_len = block_len;
     bool good = old_is_good(a->n) && block_is_good(block_len) && reserved == 0 && stripes_are_good(a->stripes) &&
                 moves_are_good(a) && health_is_good(a);
@@ -95,6 +95,12 @@ static inline uint8_t array_open_kept(struct array *a, const uint8_t *record, si
     if (refused)
         return refused;
     return a->health == PBM_HEALTH_LOST ? PBM_LOST : PBM_DONE;
+}
+
+static inline void set_health(uint8_t *record, uint8_t health, uint8_t out)
+{
+    record[PBM_AT_HEALTH] = health;
+    record[PBM_AT_OUT] = out;
 }
 
 static inline size_t disk_len(const struct array *a) { return (size_t)a->stripes * a->block_len; }

@@ -10,7 +10,7 @@ enum { BLOCK = 16, MAX_IMAGES = 32 * 512 * BLOCK };
 
 struct growth {
     uint32_t n, m, stripes;
-    uint8_t record[16];
+    uint8_t record[PBM_RECORD_LEN];
     uint8_t images[MAX_IMAGES], before[MAX_IMAGES];
     size_t read, written, zeroed, zeroed_new; /* places */
 };
@@ -54,16 +54,16 @@ static void grow(struct growth *g, uint64_t seed)
     struct random r = {seed};
     uint8_t block[BLOCK];
     uint64_t made = 1;
-    must(pbm_format(g->record, 16, g->images, length(g, g->n), g->n, BLOCK, g->stripes) == 0, "format");
+    must(pbm_format(g->record, PBM_RECORD_LEN, g->images, length(g, g->n), g->n, BLOCK, g->stripes) == 0, "format");
     for (uint64_t b = 0; b < (uint64_t)g->stripes * (g->n - 1); b++) {
         random_fill(&r, block, BLOCK);
-        must(pbm_write(g->record, 16, g->images, length(g, g->n), b, block, BLOCK) == 0, "write");
+        must(pbm_write(g->record, PBM_RECORD_LEN, g->images, length(g, g->n), b, block, BLOCK) == 0, "write");
     }
     memset(g->images + length(g, g->n), 1, length(g, g->m)); /* not zero yet, so that zeroing shows */
     memcpy(g->before, g->images, sizeof g->before);
-    must(pbm_grow(g->record, 16, g->images, length(g, g->n + g->m), g->m) == 0, "grow");
+    must(pbm_grow(g->record, PBM_RECORD_LEN, g->images, length(g, g->n + g->m), g->m) == 0, "grow");
     count(g, &g->zeroed_new);
-    while (pbm_advance(g->record, 16, g->images, length(g, g->n + g->m), 1, &made) == 0)
+    while (pbm_advance(g->record, PBM_RECORD_LEN, g->images, length(g, g->n + g->m), 1, &made) == 0)
         count(g, &g->zeroed);
 }
 

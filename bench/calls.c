@@ -23,21 +23,25 @@ static volatile uint64_t sink;
 
 static void reads(struct stage *s, const struct set *c, const uint8_t *record, struct list l, size_t times)
 {
-    for (size_t i = 0; i < times; i++)
-        must(c->read(record, 16, s->images, s->images_len, l.items[i % l.count], s->into, s->plan.block_len) == 0, "read");
+    for (size_t i = 0; i < times; i++) {
+        uint32_t block = l.items[i % l.count];
+        must(c->read(record, PBM_RECORD_LEN, s->images, s->images_len, block, s->into, s->plan.block_len) == 0, "read");
+    }
 }
 
 static void writes(struct stage *s, const struct set *c, const uint8_t *record, struct list l, size_t times)
 {
-    for (size_t i = 0; i < times; i++)
-        must(c->write(record, 16, s->images, s->images_len, l.items[i % l.count], s->data, s->plan.block_len) == 0, "write");
+    for (size_t i = 0; i < times; i++) {
+        uint32_t block = l.items[i % l.count];
+        must(c->write(record, PBM_RECORD_LEN, s->images, s->images_len, block, s->data, s->plan.block_len) == 0, "write");
+    }
 }
 
 static void locates(const struct set *c, const uint8_t *record, struct list l, size_t times)
 {
     uint64_t stripe, disk;
     for (size_t i = 0; i < times; i++) {
-        must(c->locate(record, 16, l.items[i % l.count], &stripe, &disk) == 0, "locate");
+        must(c->locate(record, PBM_RECORD_LEN, l.items[i % l.count], &stripe, &disk) == 0, "locate");
         sink += stripe + disk;
     }
 }
@@ -46,7 +50,8 @@ static void owners(const struct set *c, const uint8_t *record, struct list l, si
 {
     uint64_t role, block;
     for (size_t i = 0; i < times; i++) {
-        must(c->owner(record, 16, l.items[i % l.count] / 32, l.items[i % l.count] % 32, &role, &block) == 0, "owner");
+        uint32_t place = l.items[i % l.count];
+        must(c->owner(record, PBM_RECORD_LEN, place / 32, place % 32, &role, &block) == 0, "owner");
         sink += role + block;
     }
 }
@@ -54,8 +59,8 @@ static void owners(const struct set *c, const uint8_t *record, struct list l, si
 static void rebuilds(struct stage *s, const struct set *c, size_t times)
 {
     for (size_t i = 0; i < times; i++) {
-        memcpy(s->record, s->degraded, 16);
-        must(c->rebuild(s->record, 16, s->images, s->images_len, OUT_DISK) == 0, "rebuild");
+        memcpy(s->record, s->degraded, PBM_RECORD_LEN);
+        must(c->rebuild(s->record, PBM_RECORD_LEN, s->images, s->images_len, OUT_DISK) == 0, "rebuild");
     }
 }
 
@@ -63,9 +68,9 @@ static void growths(struct stage *s, const struct set *c, size_t times, uint64_t
 {
     for (size_t i = 0; i < times; i++) {
         uint64_t made;
-        memcpy(s->record, s->formatted, 16);
-        must(c->grow(s->record, 16, s->images, s->images_len, s->plan.m) == 0, "grow");
-        while (c->advance(s->record, 16, s->images, s->images_len, step, &made) == 0)
+        memcpy(s->record, s->formatted, PBM_RECORD_LEN);
+        must(c->grow(s->record, PBM_RECORD_LEN, s->images, s->images_len, s->plan.m) == 0, "grow");
+        while (c->advance(s->record, PBM_RECORD_LEN, s->images, s->images_len, step, &made) == 0)
             sink += made;
     }
 }

@@ -8,7 +8,7 @@
 #include "peer.h"
 #include "turns.h"
 
-static void lend(struct stage *s, const uint8_t record[16]) { memcpy(s->record, record, 16); }
+static void lend(struct stage *s, const uint8_t record[PBM_RECORD_LEN]) { memcpy(s->record, record, PBM_RECORD_LEN); }
 
 static void parity_must_hold(const struct stage *s)
 {
@@ -105,7 +105,7 @@ static void writing_degraded(struct stage *s, struct settings set, struct report
                        {writer("library", pbm_write, l), held(writer("C", peer_write, l), 0.8, 0.6)}, 2, 1};
     lend(s, s->degraded);
     series_run(&x, s, set, report);
-    must(pbm_rebuild(s->record, 16, s->images, s->images_len, OUT_DISK) == 0, "rebuild");
+    must(pbm_rebuild(s->record, PBM_RECORD_LEN, s->images, s->images_len, OUT_DISK) == 0, "rebuild");
     parity_must_hold(s);
     free(l.items);
 }
@@ -135,7 +135,7 @@ static void growing(struct stage *s, struct settings set, struct report *report,
     series_run(&x, s, set, report);
     for (size_t i = 0; i < 2; i++) { /* one more growth of either, to look at */
         growths(s, &x.who[i], &step, 1);
-        must(memcmp(s->record, s->grown, 16) == 0, "a growth did not come to its end");
+        must(memcmp(s->record, s->grown, PBM_RECORD_LEN) == 0, "a growth did not come to its end");
         parity_must_hold(s);
     }
     for (int in_place = 0; in_place < 2; in_place++) {
@@ -148,7 +148,7 @@ static void growing(struct stage *s, struct settings set, struct report *report,
 
 /* No target is set for old and new blocks mixed. */
 static void locating(struct stage *s, struct settings set, struct report *report, const char *name,
-                     const uint8_t record[16], uint32_t first, uint32_t end)
+                     const uint8_t record[PBM_RECORD_LEN], uint32_t first, uint32_t end)
 {
     struct list l = list_some_blocks(s, first, end);
     double target = record == s->grown && first == 0 ? 0 : 1;
@@ -159,7 +159,7 @@ static void locating(struct stage *s, struct settings set, struct report *report
 }
 
 static void owning(struct stage *s, struct settings set, struct report *report, const char *name,
-                   const uint8_t record[16])
+                   const uint8_t record[PBM_RECORD_LEN])
 {
     struct list l = list_some_places(s);
     struct series x = {name, {owner("library", pbm_owner, l), held(owner("C", peer_owner, l), 1, 1)}, 2, 1};

@@ -40,8 +40,7 @@ uint8_t isal_rebuild(uint8_t *record, size_t record_len, uint8_t *images, size_t
         return refused;
     for (uint32_t s = 0; s < a.stripes; s++)
         sum_others(&a, images, s, a.out, images + offset_of(&a, s, a.out));
-    record[2] = PBM_HEALTH_WHOLE;
-    record[3] = 0;
+    set_health(record, PBM_HEALTH_WHOLE, 0);
     return PBM_DONE;
 }
 

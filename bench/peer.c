@@ -15,9 +15,9 @@ uint8_t peer_format(uint8_t *record, size_t record_len, uint8_t *images, size_t 
         return PBM_IMAGES;
     memset(images, 0, images_len);
     memset(record, 0, PBM_RECORD_LEN);
-    record[0] = (uint8_t)n;
-    memcpy(record + 4, &(uint16_t){(uint16_t)block_len}, 2);
-    memcpy(record + 8, &(uint32_t){(uint32_t)stripes}, 4);
+    record[PBM_AT_N] = (uint8_t)n;
+    memcpy(record + PBM_AT_BLOCK_LEN, &(uint16_t){(uint16_t)block_len}, 2);
+    memcpy(record + PBM_AT_STRIPES, &(uint32_t){(uint32_t)stripes}, 4);
     return PBM_DONE;
 }
 
@@ -110,7 +110,7 @@ uint8_t peer_grow(uint8_t *record, size_t record_len, uint8_t *images, size_t im
     if (images_len != (a.n + m) * disk_len(&a))
         return PBM_IMAGES;
     memset(images + a.n * disk_len(&a), 0, m * disk_len(&a));
-    record[1] = (uint8_t)m;
+    record[PBM_AT_M] = (uint8_t)m;
     return PBM_DONE;
 }
 
@@ -157,7 +157,7 @@ uint8_t peer_advance(uint8_t *record, size_t record_len, uint8_t *images, size_t
     uint32_t left = a.stripes / a.disks * a.n * a.m - a.moves;
     uint32_t count = k < left ? (uint32_t)k : left;
     make_moves(&a, images, count);
-    memcpy(record + 12, &(uint32_t){a.moves + count}, 4);
+    memcpy(record + PBM_AT_MOVES, &(uint32_t){a.moves + count}, 4);
     *made = count;
     return PBM_DONE;
 }
@@ -171,8 +171,7 @@ uint8_t peer_out(uint8_t *record, size_t record_len, uint64_t disk)
     if (disk >= a.disks || is_out(&a, (uint32_t)disk))
         return PBM_DISK;
     bool whole = a.health == PBM_HEALTH_WHOLE;
-    record[2] = whole ? PBM_HEALTH_OUT : PBM_HEALTH_LOST;
-    record[3] = whole ? (uint8_t)disk : 0;
+    set_health(record, whole ? PBM_HEALTH_OUT : PBM_HEALTH_LOST, whole ? (uint8_t)disk : 0);
     return PBM_DONE;
 }
 
@@ -184,8 +183,7 @@ uint8_t peer_rebuild(uint8_t *record, size_t record_len, uint8_t *images, size_t
         return refused;
     for (uint32_t s = 0; s < a.stripes; s++)
         sum_others(&a, images, s, a.out, images + offset_of(&a, s, a.out));
-    record[2] = PBM_HEALTH_WHOLE;
-    record[3] = 0;
+    set_health(record, PBM_HEALTH_WHOLE, 0);
     return PBM_DONE;
 }
 

@@ -39,10 +39,11 @@ static uint32_t stripes_for(struct plan p)
 
 static void fill_home(struct stage *s)
 {
-    must(pbm_format(s->formatted, 16, s->home, s->home_len, s->plan.n, s->plan.block_len, s->stripes) == 0, "format");
+    uint8_t refused = pbm_format(s->formatted, PBM_RECORD_LEN, s->home, s->home_len, s->plan.n, s->plan.block_len, s->stripes);
+    must(refused == 0, "format");
     for (uint64_t b = 0; b < (uint64_t)s->stripes * (s->plan.n - 1); b++) {
         random_fill(&s->random, s->into, s->plan.block_len);
-        must(pbm_write(s->formatted, 16, s->home, s->home_len, b, s->into, s->plan.block_len) == 0, "write");
+        must(pbm_write(s->formatted, PBM_RECORD_LEN, s->home, s->home_len, b, s->into, s->plan.block_len) == 0, "write");
     }
     must(isal_check(s->home, s->plan.n, s->stripes, s->plan.block_len), "a parity does not hold before growth");
 }
@@ -51,19 +52,19 @@ void stage_half(struct stage *s)
 {
     uint64_t made;
     memcpy(s->images, s->home, s->home_len);
-    memcpy(s->half, s->formatted, 16);
-    must(pbm_grow(s->half, 16, s->images, s->images_len, s->plan.m) == 0, "grow");
-    must(pbm_advance(s->half, 16, s->images, s->images_len, s->total / 2, &made) == 0, "advance");
-    memcpy(s->degraded, s->half, 16);
-    must(pbm_out(s->degraded, 16, OUT_DISK) == 0, "out");
-    memcpy(s->grown, s->half, 16);
-    memcpy(s->grown + 12, &s->total, 4);
+    memcpy(s->half, s->formatted, PBM_RECORD_LEN);
+    must(pbm_grow(s->half, PBM_RECORD_LEN, s->images, s->images_len, s->plan.m) == 0, "grow");
+    must(pbm_advance(s->half, PBM_RECORD_LEN, s->images, s->images_len, s->total / 2, &made) == 0, "advance");
+    memcpy(s->degraded, s->half, PBM_RECORD_LEN);
+    must(pbm_out(s->degraded, PBM_RECORD_LEN, OUT_DISK) == 0, "out");
+    memcpy(s->grown, s->half, PBM_RECORD_LEN);
+    memcpy(s->grown + PBM_AT_MOVES, &s->total, 4);
 }
 
 static bool block_on_disk_out(const struct stage *s, uint32_t block)
 {
     uint64_t stripe, disk;
-    must(pbm_locate(s->half, 16, block, &stripe, &disk) == 0, "locate");
+    must(pbm_locate(s->half, PBM_RECORD_LEN, block, &stripe, &disk) == 0, "locate");
     return disk == OUT_DISK;
 }
 
@@ -161,7 +162,7 @@ struct list list_place_numbers(const struct stage *s, struct list blocks)
     struct list l = list_of(blocks.count);
     for (; l.count < blocks.count; l.count++) {
         uint64_t stripe, disk;
-        must(pbm_locate(s->half, 16, blocks.items[l.count], &stripe, &disk) == 0, "locate");
+        must(pbm_locate(s->half, PBM_RECORD_LEN, blocks.items[l.count], &stripe, &disk) == 0, "locate");
         l.items[l.count] = (uint32_t)(disk * s->stripes + stripe);
     }
     return l;

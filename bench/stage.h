@@ -6,6 +6,7 @@
 #include <stddef.h>
 #include <stdint.h>
 
+#include "pbm.h"
 #include "random.h"
 
 struct plan {
@@ -27,9 +28,10 @@ struct stage {
     uint8_t *images; /* n + m disks */
     uint8_t *spare;  /* n + m disks, for the restripe */
     size_t home_len, images_len;
-    uint8_t formatted[16], half[16], degraded[16], grown[16]; /* records; in `degraded` OUT_DISK is out */
-    uint8_t record[16];                                       /* the one lent in the case that is played */
-    uint8_t *into, *data;                                     /* one block; DATA_BLOCKS blocks */
+    /* records; in `degraded` OUT_DISK is out */
+    uint8_t formatted[PBM_RECORD_LEN], half[PBM_RECORD_LEN], degraded[PBM_RECORD_LEN], grown[PBM_RECORD_LEN];
+    uint8_t record[PBM_RECORD_LEN]; /* the one lent in the case that is played */
+    uint8_t *into, *data;           /* one block; DATA_BLOCKS blocks */
     bool few_stripes; /* the images are above the wish: only these stripes are visited, which are about it */
     uint32_t visited[64], visited_count;
     struct random random;

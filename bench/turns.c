@@ -20,7 +20,7 @@ uint64_t reads(struct stage *s, const struct contestant *c, const uint32_t *item
     uint8_t refused = 0;
     uint64_t seen = 0, start = now_ns();
     for (size_t i = 0; i < count; i++) {
-        refused |= c->read(s->record, 16, s->images, s->images_len, items[i], s->into, s->plan.block_len);
+        refused |= c->read(s->record, PBM_RECORD_LEN, s->images, s->images_len, items[i], s->into, s->plan.block_len);
         seen += s->into[0];
     }
     return since(start, refused, seen);
@@ -44,7 +44,7 @@ uint64_t writes(struct stage *s, const struct contestant *c, const uint32_t *ite
     uint64_t start = now_ns();
     for (size_t i = 0; i < count; i++) {
         const uint8_t *data = s->data + i % DATA_BLOCKS * s->plan.block_len;
-        refused |= c->write(s->record, 16, s->images, s->images_len, items[i], data, s->plan.block_len);
+        refused |= c->write(s->record, PBM_RECORD_LEN, s->images, s->images_len, items[i], data, s->plan.block_len);
     }
     return since(start, refused, s->images[items[0]]);
 }
@@ -54,9 +54,9 @@ uint64_t rebuilds(struct stage *s, const struct contestant *c, const uint32_t *i
     uint8_t refused = 0;
     uint64_t start = now_ns();
     for (size_t i = 0; i < count; i++) {
-        uint8_t record[16];
-        memcpy(record, s->record, 16);
-        refused |= c->on_disk(record, 16, s->images, s->images_len, items[i]);
+        uint8_t record[PBM_RECORD_LEN];
+        memcpy(record, s->record, PBM_RECORD_LEN);
+        refused |= c->on_disk(record, PBM_RECORD_LEN, s->images, s->images_len, items[i]);
     }
     return since(start, refused, s->images[0]);
 }
@@ -79,11 +79,11 @@ uint64_t growths(struct stage *s, const struct contestant *c, const uint32_t *it
         uint8_t refused = 0;
         uint64_t made = 1;
         memcpy(s->images, s->home, s->home_len);
-        memcpy(s->record, s->formatted, 16);
+        memcpy(s->record, s->formatted, PBM_RECORD_LEN);
         uint64_t start = now_ns();
-        refused |= c->on_disk(s->record, 16, s->images, s->images_len, s->plan.m);
+        refused |= c->on_disk(s->record, PBM_RECORD_LEN, s->images, s->images_len, s->plan.m);
         for (uint32_t left = s->total; left > 0 && refused == 0; left -= (uint32_t)made)
-            refused |= c->advance(s->record, 16, s->images, s->images_len, items[i], &made);
+            refused |= c->advance(s->record, PBM_RECORD_LEN, s->images, s->images_len, items[i], &made);
         ns += since(start, refused, s->images[0]);
     }
     return ns;
@@ -116,7 +116,7 @@ uint64_t views(struct stage *s, const struct contestant *c, const uint32_t *item
     uint64_t seen = 0, start = now_ns();
     for (size_t i = 0; i < count; i++) {
         const uint8_t *view;
-        refused |= c->view(s->record, 16, s->images, s->images_len, items[i], s->into, s->plan.block_len, &view);
+        refused |= c->view(s->record, PBM_RECORD_LEN, s->images, s->images_len, items[i], s->into, s->plan.block_len, &view);
         seen += view[0];
     }
     return since(start, refused, seen);
@@ -128,7 +128,7 @@ uint64_t locates(struct stage *s, const struct contestant *c, const uint32_t *it
     uint64_t seen = 0, start = now_ns();
     for (size_t i = 0; i < count; i++) {
         uint64_t stripe, disk;
-        refused |= c->locate(s->record, 16, items[i], &stripe, &disk);
+        refused |= c->locate(s->record, PBM_RECORD_LEN, items[i], &stripe, &disk);
         seen += stripe + disk;
     }
     return since(start, refused, seen);
@@ -140,7 +140,7 @@ uint64_t owners(struct stage *s, const struct contestant *c, const uint32_t *ite
     uint64_t seen = 0, start = now_ns();
     for (size_t i = 0; i < count; i++) {
         uint64_t role, block;
-        refused |= c->owner(s->record, 16, items[i] / 32, items[i] % 32, &role, &block);
+        refused |= c->owner(s->record, PBM_RECORD_LEN, items[i] / 32, items[i] % 32, &role, &block);
         seen += role + block;
     }
     return since(start, refused, seen);

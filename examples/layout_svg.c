@@ -85,11 +85,11 @@ static void put(uint8_t *bytes, int count, unsigned value)
 /* All other bytes are 0. The block length, 1 here, has no part in the layout. */
 static void set_record(uint8_t *record, unsigned moves)
 {
-    put(record, 1, n);
-    put(record + 1, 1, m);
-    put(record + 4, 2, 1);
-    put(record + 8, 4, T);
-    put(record + 12, 4, moves);
+    put(record + PBM_AT_N, 1, n);
+    put(record + PBM_AT_M, 1, m);
+    put(record + PBM_AT_BLOCK_LEN, 2, 1);
+    put(record + PBM_AT_STRIPES, 4, T);
+    put(record + PBM_AT_MOVES, 4, moves);
 }
 
 struct owner { uint64_t role, block; };

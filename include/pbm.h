@@ -104,6 +104,18 @@ extern "C" {
 /* The length of a record. */
 enum { PBM_RECORD_LEN = 16 };
 
+/* The byte of the record at which each field begins; ZERO, what is no field yet. */
+enum {
+    PBM_AT_N = 0,
+    PBM_AT_M = 1,
+    PBM_AT_HEALTH = 2,
+    PBM_AT_OUT = 3,
+    PBM_AT_BLOCK_LEN = 4,
+    PBM_AT_ZERO = 6,
+    PBM_AT_STRIPES = 8,
+    PBM_AT_MOVES = 12
+};
+
 /* What a call returns. */
 enum {
     PBM_DONE = 0,
@@ -153,9 +165,10 @@ static inline uint64_t pbm_images_len(uint64_t disks, uint64_t block_len, uint64
  */
 static inline uint64_t pbm_images_len_by(const uint8_t *record, uint64_t more)
 {
-    uint64_t disks = (uint64_t)record[0] + record[1] + more;
-    uint64_t block_len = (uint64_t)record[4] | (uint64_t)record[5] << 8;
-    uint64_t stripes = (uint64_t)record[8] | (uint64_t)record[9] << 8 | (uint64_t)record[10] << 16 | (uint64_t)record[11] << 24;
+    const uint8_t *b = record + PBM_AT_BLOCK_LEN, *t = record + PBM_AT_STRIPES;
+    uint64_t disks = (uint64_t)record[PBM_AT_N] + record[PBM_AT_M] + more;
+    uint64_t block_len = (uint64_t)b[0] | (uint64_t)b[1] << 8;
+    uint64_t stripes = (uint64_t)t[0] | (uint64_t)t[1] << 8 | (uint64_t)t[2] << 16 | (uint64_t)t[3] << 24;
     return pbm_images_len(disks, block_len, stripes);
 }
 

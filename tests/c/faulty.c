@@ -32,9 +32,9 @@ static uint64_t number(const uint8_t *record, int at, int bytes)
     return value;
 }
 
-static uint64_t moves(const uint8_t *record) { return number(record, 12, 4); }
-static size_t block_len(const uint8_t *record) { return number(record, 4, 2); }
-static size_t disk_len(const uint8_t *record) { return number(record, 8, 4) * block_len(record); }
+static uint64_t moves(const uint8_t *record) { return number(record, PBM_AT_MOVES, 4); }
+static size_t block_len(const uint8_t *record) { return number(record, PBM_AT_BLOCK_LEN, 2); }
+static size_t disk_len(const uint8_t *record) { return number(record, PBM_AT_STRIPES, 4) * block_len(record); }
 
 static uint8_t *copy_of(const uint8_t *bytes, size_t len)
 {
@@ -51,7 +51,7 @@ uint8_t __wrap_pbm_read(const uint8_t *record, size_t record_len, const uint8_t 
     memcpy(old, record, sizeof old);
     if (FAULT == READ_REFUSED && moves(record) >= 300) return PBM_PAST_THE_END;
     if (FAULT == OLD_RECORD && moves(record) > 0) {
-        int i = 12;
+        int i = PBM_AT_MOVES;
         while (old[i]-- == 0) i++;
     }
     return __real_pbm_read(old, record_len, images, images_len, block, into, into_len);
@@ -63,7 +63,7 @@ uint8_t __wrap_pbm_write(const uint8_t *record, size_t record_len, uint8_t *imag
     uint64_t stripe, disk, role = PBM_BLANK, none;
     uint8_t answer, *parity, *copy;
     pbm_locate(record, record_len, block, &stripe, &disk);
-    if (FAULT == LOST_WRITE && disk >= record[0]) return PBM_DONE;
+    if (FAULT == LOST_WRITE && disk >= record[PBM_AT_N]) return PBM_DONE;
     for (disk = 0; role != PBM_PARITY; disk++) pbm_owner(record, record_len, stripe, disk, &role, &none);
     parity = images + (disk - 1) * disk_len(record) + stripe * block_len(record);
     copy = copy_of(parity, block_len(record));
@@ -75,7 +75,7 @@ uint8_t __wrap_pbm_write(const uint8_t *record, size_t record_len, uint8_t *imag
 
 uint8_t __wrap_pbm_advance(uint8_t *record, size_t record_len, uint8_t *images, size_t images_len, uint64_t k, uint64_t *made)
 {
-    size_t old_len = record[0] * disk_len(record);
+    size_t old_len = record[PBM_AT_N] * disk_len(record);
     int leaves = FAULT == PLACE_LEFT && moves(record) >= 500 && moves(record) < 520;
     uint8_t answer, *copy = leaves ? copy_of(images, old_len) : NULL;
     answer = __real_pbm_advance(record, record_len, images, images_len, k, made);

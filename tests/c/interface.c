@@ -114,9 +114,13 @@ static void show_lengths(const char *when, uint64_t len, uint64_t grown_len)
 /* The longest images that there are, by numbers of 32 bits and by a record. */
 static void show_longest(void)
 {
-    static const uint8_t longest[PBM_RECORD_LEN] = {16, 16, 0, 0, 0, 16, 0, 0, 0, 0, 16, 0, 0, 0, 0, 0};
+    static uint8_t longest[PBM_RECORD_LEN];
     const int disks = 32, block_len = 4096, stripes = 1048576;
-    int is_right = pbm_images_len(disks, block_len, stripes) == (uint64_t)1 << 37
+    int is_right;
+    longest[PBM_AT_N] = longest[PBM_AT_M] = (uint8_t)(disks / 2);
+    longest[PBM_AT_BLOCK_LEN + 1] = (uint8_t)(block_len >> 8);
+    longest[PBM_AT_STRIPES + 2] = (uint8_t)(stripes >> 16);
+    is_right = pbm_images_len(disks, block_len, stripes) == (uint64_t)1 << 37
         && pbm_images_len_by(longest, 0) == (uint64_t)1 << 37;
     printf("the longest images: %s\n", is_right ? "128 GiB" : "wrong");
 }
@@ -173,7 +177,7 @@ int main(void)
     show_write(30, "past");
     show_read(4);
     printf("read, 3 bytes: %d\n", pbm_read(record, PBM_RECORD_LEN, images, images_len, 4, block, 3));
-    printf("read, record of 15 bytes: %d\n", pbm_read(record, 15, images, images_len, 4, block, BLOCK));
+    printf("read, record a byte short: %d\n", pbm_read(record, PBM_RECORD_LEN - 1, images, images_len, 4, block, BLOCK));
     show_advance(1);
 
     grow();

@@ -42,15 +42,15 @@ static size_t len_of(int disks) { return pbm_images_len(disks, BLOCK, STRIPES); 
 static int place(uint64_t stripe, uint64_t disk) { return (int)(disk * STRIPES + stripe); }
 static void fill(uint64_t seed) { for (int i = 0; i < BLOCK; i++) data[i] = (uint8_t)(1 + (seed * 7 + i) % 255); }
 
-static void format(void) { done(pbm_format(record, 16, **images, len_of(OLD), OLD, BLOCK, STRIPES)); }
-static void grow(void) { done(pbm_grow(record, 16, **images, len_of(DISKS), NEW)); }
-static void rebuild(void) { done(pbm_rebuild(record, 16, **images, len_of(DISKS), 1)); }
+static void format(void) { done(pbm_format(record, PBM_RECORD_LEN, **images, len_of(OLD), OLD, BLOCK, STRIPES)); }
+static void grow(void) { done(pbm_grow(record, PBM_RECORD_LEN, **images, len_of(DISKS), NEW)); }
+static void rebuild(void) { done(pbm_rebuild(record, PBM_RECORD_LEN, **images, len_of(DISKS), 1)); }
 
 static uint64_t budget;
-static void advance(void) { uint64_t made; done(pbm_advance(record, 16, **images, len_of(DISKS), budget, &made)); }
+static void advance(void) { uint64_t made; done(pbm_advance(record, PBM_RECORD_LEN, **images, len_of(DISKS), budget, &made)); }
 
 static uint64_t number;
-static void write_block(void) { done(pbm_write(record, 16, **images, len_of(DISKS), number, data, BLOCK)); }
+static void write_block(void) { done(pbm_write(record, PBM_RECORD_LEN, **images, len_of(DISKS), number, data, BLOCK)); }
 
 /* An array after so many moves, each block with bytes of its own, none of them 0. */
 static void prepare(uint64_t moves)
@@ -58,7 +58,7 @@ static void prepare(uint64_t moves)
     format();
     for (uint64_t b = 0; b < STRIPES * (OLD - 1); b++) {
         fill(b);
-        done(pbm_write(record, 16, **images, len_of(OLD), b, data, BLOCK));
+        done(pbm_write(record, PBM_RECORD_LEN, **images, len_of(OLD), b, data, BLOCK));
     }
     grow();
     budget = moves;
@@ -93,7 +93,7 @@ static void make_moves(array_t copy, uint64_t moves)
     uint64_t made;
     memcpy(copy, images, sizeof before);
     memcpy(new_record, record, sizeof new_record);
-    done(pbm_advance(new_record, 16, *copy, len_of(DISKS), moves, &made));
+    done(pbm_advance(new_record, PBM_RECORD_LEN, *copy, len_of(DISKS), moves, &made));
 }
 
 /* An advance by k from t on, stopped in its move j, at the copy or at the zeroes. */
@@ -134,8 +134,8 @@ static void kill_writes(void)
         for (int at_data = 0; at_data < 2; at_data++, kills++) {
             uint64_t stripe, disk, parity, role = PBM_BLANK, none;
             prepare(9);
-            done(pbm_locate(record, 16, number, &stripe, &disk));
-            for (parity = 0; role != PBM_PARITY; parity++) done(pbm_owner(record, 16, stripe, parity, &role, &none));
+            done(pbm_locate(record, PBM_RECORD_LEN, number, &stripe, &disk));
+            for (parity = 0; role != PBM_PARITY; parity++) done(pbm_owner(record, PBM_RECORD_LEN, stripe, parity, &role, &none));
             parity--;
             fill(number + 100);
             stop_at(place(stripe, at_data ? disk : parity), PROT_READ, write_block);
@@ -150,7 +150,7 @@ static void read_all(void)
     static uint8_t into[BLOCK];
     for (uint64_t b = 0; b < STRIPES * (OLD - 1); b++) {
         fill(b);
-        done(pbm_read(record, 16, **images, len_of(DISKS), b, into, BLOCK));
+        done(pbm_read(record, PBM_RECORD_LEN, **images, len_of(DISKS), b, into, BLOCK));
         must(memcmp(into, data, BLOCK) == 0, "every block is as it was written");
     }
 }
@@ -160,7 +160,7 @@ static void kill_others(void)
 {
     for (int s = 0; s < STRIPES; s++) {
         prepare(9);
-        done(pbm_out(record, 16, 1));
+        done(pbm_out(record, PBM_RECORD_LEN, 1));
         memset((*images)[place(0, 1)], 0xEE, STRIPES * BLOCK);
         stop_at(place(s, 1), PROT_NONE, rebuild);
         rebuild();
@@ -169,7 +169,7 @@ static void kill_others(void)
         prepare(0);
         memcpy(wanted, images, sizeof wanted);
         memcpy(new_record, record, sizeof new_record);
-        record[1] = 0; /* as before the growth */
+        record[PBM_AT_M] = 0; /* as before the growth */
         memset((*images)[place(0, OLD)], 0xEE, NEW * STRIPES * BLOCK);
         stop_at(place(s, OLD + s % NEW), PROT_NONE, grow);
         grow();

@@ -104,7 +104,7 @@ int main(void)
 
     for (int d = 0; d < DISKS; d++) {
         allow(record, BLOCK, PROT_READ | PROT_WRITE);
-        record[2] = PBM_HEALTH_OUT, record[3] = (uint8_t)d;
+        record[PBM_AT_HEALTH] = PBM_HEALTH_OUT, record[PBM_AT_OUT] = (uint8_t)d;
         allow(record, BLOCK, PROT_READ);
         allow(images + d * DISK, DISK, PROT_NONE);
         readers("a disk out");

@@ -31,31 +31,32 @@ static uint8_t *map(size_t len)
 /* n, m, health, the disk that is out */
 static void set(int n, int m, int health, int out)
 {
-    record[0] = (uint8_t)n, record[1] = (uint8_t)m, record[2] = (uint8_t)health, record[3] = (uint8_t)out;
-    record[4] = BLOCK & 255, record[5] = BLOCK >> 8;
-    record[8] = STRIPES & 255, record[9] = STRIPES >> 8;
+    record[PBM_AT_N] = (uint8_t)n, record[PBM_AT_M] = (uint8_t)m;
+    record[PBM_AT_HEALTH] = (uint8_t)health, record[PBM_AT_OUT] = (uint8_t)out;
+    record[PBM_AT_BLOCK_LEN] = BLOCK & 255, record[PBM_AT_BLOCK_LEN + 1] = BLOCK >> 8;
+    record[PBM_AT_STRIPES] = STRIPES & 255, record[PBM_AT_STRIPES + 1] = STRIPES >> 8;
     images_len = pbm_images_len_by(record, 0);
 }
 
 /* Each sets the array that it wants, and calls. Block 0 of the array stands on disk 15, the parity of its stripe on disk 0. */
-static void format(void) { set(OLD, 0, 0, 0); answer = pbm_format(record, 16, images, images_len, OLD, BLOCK, STRIPES); }
-static void read_whole(void) { set(OLD, NEW, 0, 0); answer = pbm_read(record, 16, images, images_len, 0, block, BLOCK); }
-static void read_out(void) { set(OLD, NEW, 1, 15); answer = pbm_read(record, 16, images, images_len, 0, block, BLOCK); }
-static void write_whole(void) { set(OLD, NEW, 0, 0); answer = pbm_write(record, 16, images, images_len, 0, block, BLOCK); }
-static void write_out(void) { set(OLD, NEW, 1, 15); answer = pbm_write(record, 16, images, images_len, 0, block, BLOCK); }
-static void write_parity_out(void) { set(OLD, NEW, 1, 0); answer = pbm_write(record, 16, images, images_len, 0, block, BLOCK); }
-static void grow(void) { set(OLD, 0, 0, 0); answer = pbm_grow(record, 16, images, pbm_images_len_by(record, NEW), NEW); }
-static void advance(void) { set(OLD, NEW, 0, 0); answer = pbm_advance(record, 16, images, images_len, 500, numbers); }
-static void out(void) { set(OLD, NEW, 0, 0); answer = pbm_out(record, 16, 31); }
-static void rebuild(void) { set(OLD, NEW, 1, 15); answer = pbm_rebuild(record, 16, images, images_len, 15); }
+static void format(void) { set(OLD, 0, 0, 0); answer = pbm_format(record, sizeof record, images, images_len, OLD, BLOCK, STRIPES); }
+static void read_whole(void) { set(OLD, NEW, 0, 0); answer = pbm_read(record, sizeof record, images, images_len, 0, block, BLOCK); }
+static void read_out(void) { set(OLD, NEW, 1, 15); answer = pbm_read(record, sizeof record, images, images_len, 0, block, BLOCK); }
+static void write_whole(void) { set(OLD, NEW, 0, 0); answer = pbm_write(record, sizeof record, images, images_len, 0, block, BLOCK); }
+static void write_out(void) { set(OLD, NEW, 1, 15); answer = pbm_write(record, sizeof record, images, images_len, 0, block, BLOCK); }
+static void write_parity_out(void) { set(OLD, NEW, 1, 0); answer = pbm_write(record, sizeof record, images, images_len, 0, block, BLOCK); }
+static void grow(void) { set(OLD, 0, 0, 0); answer = pbm_grow(record, sizeof record, images, pbm_images_len_by(record, NEW), NEW); }
+static void advance(void) { set(OLD, NEW, 0, 0); answer = pbm_advance(record, sizeof record, images, images_len, 500, numbers); }
+static void out(void) { set(OLD, NEW, 0, 0); answer = pbm_out(record, sizeof record, 31); }
+static void rebuild(void) { set(OLD, NEW, 1, 15); answer = pbm_rebuild(record, sizeof record, images, images_len, 15); }
 static void status(void)
 {
     uint64_t *x = numbers;
     set(OLD, NEW, 0, 0);
-    answer = pbm_status(record, 16, x, x + 1, x + 2, x + 3, x + 4);
+    answer = pbm_status(record, sizeof record, x, x + 1, x + 2, x + 3, x + 4);
 }
-static void locate(void) { set(OLD, NEW, 0, 0); answer = pbm_locate(record, 16, 7, numbers, numbers + 1); }
-static void owner(void) { set(OLD, NEW, 0, 0); answer = pbm_owner(record, 16, 7, 3, numbers, numbers + 1); }
+static void locate(void) { set(OLD, NEW, 0, 0); answer = pbm_locate(record, sizeof record, 7, numbers, numbers + 1); }
+static void owner(void) { set(OLD, NEW, 0, 0); answer = pbm_owner(record, sizeof record, 7, 3, numbers, numbers + 1); }
 
 /* The bytes of the stack that one run touches. */
 static int depth(void (*call)(void))

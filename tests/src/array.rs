@@ -1,7 +1,7 @@
 //! One array on the heap, called as a caller without faults calls it.
 
 use crate::pbm::{Answer, Bytes, Call};
-use crate::record::Record;
+use crate::record::{Record, RECORD_LEN};
 
 pub struct Array(pub Bytes);
 
@@ -9,7 +9,7 @@ impl Array {
     /// A new array; record and images held other bytes before.
     pub fn format(n: u64, block_len: u64, stripes: u64) -> Array {
         let mut array = Array(Bytes {
-            record: vec![0xff; 16],
+            record: vec![0xff; RECORD_LEN],
             images: vec![0xff; (n * block_len * stripes) as usize],
             block: vec![0; block_len as usize],
         });

@@ -136,6 +136,6 @@ fn make_moves(images: &mut [u8], record: &Record, k: u64) -> u64 {
 
 /// "capacity, t, total, health", and the disk that is out, as the record has it.
 fn status(record: &Record) -> Answer {
-    let [_, _, health, out, ..] = record.bytes().map(u64::from);
+    let (health, out) = record.health.numbers();
     Answer::done(&[record.capacity(), record.moves, record.total(), health, out])
 }

@@ -1,9 +1,9 @@
 //! A caller that errs: draws shapes, calls and lengths, mostly right ones, at random.
 
 use crate::flat::Flat;
-use crate::pbm::{Bytes, Call};
+use crate::pbm::{Bytes, Call, NAMES};
 use crate::random::Random;
-use crate::record::{Health, Record};
+use crate::record::{Health, Record, RECORD_LEN};
 
 pub struct Caller {
     pub random: Random,
@@ -14,7 +14,7 @@ pub struct Caller {
 }
 
 /// How often each call of `NAMES` is drawn: format, read, write, grow, advance, out, rebuild, status, locate, owner.
-type Weights = [u64; 10];
+type Weights = [u64; NAMES.len()];
 const HOME: Weights = [1, 15, 20, 12, 4, 4, 2, 2, 5, 5];
 const GROWING: Weights = [1, 20, 25, 2, 25, 4, 2, 2, 6, 6];
 const GROWN: Weights = [3, 30, 30, 2, 3, 5, 2, 2, 8, 8];
@@ -106,7 +106,7 @@ impl Caller {
     /// What the call is lent: record and images as the calls before left them, where document 01 does not say otherwise, at
     /// their lengths or, rarely, at others.
     pub fn lend(&mut self, call: Call, numbers: &Record, images: &[u8]) -> Bytes {
-        let record_len = self.len(16, &[]);
+        let record_len = self.len(RECORD_LEN as u64, &[]);
         let mut lent = Bytes {
             record: self.stretched(&numbers.bytes(), record_len),
             images: Vec::new(),

@@ -2,7 +2,7 @@
 //! What a comment says, or a proof binds on its way, is no definition.
 
 use crate::contracts;
-use std::fs;
+use crate::files::texts;
 use std::path::Path;
 
 #[derive(Clone, Debug, PartialEq, Eq)]
@@ -34,38 +34,29 @@ pub enum Kind {
 
 /// All definitions of the crates and the header.
 pub fn definitions(root: &Path) -> Vec<Definition> {
+    let parts: [(&str, &str, Reader); 3] = [
+        ("crates", "antt", of_proof_language),
+        ("crates", "rt", of_rattle),
+        ("include", "h", of_header),
+    ];
     let mut all = Vec::new();
-    collect(root, Path::new("crates"), &mut all);
-    collect(root, Path::new("include"), &mut all);
-    all
-}
-
-fn collect(root: &Path, below: &Path, all: &mut Vec<Definition>) {
-    for entry in fs::read_dir(root.join(below)).unwrap() {
-        let path = below.join(entry.unwrap().file_name());
-        if root.join(&path).is_dir() {
-            collect(root, &path, all);
-            continue;
+    for (folder, ending, read) in parts {
+        for (path, text) in texts(&root.join(folder), ending) {
+            all.extend(read(&text).into_iter().map(|(name, kind, of)| Definition {
+                name,
+                kind,
+                of,
+                file: format!("{folder}/{path}"),
+            }));
         }
-        let read = match path.extension().and_then(|e| e.to_str()) {
-            Some("antt") => of_proof_language,
-            Some("rt") => of_rattle,
-            Some("h") => of_header,
-            _ => continue,
-        };
-        let text = fs::read_to_string(root.join(&path)).unwrap();
-        let file = path.to_str().unwrap().to_string();
-        all.extend(read(&text).into_iter().map(|(name, kind, of)| Definition {
-            name,
-            kind,
-            of,
-            file: file.clone(),
-        }));
     }
+    all
 }
 
 /// A name, what it is, and what it is a part of.
 pub type Found = (String, Kind, Option<String>);
+
+type Reader = fn(&str) -> Vec<Found>;
 
 /// The lines of a file in the proof language, without comments and empty lines.
 pub fn lines(text: &str) -> impl Iterator<Item = &str> {

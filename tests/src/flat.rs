@@ -100,11 +100,7 @@ impl Flat {
     }
 
     fn status(&self) -> Answer {
-        let (health, out) = match self.numbers.health {
-            Health::Whole => (0, 0),
-            Health::Out(disk) => (1, disk),
-            Health::Lost => (2, 0),
-        };
+        let (health, out) = self.numbers.health.numbers();
         let total = self.layout.total();
         Answer::done(&[self.capacity(), self.numbers.moves, total, health, out])
     }

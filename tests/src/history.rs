@@ -7,8 +7,8 @@ use crate::images;
 use crate::memory::Memory;
 use crate::pbm::{Answer, Bytes, Call, Loan, NAMES};
 use crate::random::Random;
-use crate::record::Health;
-use crate::table::{rows, Lent};
+use crate::record::{Health, RECORD_LEN};
+use crate::table::{rows, Lent, LAST};
 use std::collections::BTreeMap;
 use std::fmt;
 
@@ -63,7 +63,7 @@ impl<'a, M: Memory> History<'a, M> {
             unreachable!()
         };
         let lent = Bytes {
-            record: caller.random.bytes(16),
+            record: caller.random.bytes(RECORD_LEN),
             images: caller.random.bytes((n * block_len * stripes) as usize),
             block: Vec::new(),
         };
@@ -221,7 +221,7 @@ impl<'a, M: Memory> History<'a, M> {
 #[derive(Default)]
 pub struct Tally {
     /// By call and by number.
-    answers: [[u64; 11]; 10],
+    answers: [[u64; LAST as usize + 1]; NAMES.len()],
     sights: BTreeMap<String, u64>,
 }
 
@@ -318,7 +318,7 @@ impl Tally {
 
 impl fmt::Display for Tally {
     fn fmt(&self, f: &mut fmt::Formatter) -> fmt::Result {
-        writeln!(f, "answers:  done, then refusals 1 to 10")?;
+        writeln!(f, "answers:  done, then refusals 1 to {LAST}")?;
         for (name, counts) in NAMES.iter().zip(&self.answers) {
             write!(f, "{name:8}")?;
             for count in counts {

@@ -7,6 +7,7 @@ pub mod caller;
 pub mod compile;
 pub mod contracts;
 pub mod definitions;
+pub mod files;
 pub mod flat;
 pub mod history;
 pub mod images;

@@ -1,10 +1,52 @@
-//! The record of document 01: its fields, its 16 bytes, when it is good, and the numbers that follow from it.
+//! The record of document 01: its fields, its bytes, when it is good, and the numbers that follow from it.
+
+use std::ops::Range;
+
+/// How many bytes it has.
+pub const RECORD_LEN: usize = 16;
+
+/// The bytes of each field, the least one first.
+pub mod at {
+    use std::ops::Range;
+
+    pub const N: Range<usize> = 0..1;
+    pub const M: Range<usize> = 1..2;
+    pub const HEALTH: Range<usize> = 2..3;
+    pub const OUT: Range<usize> = 3..4;
+    pub const BLOCK_LEN: Range<usize> = 4..6;
+    /// No field: zero in a good record.
+    pub const ZERO: Range<usize> = 6..8;
+    pub const STRIPES: Range<usize> = 8..12;
+    pub const MOVES: Range<usize> = 12..16;
+}
+
+pub fn field(bytes: &[u8], at: Range<usize>) -> u64 {
+    let from_the_last = bytes[at].iter().rev();
+    from_the_last.fold(0, |value, &byte| value << 8 | u64::from(byte))
+}
+
+/// What does not fit the field is lost.
+pub fn set_field(bytes: &mut [u8], at: Range<usize>, value: u64) {
+    let value = &value.to_le_bytes()[..at.len()];
+    bytes[at].copy_from_slice(value);
+}
 
 #[derive(Clone, Copy, Debug, PartialEq, Eq)]
 pub enum Health {
     Whole,
     Out(u64),
     Lost,
+}
+
+impl Health {
+    /// Its number, and the disk that is out, or 0.
+    pub fn numbers(self) -> (u64, u64) {
+        match self {
+            Health::Whole => (0, 0),
+            Health::Out(disk) => (1, disk),
+            Health::Lost => (2, 0),
+        }
+    }
 }
 
 #[derive(Clone, Copy, Debug, PartialEq, Eq)]
@@ -47,35 +89,37 @@ impl Record {
         }
     }
 
-    pub fn bytes(&self) -> [u8; 16] {
-        let (health, out) = match self.health {
-            Health::Whole => (0, 0),
-            Health::Out(disk) => (1, disk as u8),
-            Health::Lost => (2, 0),
-        };
-        let [b0, b1, ..] = self.block_len.to_le_bytes();
-        let [s0, s1, s2, s3, ..] = self.stripes.to_le_bytes();
-        let [t0, t1, t2, t3, ..] = self.moves.to_le_bytes();
-        let (n, m) = (self.n as u8, self.m as u8);
-        [
-            n, m, health, out, b0, b1, 0, 0, s0, s1, s2, s3, t0, t1, t2, t3,
-        ]
+    pub fn bytes(&self) -> [u8; RECORD_LEN] {
+        let (health, out) = self.health.numbers();
+        let mut bytes = [0; RECORD_LEN];
+        for (at, value) in [
+            (at::N, self.n),
+            (at::M, self.m),
+            (at::HEALTH, health),
+            (at::OUT, out),
+            (at::BLOCK_LEN, self.block_len),
+            (at::STRIPES, self.stripes),
+            (at::MOVES, self.moves),
+        ] {
+            set_field(&mut bytes, at, value);
+        }
+        bytes
     }
 
     /// The fields as the bytes have them, good or not; a health above 2 is read as lost.
-    pub fn of(bytes: [u8; 16]) -> Record {
-        let word = |at: usize| u32::from_le_bytes(bytes[at..at + 4].try_into().unwrap()) as u64;
+    pub fn of(bytes: [u8; RECORD_LEN]) -> Record {
+        let field = |at| field(&bytes, at);
         Record {
-            n: bytes[0] as u64,
-            m: bytes[1] as u64,
-            health: match bytes[2] {
+            n: field(at::N),
+            m: field(at::M),
+            health: match field(at::HEALTH) {
                 0 => Health::Whole,
-                1 => Health::Out(bytes[3] as u64),
+                1 => Health::Out(field(at::OUT)),
                 _ => Health::Lost,
             },
-            block_len: word(4) & 0xffff,
-            stripes: word(8),
-            moves: word(12),
+            block_len: field(at::BLOCK_LEN),
+            stripes: field(at::STRIPES),
+            moves: field(at::MOVES),
         }
     }
 
@@ -106,9 +150,11 @@ impl Record {
 }
 
 /// "A record is good exactly if ..", read off its bytes.
-pub fn good(bytes: [u8; 16]) -> bool {
-    let [n, m, health, out, ..] = bytes.map(u64::from);
+pub fn good(bytes: [u8; RECORD_LEN]) -> bool {
+    let [health, out, zero] = [at::HEALTH, at::OUT, at::ZERO].map(|at| field(&bytes, at));
     let Record {
+        n,
+        m,
         block_len,
         stripes,
         moves,
@@ -118,7 +164,7 @@ pub fn good(bytes: [u8; 16]) -> bool {
         && m <= 16
         && health <= 2
         && (1..=4096).contains(&block_len)
-        && bytes[6..8] == [0, 0]
+        && zero == 0
         && (1..=1_048_576).contains(&stripes);
     let out_good = if health == 1 { out < n + m } else { out == 0 };
     limits

@@ -2,8 +2,9 @@
 //! that proves it, at the top level of a file of proofs/. So no premise can hide in the term's type.
 
 use crate::definitions::{lines, of_proof_language, Kind};
+use std::collections::BTreeSet;
 
-/// | `Demand1` | `array/specs/Theorem.antt` | `demand1` | `array/proofs/Theorem.antt` | fingerprint | what it says |
+/// | `Demand1` | `calls/specs/Theorem.antt` | `demand1` | `calls/proofs/Theorem.antt` | fingerprint | what it says |
 #[derive(Clone, Debug, PartialEq, Eq)]
 pub struct Row {
     pub statement: String,
@@ -88,22 +89,26 @@ fn single_spaced(text: &str) -> String {
 
 // ---- what a statement is made of
 
-/// A definition of a file of specs/, with its text.
-pub struct Item {
-    /// The file that has it, below crates/.
-    pub file: String,
-    pub name: String,
-    pub text: String,
+/// A file of specs/: what it defines, and what it takes from others.
+pub struct Specs {
+    /// Below crates/.
+    path: String,
+    /// Statements, predicates, records, data types and functions: each name with its text.
+    items: Vec<(String, String)>,
+    uses: Vec<Use>,
 }
 
-impl Item {
-    fn of(&self) -> &str {
-        self.file.split('/').next().unwrap()
+impl Specs {
+    pub fn of(path: &str, text: &str) -> Specs {
+        Specs {
+            path: path.to_string(),
+            items: items(text),
+            uses: uses(text),
+        }
     }
 }
 
-/// What a file of specs/ defines: statements, predicates, records, data types and functions.
-pub fn items(file: &str, specs: &str) -> Vec<Item> {
+fn items(specs: &str) -> Vec<(String, String)> {
     let starts = ["abbrev ", "unfoldable ", "pub ", "use "];
     let mut all: Vec<Vec<&str>> = Vec::new();
     for line in lines(specs) {
@@ -117,36 +122,37 @@ pub fn items(file: &str, specs: &str) -> Vec<Item> {
         .filter(|item| !item[0].starts_with("use ") && !item[0].starts_with("pub mod "))
         .filter_map(|item| {
             let name = item[0].split(' ').find(|word| !modifier(word))?;
-            Some(Item {
-                file: file.to_string(),
-                name: name.to_string(),
-                text: single_spaced(&item.join(" ")),
-            })
+            Some((name.to_string(), single_spaced(&item.join(" "))))
         })
         .collect()
 }
 
-/// The fingerprint of a statement: of its text and that of every definition that it reaches, in its own crate, or, where that has none
-/// of the name, in another one. A comment or a line's break is no part of it.
-pub fn fingerprint(of: &str, statement: &str, all: &[Item]) -> String {
+/// The fingerprint of a statement of this file: of its text and that of every definition that it reaches. A name is that of its own
+/// file, or of the one that the file has it from. A comment, a line's break, and the file that has a definition are no part of it.
+pub fn fingerprint(path: &str, statement: &str, all: &[Specs]) -> String {
     let is_name = |c: char| c.is_alphanumeric() || "_-′".contains(c);
-    let mut reached: Vec<&Item> = Vec::new();
-    let mut left = vec![statement.to_string()];
-    while let Some(name) = left.pop() {
-        let own = all.iter().any(|item| item.of() == of && item.name == name);
-        for item in all.iter().filter(|item| item.name == name) {
-            let is_new = !reached.iter().any(|r| std::ptr::eq(*r, item));
-            if is_new && (item.of() == of || !own) {
-                let words = item.text.split(|c: char| !is_name(c));
-                left.extend(words.map(str::to_string));
-                reached.push(item);
+    let mut reached = BTreeSet::new();
+    let mut left: Vec<(&Specs, &str)> = Vec::new();
+    left.extend(
+        all.iter()
+            .filter(|s| s.path == path)
+            .map(|s| (s, statement)),
+    );
+    while let Some((specs, name)) = left.pop() {
+        for (_, text) in specs.items.iter().filter(|(item, _)| item == name) {
+            if reached.insert((text, &specs.path)) {
+                let words = text.split(|c: char| !is_name(c));
+                left.extend(words.map(|word| (specs, word)));
             }
         }
+        for u in specs.uses.iter().filter(|u| u.name == name) {
+            let from = |s: &&Specs| modules(&s.path).contains(&u.module);
+            left.extend(all.iter().filter(from).map(|s| (s, u.original.as_str())));
+        }
     }
-    reached.sort_by_key(|item| (&item.file, &item.name, &item.text));
     let text: String = reached
         .iter()
-        .map(|item| format!("{}\n", item.text))
+        .map(|(text, _)| format!("{text}\n"))
         .collect();
     format!("{:016x}", fnv(text.as_bytes()))
 }
@@ -156,6 +162,28 @@ fn fnv(bytes: &[u8]) -> u64 {
     bytes.iter().fold(0xcbf2_9ce4_8422_2325, |hash, &byte| {
         (hash ^ u64::from(byte)).wrapping_mul(0x0100_0000_01b3)
     })
+}
+
+/// Why a file of specs/ or proofs/ is no part of its crate, if it is not: it has to be declared, and each folder that it is in. What is
+/// in a folder is declared in the file of the folder's name beside it, what is in none in Lib.antt.
+pub fn undeclared(path: &str, source: impl Fn(&str) -> String) -> Option<String> {
+    let mut path = path.trim_end_matches(".antt");
+    loop {
+        let (folder, name) = path.rsplit_once('/').expect("a file of a crate");
+        let is_part = folder.split('/').count() == 2;
+        let by = match is_part {
+            true => format!("{folder}/Lib.antt"),
+            false => format!("{folder}.antt"),
+        };
+        let declaration = format!("pub mod {name}");
+        if !lines(&source(&by)).any(|line| line == declaration) {
+            return Some(format!("{by} does not have {name}"));
+        }
+        if is_part {
+            return None;
+        }
+        path = folder;
+    }
 }
 
 /// Why the texts do not bear a row out, if they do not.
@@ -222,6 +250,10 @@ pub fn uses(text: &str) -> Vec<Use> {
         let Some((module, rest)) = code[at + 4..].split_once(".{").filter(|_| is_start) else {
             continue;
         };
+        // `use Module as name`, with another one behind
+        if module.contains(char::is_whitespace) {
+            continue;
+        }
         let (names, _) = rest.split_once('}').expect("the end of the names");
         for item in names.split(',') {
             let words: Vec<&str> = item.split_whitespace().collect();

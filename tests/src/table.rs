@@ -1,13 +1,16 @@
 //! Document 01's table of refusals, row by row.
 
 use crate::pbm::Call::{self, *};
-use crate::record::{Health, Record};
+use crate::record::{Health, Record, RECORD_LEN};
+
+/// Its highest number.
+pub const LAST: u8 = 10;
 
 /// What the table reads of the slices that are lent; the length of one that a call does not take is not looked at.
 #[derive(Clone, Copy, Debug)]
 pub struct Lent {
     pub record_len: usize,
-    /// whether the record's bytes, if 16, are good
+    /// whether the record's bytes, if they have its length, are good
     pub good: bool,
     pub images_len: usize,
     pub block_len: usize,
@@ -33,8 +36,8 @@ pub fn rows(name: &str) -> &'static [u8] {
 pub fn holds(row: u8, record: &Record, call: Call, lent: &Lent) -> bool {
     let is_out = matches!(record.health, Health::Out(_));
     match (row, call) {
-        (1, Format { .. }) => lent.record_len != 16,
-        (1, _) => lent.record_len != 16 || !lent.good,
+        (1, Format { .. }) => lent.record_len != RECORD_LEN,
+        (1, _) => lent.record_len != RECORD_LEN || !lent.good,
         (2, Format { .. } | Status | Locate { .. } | Owner { .. }) => false,
         (2, _) => record.health == Health::Lost,
         (3, Grow { .. } | Advance { .. }) => is_out,
@@ -83,7 +86,7 @@ pub fn holds(row: u8, record: &Record, call: Call, lent: &Lent) -> bool {
 
 /// The lowest number whose condition holds, or 0.
 pub fn refusal(record: &Record, call: Call, lent: &Lent) -> u8 {
-    (1..=10)
+    (1..=LAST)
         .find(|&row| holds(row, record, call, lent))
         .unwrap_or(0)
 }

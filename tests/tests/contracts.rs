@@ -1,13 +1,14 @@
 //! Every function that another module can call says what it answers and what it leaves of everything that it is lent to write;
-//! entry points require nothing: they refuse; the clauses of those that another crate can call have names; and the symbols mean what
-//! the library says.
+//! entry points require nothing: they refuse; the clauses of their crates have names; the symbols mean what the library says; and no
+//! line is too long to be read.
 
 use std::fs;
-use std::path::{Path, PathBuf};
+use std::path::PathBuf;
 use yuzkamide_tests::contracts::{
     equations, functions, handed_on, structs, Function, Structs, Visibility, RECORDS,
 };
 use yuzkamide_tests::definitions::{of_proof_language, Kind};
+use yuzkamide_tests::files::texts;
 use yuzkamide_tests::pbm::NAMES;
 use yuzkamide_tests::program::target;
 use yuzkamide_tests::statements::uses;
@@ -24,7 +25,8 @@ const LIMITED: &[(&str, &str)] = &[("layout", "count_below")];
 struct Found {
     function: Function,
     in_crate: String,
-    file: PathBuf,
+    /// Below crates/.
+    file: String,
     /// Another crate can call it.
     exported: bool,
 }
@@ -44,7 +46,7 @@ impl Found {
     }
 
     fn place(&self) -> String {
-        format!("{} in {}", self.function.name, self.file.display())
+        format!("{} in {}", self.function.name, self.file)
     }
 }
 
@@ -52,46 +54,33 @@ fn crates() -> PathBuf {
     target().join("../crates")
 }
 
-/// The files of a folder with this ending; there may be no such folder.
-fn sources(folder: &Path, ending: &str, found: &mut Vec<PathBuf>) {
-    for entry in fs::read_dir(folder).into_iter().flatten() {
-        let path = entry.unwrap().path();
-        if path.is_dir() {
-            sources(&path, ending, found);
-        } else if path.extension().is_some_and(|e| e == ending) {
-            found.push(path);
-        }
-    }
-}
-
 /// The functions that are `pub` in some way, and all structs.
 fn public_functions() -> (Vec<Found>, Structs) {
+    let (mut all, structs) = all_functions();
+    all.retain(|f| f.function.visibility != Visibility::Private);
+    (all, structs)
+}
+
+fn all_functions() -> (Vec<Found>, Structs) {
     let mut all = Vec::new();
     let mut all_structs = Structs::new();
-    for name in fs::read_dir(crates()).unwrap() {
-        let folder = name.unwrap().path();
-        let mut files = Vec::new();
-        sources(&folder.join("src"), "rt", &mut files);
-        let lib = fs::read_to_string(folder.join("src/lib.rt")).unwrap_or_default();
-        let handed_on = handed_on(&lib);
-        for file in files {
-            let text = fs::read_to_string(&file).unwrap();
-            for (name, fields) in structs(&text) {
-                let other = all_structs.insert(name.clone(), fields);
-                assert!(other.is_none(), "two structs have the name {name}");
-            }
-            let in_lib = file.ends_with("lib.rt");
-            for function in functions(&text) {
-                if function.visibility != Visibility::Private {
-                    all.push(Found {
-                        exported: function.visibility == Visibility::Public
-                            && (in_lib || handed_on.contains(&function.name)),
-                        in_crate: folder.file_name().unwrap().to_str().unwrap().to_string(),
-                        file: file.clone(),
-                        function,
-                    });
-                }
-            }
+    for (file, text) in texts(&crates(), "rt") {
+        let in_crate = file.split('/').next().unwrap();
+        let lib = crates().join(in_crate).join("src/lib.rt");
+        let handed_on = handed_on(&fs::read_to_string(lib).unwrap_or_default());
+        for (name, fields) in structs(&text) {
+            let other = all_structs.insert(name.clone(), fields);
+            assert!(other.is_none(), "two structs have the name {name}");
+        }
+        let in_lib = file.ends_with("/lib.rt");
+        for function in functions(&text) {
+            all.push(Found {
+                exported: function.visibility == Visibility::Public
+                    && (in_lib || handed_on.contains(&function.name)),
+                in_crate: in_crate.to_string(),
+                file: file.clone(),
+                function,
+            });
         }
     }
     (all, all_structs)
@@ -169,16 +158,16 @@ fn entry_points_require_nothing() {
     }
 }
 
+/// Those of private functions too.
 #[test]
-fn clauses_of_exported_functions_have_names() {
-    let (all, _) = public_functions();
-    for f in all.iter().filter(|f| f.exported && f.in_entry_crate()) {
-        assert!(
-            f.function.names_all(),
-            "{} has a clause without a name",
-            f.place()
-        );
-    }
+fn clauses_have_names() {
+    let (all, _) = all_functions();
+    let here: Vec<&Found> = all.iter().filter(|f| f.in_entry_crate()).collect();
+    let clauses: usize = here.iter().map(|f| f.function.ensures.len()).sum();
+    assert!(clauses > 100, "the search finds the clauses: {clauses}");
+    let nameless = here.iter().filter(|f| !f.function.names_all());
+    let nameless: Vec<String> = nameless.map(|f| f.place()).collect();
+    assert!(nameless.is_empty(), "a clause has no name: {nameless:#?}");
 }
 
 /// The records that stand for equations hold them.
@@ -385,6 +374,18 @@ pub extern \"C\" fn pbm_f(
     assert!(f.says_answer(&Structs::new()));
 }
 
+#[test]
+fn a_clause_without_a_name() {
+    let named =
+        |clauses: &str| only(&format!("fn f() -> u8\n    {clauses}\n{{\n    0\n}}\n")).names_all();
+    assert!(named(
+        "requires { ⌜ x ≡ 1 ⌝ }\n    ensures answer { λ r. ⌜ r ≡ 0 ⌝ }"
+    ));
+    assert!(!named(
+        "ensures answer { λ r. ⌜ r ≡ 0 ⌝ }\n    ensures { λ r. ⌜ r ≡ 0 ⌝ }"
+    ));
+}
+
 // ---- symbols
 
 /// Words that mean what the prover's library says, beside every operator.
@@ -433,24 +434,24 @@ fn strange_symbols(text: &str) -> Vec<String> {
     used.chain(defined).collect()
 }
 
+/// The files of src/ and specs/, by their paths below crates/.
+fn code_and_specs() -> Vec<(String, String)> {
+    let mut all = [texts(&crates(), "rt"), texts(&crates(), "antt")].concat();
+    all.retain(|(file, _)| ["src", "specs"].contains(&file.split('/').nth(1).unwrap()));
+    all
+}
+
 /// "A contract's symbols mean what the language's library says": in contracts, and in the definitions that they cite.
 #[test]
 fn symbols_mean_what_the_library_says() {
-    let mut files = Vec::new();
-    for entry in fs::read_dir(crates()).unwrap() {
-        let folder = entry.unwrap().path();
-        sources(&folder.join("src"), "rt", &mut files);
-        sources(&folder.join("specs"), "antt", &mut files);
-    }
     let mut seen = 0;
-    for file in files {
-        let text = fs::read_to_string(&file).unwrap();
+    for (file, text) in code_and_specs() {
         seen += uses(&text).iter().filter(|u| is_symbol(&u.name)).count();
-        let strange = match file.extension().is_some_and(|e| e == "rt") {
+        let strange = match file.ends_with(".rt") {
             true => strange_symbols(&ghost_uses(&text)),
             false => strange_symbols(&text),
         };
-        assert!(strange.is_empty(), "{}: {strange:?}", file.display());
+        assert!(strange.is_empty(), "{file}: {strange:?}");
     }
     assert!(seen > 200, "the search finds the symbols: {seen}");
 }
@@ -464,12 +465,12 @@ fn ghost_uses(text: &str) -> String {
 fn symbols_of_ones_own() {
     for (text, says) in [
         (
-            "use Rattle.array.specs.Call.{_≡_}\n",
-            "_≡_ of Rattle.array.specs.Call",
+            "use Rattle.calls.specs.Call.{_≡_}\n",
+            "_≡_ of Rattle.calls.specs.Call",
         ),
         (
-            "ghost use Rattle.array.specs.Call.{length};\n",
-            "length of Rattle.array.specs.Call",
+            "ghost use Rattle.calls.specs.Call.{length};\n",
+            "length of Rattle.calls.specs.Call",
         ),
         (
             "use mathlib.Core.Path.{sym as _≡_}\n",
@@ -483,6 +484,46 @@ fn symbols_of_ones_own() {
     ] {
         assert_eq!(strange_symbols(text), [says], "{text}");
     }
-    let right = "use mathlib.Core.Path.{_≡_, sym}\nuse lib.ListN.{length}\nuse Rattle.array.specs.Call.{Call}\n";
+    let right = "use mathlib.Core.Path.{_≡_, sym}\nuse lib.ListN.{length}\nuse Rattle.calls.specs.Call.{Call}\n";
     assert_eq!(strange_symbols(right), [""; 0]);
+}
+
+// ---- lines
+
+/// In characters.
+const LONGEST_LINE: usize = 140;
+
+/// The numbers of the lines that are longer.
+fn long_lines(text: &str) -> Vec<usize> {
+    let is_long = |line: &str| line.chars().count() > LONGEST_LINE;
+    let lines = (1..).zip(text.lines());
+    lines
+        .filter(|(_, line)| is_long(line))
+        .map(|(at, _)| at)
+        .collect()
+}
+
+#[test]
+fn lines_are_not_too_long() {
+    let files = code_and_specs();
+    assert!(
+        files.len() > 80,
+        "the search finds the files: {}",
+        files.len()
+    );
+    let long: Vec<String> = files
+        .iter()
+        .flat_map(|(file, text)| {
+            let lines = long_lines(text).into_iter();
+            lines.map(move |line| format!("{file}:{line}"))
+        })
+        .collect();
+    assert!(long.is_empty(), "longer than {LONGEST_LINE}: {long:#?}");
+}
+
+#[test]
+fn a_line_that_is_too_long() {
+    let line = |length| "ℕ".repeat(length);
+    let text = format!("{}\n{}\n\n{}", line(140), line(141), line(200));
+    assert_eq!(long_lines(&text), [2, 4]);
 }

@@ -9,7 +9,7 @@ use yuzkamide_tests::layout::{Layout, Owner};
 use yuzkamide_tests::moves::moves;
 use yuzkamide_tests::pbm::{Answer, Bytes, Call};
 use yuzkamide_tests::program::target;
-use yuzkamide_tests::record::{Record, BENCH};
+use yuzkamide_tests::record::{Record, BENCH, RECORD_LEN};
 
 fn root() -> PathBuf {
     target().join("..")
@@ -207,7 +207,7 @@ fn hex(bytes: &[u8]) -> String {
 #[test]
 fn the_drawer_of_the_layout() {
     let mut loan = Bytes {
-        record: vec![0; 16],
+        record: vec![0; RECORD_LEN],
         images: vec![0; 3 * 15 * 4],
         block: Vec::new(),
     };

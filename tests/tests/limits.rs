@@ -76,10 +76,7 @@ fn loses(array: &mut Array, disk: u64) {
 #[test]
 fn the_most_stripes() {
     let mut array = Array::format(3, 1, 1_048_576);
-    assert_eq!(
-        array.0.record,
-        [3, 0, 0, 0, 1, 0, 0, 0, 0, 0, 16, 0, 0, 0, 0, 0]
-    );
+    assert_eq!(array.0.record, Record::new(3, 1, 1_048_576).bytes());
     write_all(&mut array, 0..2_097_152);
     read_all(&mut array);
     assert_eq!(array.locate(2_097_151), Answer::done(&[1_048_575, 1]));

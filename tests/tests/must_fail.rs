@@ -13,7 +13,7 @@ use yuzkamide_tests::program::target;
 /// Computed cases, by their file and declaration, and the edits of definitions that they must be among what refuses.
 const COMPUTED: &[(&str, &str, &[&str])] = &[
     (
-        "/proofs/Paper.antt:",
+        "/proofs/Cases/Paper.antt:",
         "`paper`",
         &[
             "layout/one_from_each_disk",
@@ -27,7 +27,7 @@ const COMPUTED: &[(&str, &str, &[&str])] = &[
         &["zone_moves/thousands_dropped", "zone_moves/zone_of_three"],
     ),
     (
-        "/proofs/Drawers.antt:",
+        "/proofs/Cases/Drawers.antt:",
         "`drawers`",
         &[
             "calls/parity_on_old_disk",
@@ -40,7 +40,7 @@ const COMPUTED: &[(&str, &str, &[&str])] = &[
         ],
     ),
     (
-        "/proofs/Sample.antt:",
+        "/proofs/Cases/Sample.antt:",
         "`sample`",
         &["history/lengthened_late"],
     ),
@@ -374,7 +374,7 @@ fn reads_a_log() {
     let log = "\
 /r/proofs/Laws/Lines.antt:94:1: `lines-append` is not admitted: unsolved
   to decide it, write: a term
-/r/proofs/Paper.antt:13:20: error: `paper`: as printed, the two types differ only where one has `1`
+/r/proofs/Cases/Paper.antt:13:20: error: `paper`: as printed, the two types differ only where one has `1`
   expected type `a: b`
 /r/proofs/Laws/Lag.antt:1:2: note: `simp` made 1 round(s): none
 fn layout::moves::move_of: proved
@@ -385,7 +385,7 @@ logic=not-proved";
             "`lines-append` is not admitted: unsolved",
         ),
         (
-            "/r/proofs/Paper.antt:13:20",
+            "/r/proofs/Cases/Paper.antt:13:20",
             "`paper`: as printed, the two types differ only where one has `1`",
         ),
     ];

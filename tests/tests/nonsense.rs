@@ -5,7 +5,9 @@ use yuzkamide_tests::bytewise::Bytewise;
 use yuzkamide_tests::memory::{Guarded, Memory, Side};
 use yuzkamide_tests::pbm::{Answer, Bytes, Call, Loan, NAMES};
 use yuzkamide_tests::random::Random;
-use yuzkamide_tests::record::{good, Health, Record, BENCH, GROWING};
+use yuzkamide_tests::record::{
+    at, field, good, set_field, Health, Record, BENCH, GROWING, RECORD_LEN,
+};
 use yuzkamide_tests::table::{refusal, Lent};
 
 /// Good records of all kinds, none larger than 40 KB.
@@ -45,7 +47,7 @@ fn records() -> Vec<Record> {
 }
 
 /// A call of each kind, right for the record if any is.
-fn calls(record: &Record) -> [Call; 10] {
+fn calls(record: &Record) -> [Call; NAMES.len()] {
     let out = match record.health {
         Health::Out(disk) => disk,
         _ => 0,
@@ -93,14 +95,14 @@ fn bytes(call: Call, record: &Record) -> Bytes {
 
 /// What the table says to the call on these bytes.
 fn wanted(call: Call, lent: &Bytes) -> u8 {
-    let sixteen: [u8; 16] = lent.record[..].try_into().unwrap_or_default();
+    let record: [u8; RECORD_LEN] = lent.record[..].try_into().unwrap_or_default();
     let lengths = Lent {
         record_len: lent.record.len(),
-        good: good(sixteen),
+        good: good(record),
         images_len: lent.images.len(),
         block_len: lent.block.len(),
     };
-    refusal(&Record::of(sixteen), call, &lengths)
+    refusal(&Record::of(record), call, &lengths)
 }
 
 /// Memory on either side of a protected page, to make calls in, and the model.
@@ -108,7 +110,7 @@ struct Desk {
     loans: [Loan<Guarded>; 2],
     model: Bytewise,
     /// How many calls of each kind were accepted, all of them compared.
-    accepted: [u64; 10],
+    accepted: [u64; NAMES.len()],
 }
 
 impl Desk {
@@ -116,7 +118,7 @@ impl Desk {
         Desk {
             loans: [Loan::guarded(Side::Start), Loan::guarded(Side::End)],
             model: Bytewise::default(),
-            accepted: [0; 10],
+            accepted: [0; NAMES.len()],
         }
     }
 
@@ -144,7 +146,7 @@ impl Desk {
     }
 
     /// Each call was accepted so often, in the order of `NAMES`.
-    fn assert_accepted(&self, least: [u64; 10]) {
+    fn assert_accepted(&self, least: [u64; NAMES.len()]) {
         println!("accepted, in the order {NAMES:?}: {:?}", self.accepted);
         for ((name, count), least) in NAMES.iter().zip(self.accepted).zip(least) {
             assert!(count >= least, "{name} was accepted {count} times");
@@ -157,7 +159,7 @@ fn good_records_with_one_bit_off() {
     let mut desk = Desk::new();
     let (mut still_good, mut bad) = (0, 0);
     for record in records() {
-        for bit in 0..128 {
+        for bit in 0..8 * RECORD_LEN {
             for call in calls(&record) {
                 let mut lent = bytes(call, &record);
                 lent.record[bit / 8] ^= 1 << (bit % 8);
@@ -170,14 +172,15 @@ fn good_records_with_one_bit_off() {
     }
     println!("{still_good} calls on good records, {bad} on others");
     assert!(still_good > 1000 && bad > 5000);
-    desk.assert_accepted([1280, 53, 53, 1, 19, 206, 22, 260, 244, 248]);
+    let formats = (records().len() * 8 * RECORD_LEN) as u64; // which is lent any bytes
+    desk.assert_accepted([formats, 53, 53, 1, 19, 206, 22, 260, 244, 248]);
 }
 
 #[test]
 fn every_value_of_every_byte_of_a_record() {
     let mut desk = Desk::new();
     for record in [BENCH, GROWING] {
-        for at in 0..16 {
+        for at in 0..RECORD_LEN {
             for value in 0..=255 {
                 for call in [Call::Read { block: 4 }, Call::Out { disk: 1 }, Call::Status] {
                     let mut lent = bytes(call, &record);
@@ -216,7 +219,7 @@ fn random_records() {
     desk.assert_accepted([2000, 300, 300, 0, 100, 500, 10, 1000, 1000, 1000]);
 }
 
-fn random_record(random: &mut Random) -> [u8; 16] {
+fn random_record(random: &mut Random) -> [u8; RECORD_LEN] {
     let n = 2 + random.below(5);
     let m = random.below(4);
     let group = n * (n + m);
@@ -231,12 +234,12 @@ fn random_record(random: &mut Random) -> [u8; 16] {
         moves: random.below(total + 2),
     }
     .bytes();
-    bytes[2] = random.below(13) as u8 / 4;
-    if bytes[2] == 1 || random.one_in(16) {
-        bytes[3] = random.below(n + m + 1) as u8;
+    set_field(&mut bytes, at::HEALTH, random.below(13) / 4);
+    if field(&bytes, at::HEALTH) == 1 || random.one_in(16) {
+        set_field(&mut bytes, at::OUT, random.below(n + m + 1));
     }
     if random.one_in(8) {
-        bytes[random.below(16) as usize] = random.word() as u8;
+        bytes[random.below(RECORD_LEN as u64) as usize] = random.word() as u8;
     }
     bytes
 }
@@ -260,7 +263,7 @@ fn every_length_off() {
     for record in records() {
         for call in calls(&record) {
             let right = bytes(call, &record);
-            for record_len in [0, 1, 15, 16, 17, 32, 4096] {
+            for record_len in lengths(RECORD_LEN).into_iter().chain([4096]) {
                 for images_len in lengths(right.images.len()) {
                     for block_len in lengths(right.block.len()) {
                         let mut lent = right.clone();
@@ -370,7 +373,7 @@ fn random_array(random: &mut Random) -> Record {
 }
 
 /// A call of each kind with numbers in their limits, so that health and growth alone can refuse it.
-fn random_calls(random: &mut Random, record: &Record) -> [Call; 10] {
+fn random_calls(random: &mut Random, record: &Record) -> [Call; NAMES.len()] {
     let mut calls = calls(record);
     for call in &mut calls {
         match call {
@@ -458,7 +461,7 @@ fn huge_slices() {
             let right = bytes(call, &record);
             let number = |lent: Lent| refusal(&record, call, &lent);
             let lengths = Lent {
-                record_len: 16,
+                record_len: RECORD_LEN,
                 good: true,
                 images_len: right.images.len(),
                 block_len: right.block.len(),

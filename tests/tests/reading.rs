@@ -1,16 +1,16 @@
 //! docs/READING.md, docs/TRUST.md and docs/DECISIONS.md name only what is there, and where it is; and what READING.md says is
 //! proved is a closed statement with a term.
 
-use std::collections::BTreeSet;
 use std::fs;
 use std::path::PathBuf;
 use yuzkamide_tests::definitions::{
-    definitions, of_header, of_proof_language, of_rattle, Definition, Found, Kind,
+    definitions, lines, of_header, of_proof_language, of_rattle, Definition, Found, Kind,
 };
+use yuzkamide_tests::files::texts;
 use yuzkamide_tests::mentions::{blocks, faults, Sources};
 use yuzkamide_tests::program::target;
 use yuzkamide_tests::statements::{
-    closed, definition, fault, fingerprint, items, quoted, rows, uses, Item, Row,
+    closed, definition, fault, fingerprint, quoted, rows, undeclared, uses, Row, Specs,
 };
 
 fn root() -> PathBuf {
@@ -75,22 +75,32 @@ const STATEMENTS: &[&str] = &[
     "Sample",
 ];
 
-/// Closed types of the same files that state nothing.
+/// Closed types that state nothing, with their crates.
 const DATA: &[(&str, &str)] = &[
-    ("history/specs/Sample.antt", "Step"), // a call of the sample's script, with what it is lent
+    ("layout", "Layout"),
+    ("calls", "Event"),
+    ("calls", "Fed"),
+    ("calls", "Row"),
+    ("calls", "Effect"),
+    ("history", "Flat"),
+    ("history", "Step"), // a call of the sample's script, with what it is lent
 ];
 
-/// Why a table is not what is proved: rows that do not hold, and statements without a row.
-fn table_faults(table: &[Row], source: impl Fn(&str) -> String) -> Vec<String> {
-    let has = |name: &str, file: &str| table.iter().any(|r| r.statement == name && r.specs == file);
+/// Why a table is not what is proved: rows that do not hold, and statements of the files of specs/ without a row.
+fn table_faults(
+    table: &[Row],
+    specs: &[(String, String)],
+    source: impl Fn(&str) -> String,
+) -> Vec<String> {
     let mut all: Vec<String> = table
         .iter()
         .filter_map(|row| fault(row, &source(&row.specs), &source(&row.proofs)))
         .collect();
-    let files: BTreeSet<&str> = table.iter().map(|row| row.specs.as_str()).collect();
-    for file in files {
-        for name in closed(&source(file)) {
-            if !has(&name, file) && !DATA.contains(&(file, name.as_str())) {
+    for (file, text) in specs {
+        let of = file.split('/').next().unwrap();
+        for name in closed(text) {
+            let has = |row: &Row| row.statement == name && row.specs == *file;
+            if !table.iter().any(has) && !DATA.contains(&(of, name.as_str())) {
                 all.push(format!("{name} of {file} is not in the table"));
             }
         }
@@ -101,21 +111,14 @@ fn table_faults(table: &[Row], source: impl Fn(&str) -> String) -> Vec<String> {
 #[test]
 fn what_is_proved() {
     let table = rows(&document("READING.md"));
-    let mut faults = table_faults(&table, source);
+    let mut faults = table_faults(&table, &specs(), source);
     for name in STATEMENTS {
         if !table.iter().any(|row| row.statement == *name) {
             faults.push(format!("{name} has no row"));
         }
     }
-    // and the files belong to their crates
-    for file in table.iter().flat_map(|row| [&row.specs, &row.proofs]) {
-        let (folder, name) = file.rsplit_once('/').unwrap();
-        let declaration = format!("pub mod {}", name.trim_end_matches(".antt"));
-        let lib = source(&format!("{folder}/Lib.antt"));
-        if !lib.lines().any(|line| line == declaration) {
-            faults.push(format!("{folder}/Lib.antt does not have {name}"));
-        }
-    }
+    let files = table.iter().flat_map(|row| [&row.specs, &row.proofs]);
+    faults.extend(files.filter_map(|file| undeclared(file, source)));
     assert!(faults.is_empty(), "{faults:#?}");
 }
 
@@ -165,32 +168,22 @@ fn a_weakened_statement_is_not_the_quoted_one() {
 
 /// Every file of specs/, by its path below crates/, with its text.
 fn specs() -> Vec<(String, String)> {
-    let mut all = Vec::new();
-    for entry in fs::read_dir(root().join("crates")).unwrap() {
-        let of = entry.unwrap().file_name().into_string().unwrap();
-        let folder = fs::read_dir(root().join("crates").join(&of).join("specs"));
-        for file in folder.into_iter().flatten() {
-            let name = file.unwrap().file_name().into_string().unwrap();
-            let path = format!("{of}/specs/{name}");
-            let text = source(&path);
-            all.push((path, text));
-        }
-    }
+    let mut all = texts(&root().join("crates"), "antt");
+    all.retain(|(path, _)| path.split('/').nth(1) == Some("specs"));
     all
 }
 
 /// The table has a fingerprint of what each statement says, down to the last definition: who weakens one has to change the table.
 #[test]
 fn statements_say_what_they_said() {
-    let all: Vec<Item> = specs()
+    let all: Vec<Specs> = specs()
         .iter()
-        .flat_map(|(file, text)| items(file, text))
+        .map(|(path, text)| Specs::of(path, text))
         .collect();
-    assert!(all.len() > 200, "the search finds the definitions");
+    assert!(all.len() > 40, "the search finds the files");
     let mut changed = Vec::new();
     for row in rows(&document("READING.md")) {
-        let of = row.specs.split('/').next().unwrap();
-        let now = fingerprint(of, &row.statement, &all);
+        let now = fingerprint(&row.specs, &row.statement, &all);
         if now != row.fingerprint {
             changed.push(format!(
                 "{} says something else: read it again, then note {now}",
@@ -206,24 +199,61 @@ fn statements_say_what_they_said() {
 fn names_are_not_changed_on_the_way() {
     let mut seen = 0;
     for (file, text) in specs() {
-        for u in uses(&text) {
-            assert_eq!(u.original, u.name, "{file}: {u:?}");
-            seen += 1;
-        }
+        let changed = changed_names(&text);
+        assert!(changed.is_empty(), "{file}: {changed:?}");
+        seen += uses(&text).len();
     }
     assert!(seen > 500, "the search finds the names: {seen}");
 }
 
+/// What a file takes under another name; and files that it takes whole, so that no name is seen to come from there. (What Rattle
+/// code declares is no file of specs/.)
+fn changed_names(text: &str) -> Vec<String> {
+    let changed = uses(text).into_iter().filter(|u| u.original != u.name);
+    let whole = lines(text).filter(|line| line.starts_with("use ") && !line.contains(".{"));
+    let whole = whole.filter(|line| !line.contains(".declared."));
+    changed
+        .map(|u| format!("{u:?}"))
+        .chain(whole.map(str::to_string))
+        .collect()
+}
+
+#[test]
+fn names_that_are_changed() {
+    let right = "use Rattle.layout.specs.Moves.{moveTo,\n    moveFrom}\nuse Rattle.array.specs.declared.Report.the-variants as report\n";
+    assert_eq!(changed_names(right), [""; 0]);
+    for wrong in [
+        "use Rattle.layout.specs.Moves.{moveTo as moveFrom}\n",
+        "use Rattle.layout.specs.Moves as moves\n",
+        "use Rattle.layout.specs.Moves as moves\nuse Rattle.layout.specs.Home.{homeDisk}\n",
+        "use Rattle.layout.specs.Moves\n",
+    ] {
+        assert_eq!(changed_names(wrong).len(), 1, "{wrong}");
+    }
+}
+
 #[test]
 fn a_fingerprint_is_of_all_that_is_reached() {
-    let far = "abbrev pub Far : ℕ → Type 0\nFar k = k ≡ near k\n\nunfoldable pub near : ℕ → ℕ\nnear k = k\n";
-    let of = |specs: &str, far: &str| {
-        let mut all = items("array/specs/Theorem.antt", specs);
-        all.extend(items("layout/specs/Far.antt", far));
-        fingerprint("array", "Demand1", &all)
+    let far = "use Rattle.layout.specs.Cases.Near.{near}
+
+abbrev pub Far : ℕ → Type 0
+Far k = k ≡ near k
+";
+    let near = "unfoldable pub near : ℕ → ℕ\nnear k = k\n";
+    let of = |specs: &str, far: &str, near: &str| {
+        let all = [
+            Specs::of("calls/specs/Theorem.antt", specs),
+            Specs::of("layout/specs/Far.antt", far),
+            Specs::of("layout/specs/Cases/Near.antt", near),
+            // names that are taken from elsewhere
+            Specs::of("calls/specs/Other.antt", "abbrev pub Far : ℕ → Type 0\n"),
+            Specs::of("layout/specs/Other.antt", "abbrev pub Demand1 : Type 0\n"),
+        ];
+        fingerprint("calls/specs/Theorem.antt", "Demand1", &all)
     };
     let specs = edited(SPECS, "Part k = k ≡ k\n", "Part k = Far k\n");
-    let before = of(&specs, far);
+    let specs = format!("use Rattle.layout.specs.Far.{{Far}}\n{specs}");
+    let before = of(&specs, far, near);
     assert_eq!(before.len(), 16);
     // comments and breaks, and what is not reached, are no matter
     let table = edited(&specs, "pub first : Part 1", "pub first : Part 2");
@@ -232,20 +262,26 @@ fn a_fingerprint_is_of_all_that_is_reached() {
         "= (k : ℕ) → Part k\n",
         "=\n    (k : ℕ)\n    → Part k  -- so\n",
     );
-    assert_eq!(of(&table, far), before);
-    assert_eq!(of(&broken, far), before);
-    // the statement itself, a predicate, one of another crate, a function, and a second definition of a name
+    assert_eq!(of(&table, far, near), before);
+    assert_eq!(of(&broken, far, near), before);
+    // nor is the file that has a definition
+    let moved = edited(&specs, "specs.Far.", "specs.Cases.Near.");
+    let both = format!("{}\n{near}", edited(far, "use", "-- use"));
+    assert_eq!(of(&moved, "", &both), before);
+    // the statement itself, a predicate, one of another crate, a function of a folder, and a second definition of a name
     let head = edited(&specs, "(k : ℕ) → Part k\n", "(k : ℕ) → k < 1 → Part k\n");
     let part = edited(&specs, "Part k = Far k\n", "Part k = k < 1 → Far k\n");
-    assert_ne!(of(&head, far), before);
-    assert_ne!(of(&part, far), before);
-    assert_ne!(of(&specs, &edited(far, "Far k = k", "Far k = 0")), before);
-    assert_ne!(
-        of(&specs, &edited(far, "near k = k\n", "near k = 0\n")),
-        before
-    );
-    let twice = format!("{far}\nunfoldable pub near : ℕ → ℕ\nnear k = 0\n");
-    assert_ne!(of(&specs, &twice), before);
+    let zero = edited(near, "near k = k\n", "near k = 0\n");
+    let twice = format!("{near}\n{zero}");
+    for (specs, far, near) in [
+        (&head, far, near),
+        (&part, far, near),
+        (&specs, &edited(far, "Far k = k", "Far k = 0"), near),
+        (&specs, far, &zero),
+        (&specs, far, &twice),
+    ] {
+        assert_ne!(of(specs, far, near), before, "{specs}\n{far}\n{near}");
+    }
 }
 
 /// "proved by `x`": a term of the table.
@@ -285,7 +321,7 @@ pub record Table : Type 0 where
 
 const PROOFS: &str = "-- Assumes nothing.
 use mathlib.Core.Path.{_≡_, refl}
-use Rattle.array.specs.Theorem.{Part,
+use Rattle.calls.specs.Theorem.{Part,
     Demand1, Table}
 
 module _ (k : ℕ) where
@@ -302,20 +338,21 @@ table = record { first = part 1 }
 
 fn sample_rows() -> Vec<Row> {
     rows("# A document\n\n## What is proved\n\n| Statement | File | Term | File | Fingerprint | |\n|---|---|---|---|---|---|
-| `Demand1` | `array/specs/Theorem.antt` | `demand1` | `array/proofs/Theorem.antt` | 0 | what it says |
-| `Table` | `array/specs/Theorem.antt` | `table` | `array/proofs/Theorem.antt` | 0 | a table |
+| `Demand1` | `calls/specs/Theorem.antt` | `demand1` | `calls/proofs/Theorem.antt` | 0 | what it says |
+| `Table` | `calls/specs/Theorem.antt` | `table` | `calls/proofs/Theorem.antt` | 0 | a table |
 
 ## Another section
 
-| `Other` | `array/specs/Theorem.antt` | `other` | `array/proofs/Theorem.antt` | not of the table |
+| `Other` | `calls/specs/Theorem.antt` | `other` | `calls/proofs/Theorem.antt` | not of the table |
 ")
 }
 
 /// The faults of the sample table with these texts.
 fn sample_faults(specs: &str, proofs: &str) -> Vec<String> {
-    table_faults(&sample_rows(), |path| match path {
-        "array/specs/Theorem.antt" => specs.to_string(),
-        "array/proofs/Theorem.antt" => proofs.to_string(),
+    let files = [("calls/specs/Theorem.antt".to_string(), specs.to_string())];
+    table_faults(&sample_rows(), &files, |path| match path {
+        "calls/specs/Theorem.antt" => specs.to_string(),
+        "calls/proofs/Theorem.antt" => proofs.to_string(),
         _ => panic!("no file {path}"),
     })
 }
@@ -367,7 +404,7 @@ fn a_term_of_another_type_proves_nothing() {
     let undefined = edited(PROOFS, "demand1 k = part k\n", "");
     assert_eq!(
         sample_faults(SPECS, &undefined),
-        ["demand1 is not defined in array/proofs/Theorem.antt"]
+        ["demand1 is not defined in calls/proofs/Theorem.antt"]
     );
 }
 
@@ -385,7 +422,7 @@ fn a_statement_with_premises_is_not_closed() {
         let faults = sample_faults(&edited(SPECS, "abbrev pub Demand1 : Type 0\n", to), PROOFS);
         assert_eq!(
             faults,
-            ["Demand1 is no closed type of array/specs/Theorem.antt"],
+            ["Demand1 is no closed type of calls/specs/Theorem.antt"],
             "{to}"
         );
     }
@@ -396,16 +433,16 @@ fn a_statement_with_premises_is_not_closed() {
     );
     assert_eq!(
         sample_faults(&record, PROOFS),
-        ["Table is no closed type of array/specs/Theorem.antt"]
+        ["Table is no closed type of calls/specs/Theorem.antt"]
     );
 }
 
 #[test]
 fn statement_and_term_are_of_one_crate() {
     for (specs, proofs) in [
-        ("array/specs/Theorem.antt", "history/proofs/Theorem.antt"),
-        ("array/specs/Theorem.antt", "array/specs/Theorem.antt"),
-        ("array/proofs/Theorem.antt", "array/proofs/Theorem.antt"),
+        ("calls/specs/Theorem.antt", "history/proofs/Theorem.antt"),
+        ("calls/specs/Theorem.antt", "calls/specs/Theorem.antt"),
+        ("calls/proofs/Theorem.antt", "calls/proofs/Theorem.antt"),
     ] {
         let row = Row {
             specs: specs.to_string(),
@@ -414,6 +451,45 @@ fn statement_and_term_are_of_one_crate() {
         };
         let says = format!("{specs} and {proofs} are not specs and proofs of one crate");
         assert_eq!(fault(&row, SPECS, PROOFS), Some(says));
+    }
+}
+
+/// Files in a folder of specs/ and of proofs/.
+#[test]
+fn a_statement_of_a_folder() {
+    let row = Row {
+        specs: "calls/specs/Cases/Theorem.antt".to_string(),
+        proofs: "calls/proofs/Cases/Theorem.antt".to_string(),
+        ..sample_rows().remove(0)
+    };
+    let proofs = edited(PROOFS, "specs.Theorem.", "specs.Cases.Theorem.");
+    assert_eq!(fault(&row, SPECS, &proofs), None);
+    let says = fault(&row, SPECS, PROOFS).unwrap();
+    assert!(says.contains("does not have Demand1 from"), "{says}");
+
+    let declared = |path: &str| match path {
+        "calls/specs/Lib.antt" => "pub mod Theorem\npub mod Cases\n".to_string(),
+        "calls/specs/Cases.antt" => "-- pub mod Commented\npub mod Drawers\n".to_string(),
+        "calls/proofs/Cases.antt" => "pub mod Drawers\n".to_string(),
+        _ => String::new(),
+    };
+    for (path, says) in [
+        ("calls/specs/Theorem.antt", None),
+        ("calls/specs/Cases/Drawers.antt", None),
+        (
+            "calls/specs/Drawers.antt",
+            Some("calls/specs/Lib.antt does not have Drawers"),
+        ),
+        (
+            "calls/specs/Cases/Commented.antt",
+            Some("calls/specs/Cases.antt does not have Commented"),
+        ),
+        (
+            "calls/proofs/Cases/Drawers.antt",
+            Some("calls/proofs/Lib.antt does not have Cases"),
+        ),
+    ] {
+        assert_eq!(undeclared(path, declared).as_deref(), says);
     }
 }
 
@@ -427,7 +503,7 @@ fn a_statement_without_a_row() {
         let faults = sample_faults(&format!("{SPECS}\n{statement}"), PROOFS);
         assert_eq!(
             faults,
-            ["More of array/specs/Theorem.antt is not in the table"]
+            ["More of calls/specs/Theorem.antt is not in the table"]
         );
     }
     let open = format!("{SPECS}\npub record More (k : ℕ) : Type 0 where\n");
@@ -455,16 +531,16 @@ fn a_statement_of_the_same_name() {
         let faults = sample_faults(SPECS, &again(text));
         assert_eq!(
             faults,
-            ["Demand1 is defined again in array/proofs/Theorem.antt"],
+            ["Demand1 is defined again in calls/proofs/Theorem.antt"],
             "{text}"
         );
     }
-    let used = "use Rattle.array.specs.Theorem.{Part,\n    Demand1, Table}\n";
+    let used = "use Rattle.calls.specs.Theorem.{Part,\n    Demand1, Table}\n";
     for to in [
-        "use Rattle.array.specs.Other.{Demand1}\nuse Rattle.array.specs.Theorem.{Part, Table}\n",
-        "use Rattle.state.specs.Theorem.{Demand1}\nuse Rattle.array.specs.Theorem.{Part, Table}\n",
-        "use Rattle.array.specs.Theorem.{Part, Part as Demand1, Table}\n",
-        "use Rattle.array.specs.Theorem.{Part, Table}\n-- Demand1\n",
+        "use Rattle.calls.specs.Other.{Demand1}\nuse Rattle.calls.specs.Theorem.{Part, Table}\n",
+        "use Rattle.state.specs.Theorem.{Demand1}\nuse Rattle.calls.specs.Theorem.{Part, Table}\n",
+        "use Rattle.calls.specs.Theorem.{Part, Part as Demand1, Table}\n",
+        "use Rattle.calls.specs.Theorem.{Part, Table}\n-- Demand1\n",
     ] {
         let faults = sample_faults(SPECS, &edited(PROOFS, used, to));
         assert_eq!(faults.len(), 1, "{to}");
@@ -568,7 +644,7 @@ fn said(text: &str) -> Vec<String> {
         file: format!("crates/{file}"),
     };
     let (effect, moves, writing) = (
-        "array/specs/Effect.antt",
+        "calls/specs/Effect.antt",
         "layout/specs/Moves.antt",
         "array/src/writing.rt",
     );
@@ -596,12 +672,12 @@ fn said(text: &str) -> Vec<String> {
 #[test]
 fn what_is_said_rightly() {
     for text in [
-        "`effect` (`array/specs/Effect.antt`), `stands`",
-        "| `effect`, `Call` (`array/specs/Effect.antt`) | `stands` of `layout/specs/Moves.antt` |",
-        "`effect` and\n`Call` (`array/specs`), `stands` of `layout`",
+        "`effect` (`calls/specs/Effect.antt`), `stands`",
+        "| `effect`, `Call` (`calls/specs/Effect.antt`) | `stands` of `layout/specs/Moves.antt` |",
+        "`effect` and\n`Call` (`calls/specs`), `stands` of `layout`",
         "`effect (read b)`, `(read b)` and `effect status`",
         "`Claim.answer`, `good-left`; `stands`",
-        "`Claim.answer` (`array/specs/Effect.antt`)",
+        "`Claim.answer` (`calls/specs/Effect.antt`)",
         "clause `images` of `write`, `read` of `Call`",
         "`effect g .place`, `List Call`, `length (f .place)`",
         "`layout/zone_at_once`, `docs/READING.md`, `array`",
@@ -625,8 +701,8 @@ fn what_is_said_wrongly() {
             "effect of layout/specs/Moves.antt",
         ),
         (
-            "`stands`, `effect` (`array/specs/Effect.antt`)",
-            "stands of array/specs/Effect.antt",
+            "`stands`, `effect` (`calls/specs/Effect.antt`)",
+            "stands of calls/specs/Effect.antt",
         ),
         (
             "`effect` and\n`stands` (`layout/specs`)",

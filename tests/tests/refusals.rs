@@ -7,8 +7,8 @@ use yuzkamide_tests::bytewise::Bytewise;
 use yuzkamide_tests::memory::Side;
 use yuzkamide_tests::pbm::{Answer, Bytes, Call, Loan, NAMES};
 use yuzkamide_tests::random::Random;
-use yuzkamide_tests::record::{good, Health, Record, BENCH, GROWING};
-use yuzkamide_tests::table::{holds, rows, Lent};
+use yuzkamide_tests::record::{at, good, set_field, Health, Record, BENCH, GROWING, RECORD_LEN};
+use yuzkamide_tests::table::{holds, rows, Lent, LAST};
 
 /// One call and what it is lent.
 #[derive(Clone, Debug)]
@@ -90,40 +90,68 @@ const IN_HEALTH: &[&str] = &["read", "write", "grow", "advance", "out", "rebuild
 
 const SPOILS: &[Spoil] = &[
     spoil(ALL, 1, "no record", |c| c.damage = Some(|r| r.clear())),
-    spoil(ALL, 1, "15 bytes", |c| c.damage = Some(|r| r.truncate(15))),
-    spoil(ALL, 1, "17 bytes", |c| c.damage = Some(|r| r.push(0))),
-    spoil(ALL, 1, "32 bytes", |c| c.damage = Some(|r| r.resize(32, 0))),
-    spoil(BUT_FORMAT, 1, "n = 2", |c| c.damage = Some(|r| r[0] = 2)),
-    spoil(BUT_FORMAT, 1, "n = 17", |c| c.damage = Some(|r| r[0] = 17)),
-    spoil(BUT_FORMAT, 1, "m = 17", |c| c.damage = Some(|r| r[1] = 17)),
-    spoil(BUT_FORMAT, 1, "health 3", |c| c.damage = Some(|r| r[2] = 3)),
+    spoil(ALL, 1, "a record a byte short", |c| {
+        c.damage = Some(|r| r.truncate(RECORD_LEN - 1))
+    }),
+    spoil(ALL, 1, "a record a byte long", |c| {
+        c.damage = Some(|r| r.push(0))
+    }),
+    spoil(ALL, 1, "a record twice as long", |c| {
+        c.damage = Some(|r| r.resize(2 * RECORD_LEN, 0))
+    }),
+    spoil(BUT_FORMAT, 1, "n = 2", |c| {
+        c.damage = Some(|r| set_field(r, at::N, 2))
+    }),
+    spoil(BUT_FORMAT, 1, "n = 17", |c| {
+        c.damage = Some(|r| set_field(r, at::N, 17))
+    }),
+    spoil(BUT_FORMAT, 1, "m = 17", |c| {
+        c.damage = Some(|r| set_field(r, at::M, 17))
+    }),
+    spoil(BUT_FORMAT, 1, "health 3", |c| {
+        c.damage = Some(|r| set_field(r, at::HEALTH, 3))
+    }),
     spoil(BUT_FORMAT, 1, "an out disk of no disk", |c| {
-        c.damage = Some(|r| r[2..4].copy_from_slice(&[1, 5]))
+        c.damage = Some(|r| set_health(r, 1, 5))
     }),
     spoil(BUT_FORMAT, 1, "whole with an out disk", |c| {
-        c.damage = Some(|r| r[2..4].copy_from_slice(&[0, 1]))
+        c.damage = Some(|r| set_health(r, 0, 1))
     }),
     spoil(BUT_FORMAT, 1, "lost with an out disk", |c| {
-        c.damage = Some(|r| r[2..4].copy_from_slice(&[2, 1]))
+        c.damage = Some(|r| set_health(r, 2, 1))
     }),
-    spoil(BUT_FORMAT, 1, "B = 0", |c| c.damage = Some(|r| r[4] = 0)),
+    spoil(BUT_FORMAT, 1, "B = 0", |c| {
+        c.damage = Some(|r| set_field(r, at::BLOCK_LEN, 0))
+    }),
     spoil(BUT_FORMAT, 1, "B = 4100", |c| {
-        c.damage = Some(|r| r[5] = 16)
+        c.damage = Some(|r| set_field(r, at::BLOCK_LEN, 4100))
     }),
-    spoil(BUT_FORMAT, 1, "byte 6", |c| c.damage = Some(|r| r[6] = 1)),
-    spoil(BUT_FORMAT, 1, "byte 7", |c| c.damage = Some(|r| r[7] = 128)),
-    spoil(BUT_FORMAT, 1, "T = 0", |c| c.damage = Some(|r| r[8] = 0)),
+    spoil(BUT_FORMAT, 1, "the first byte of no field", |c| {
+        c.damage = Some(|r| r[at::ZERO.start] = 1)
+    }),
+    spoil(BUT_FORMAT, 1, "the last byte of no field", |c| {
+        c.damage = Some(|r| r[at::ZERO.end - 1] = 128)
+    }),
+    spoil(BUT_FORMAT, 1, "T = 0", |c| {
+        c.damage = Some(|r| set_field(r, at::STRIPES, 0))
+    }),
     spoil(BUT_FORMAT, 1, "T above 1,048,576", |c| {
-        c.damage = Some(|r| r[10] = 16)
+        c.damage = Some(|r| set_field(r, at::STRIPES, 1_048_576 + 15))
     }),
     spoil(BUT_FORMAT, 1, "T no multiple, m not 0", |c| {
-        c.damage = Some(|r| (r[1], r[8]) = (2, 14))
+        c.damage = Some(|r| {
+            set_field(r, at::M, 2);
+            set_field(r, at::STRIPES, 14);
+        })
     }),
     spoil(BUT_FORMAT, 1, "t above the total", |c| {
-        c.damage = Some(|r| r[12] = 19)
+        c.damage = Some(|r| set_field(r, at::MOVES, 19))
     }),
     spoil(BUT_FORMAT, 1, "t = 1, m = 0", |c| {
-        c.damage = Some(|r| (r[1], r[12]) = (0, 1))
+        c.damage = Some(|r| {
+            set_field(r, at::M, 0);
+            set_field(r, at::MOVES, 1);
+        })
     }),
     spoil(IN_HEALTH, 2, "lost", |c| c.record.health = Health::Lost),
     spoil(&["grow", "advance"], 3, "disk 0 out", |c| {
@@ -236,6 +264,11 @@ const SPOILS: &[Spoil] = &[
     }),
 ];
 
+fn set_health(record: &mut [u8], health: u64, out: u64) {
+    set_field(record, at::HEALTH, health);
+    set_field(record, at::OUT, out);
+}
+
 /// With images of the length that the numbers ask for, where there is memory for it.
 fn format(case: &mut Case, n: u64, block_len: u64, stripes: u64) {
     case.call = Call::Format {
@@ -290,13 +323,13 @@ impl Case {
     /// The rows whose conditions hold, those from 2 on read on the record without its damage.
     fn holding(&self) -> Vec<u8> {
         let lent = Lent {
-            record_len: 16,
+            record_len: RECORD_LEN,
             good: self.damage.is_none() && good(self.record.bytes()),
             images_len: self.images_len as usize,
             block_len: self.block_len as usize,
         };
         let damaged = |row: u8| row == 1 && self.damage.is_some();
-        (1..=10)
+        (1..=LAST)
             .filter(|&row| damaged(row) || holds(row, &self.record, self.call, &lent))
             .collect()
     }

@@ -7,7 +7,7 @@ use yuzkamide_tests::images;
 use yuzkamide_tests::memory::{on_fault_tell, Guarded, Memory, Side};
 use yuzkamide_tests::pbm::{Answer, Bytes, Call, Loan};
 use yuzkamide_tests::random::Random;
-use yuzkamide_tests::record::Record;
+use yuzkamide_tests::record::{Record, RECORD_LEN};
 use yuzkamide_tests::table::Lent;
 
 /// n, m, B and T: arrays whose disks are whole pages.
@@ -72,7 +72,7 @@ impl Array {
             _ => self.flat.numbers.images_len(),
         };
         let lent = Lent {
-            record_len: 16,
+            record_len: RECORD_LEN,
             good: true,
             images_len: images_len as usize,
             block_len: self.flat.numbers.block_len as usize,
