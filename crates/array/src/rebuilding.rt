@@ -9,17 +9,19 @@ ghost use Rattle.calls.specs.Call.{rebuild, on};
 ghost use Rattle.calls.specs.Images.{disksOf, size, othersIn, stored, fillDisk};
 ghost use Rattle.calls.specs.Effect.{called};
 use crate::Changed;
-use crate::health::with_health;
 use crate::refusal::disks_of;
 use crate::refusal::of_rebuild;
 use blocks::rebuild_place;
 use state::Health;
 use state::Record;
+use state::with_health;
 
-// Disk d of every stripe, each summed into `block` and then stored: two slices are told apart once and for all, two parts of the images are not.
+// Disk d of every stripe, each summed into `block` and then stored: two slices are told apart once and for all, two parts of the images
+// are not.
 fn fill_disk(r: Record, images: &mut [u8], d: u64, block: &mut [u8])
     requires { ⌜ Limits r × (d < disksOf r) × (length (now images) ≡ size r) × (length (now block) ≡ r .block) ⌝ }
-    ensures { λ _. ⌜ now (images .exit) ≡ stored (r .block) (r .stripes) (fillDisk (r .stripes) d (λ S. othersIn r (now (images .entry)) S d)) (now (images .entry)) ⌝ }
+    ensures { λ _. ⌜ now (images .exit) ≡
+        stored (r .block) (r .stripes) (fillDisk (r .stripes) d (λ S. othersIn r (now (images .entry)) S d)) (now (images .entry)) ⌝ }
 {
     let disks = disks_of(r) as usize;
     let stripes = r.stripes as usize;
@@ -33,7 +35,8 @@ fn fill_disk(r: Record, images: &mut [u8], d: u64, block: &mut [u8])
 // The same, with a block of its own to sum into.
 fn fill_disk_alone(r: Record, images: &mut [u8], d: u64)
     requires { ⌜ Limits r × (d < disksOf r) × (length (now images) ≡ size r) ⌝ }
-    ensures { λ _. ⌜ now (images .exit) ≡ stored (r .block) (r .stripes) (fillDisk (r .stripes) d (λ S. othersIn r (now (images .entry)) S d)) (now (images .entry)) ⌝ }
+    ensures { λ _. ⌜ now (images .exit) ≡
+        stored (r .block) (r .stripes) (fillDisk (r .stripes) d (λ S. othersIn r (now (images .entry)) S d)) (now (images .entry)) ⌝ }
 {
     let mut block = [0u8; 4096];
     let len = r.block as usize;

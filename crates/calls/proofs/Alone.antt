@@ -16,9 +16,10 @@ use Rattle.state.specs.declared.Health.the-variants.{Whole}
 use Rattle.state.specs.declared.Health.{Health}
 use Rattle.state.specs.declared.Record.{Record}
 use Rattle.state.specs.Good.{geometry, good, OutBelow, Limits}
+use Rattle.state.specs.Update.{formatted, grownBy, withHealth}
 use Rattle.state.proofs.Laws.Good.{limits}
 use Rattle.calls.specs.Call.{Call, format, read, view, write, grow, advance, out, rebuild, status, locate, owner, Event, on, fed}
-use Rattle.calls.specs.Health.{absent, formatted, grownBy, withHealth}
+use Rattle.calls.specs.Health.{absent}
 use Rattle.calls.specs.Images.{disksOf, size, sizeWith, placeIn, othersIn, Store, header, stored, fillDisk, zeroDisks}
 use Rattle.calls.specs.Table.{table, word, refusal}
 use Rattle.calls.specs.Effect.{placeOf, scratchLeft, writeStores, advanceStores, effect, act, untouched, settle, called}

@@ -11,8 +11,9 @@ use Rattle.state.specs.declared.Health.the-variants.{Whole}
 use Rattle.state.specs.declared.Record.{Record}
 use Rattle.state.specs.Good.{geometry}
 use Rattle.state.specs.Bytes.{decode, encode}
+use Rattle.state.specs.Update.{formatted, grownBy, withMoves, withHealth}
 use Rattle.calls.specs.Call.{Call, format, read, view, write, grow, advance, out, rebuild, status, locate, owner, Event, fed, Answer, refused, done, bytes, made, figures, placed, owned}
-use Rattle.calls.specs.Health.{absent, afterOut, formatted, grownBy, withMoves, withHealth}
+use Rattle.calls.specs.Health.{absent, afterOut}
 use Rattle.calls.specs.Images.{placeIn, othersIn, seen, Store, block, header, stored, recorded, unless, fillDisk, zeroDisks}
 use Rattle.calls.specs.Table.{idle, refusal, refusalBytes}
 

@@ -17,9 +17,9 @@ use Rattle.state.specs.declared.Health.the-variants.{Whole}
 use Rattle.state.specs.declared.Health.{Health}
 use Rattle.state.specs.declared.Record.{Record}
 use Rattle.state.specs.Good.{geometry, good, OutBelow, Limits}
+use Rattle.state.specs.Update.{withHealth}
 use Rattle.state.proofs.Laws.Good.{limits}
 use Rattle.calls.specs.Call.{rebuild, feed, on, done}
-use Rattle.calls.specs.Health.{withHealth}
 use Rattle.calls.specs.Images.{disksOf, size, othersIn, block, stored, fillDisk}
 use Rattle.calls.specs.Table.{refusal}
 use Rattle.calls.specs.Effect.{effect, called}

@@ -11,9 +11,9 @@ use Rattle.blocks.specs.Block.{store, zeros}
 use Rattle.layout.specs.Layout.{capacity}
 use Rattle.state.specs.declared.Record.{Record}
 use Rattle.state.specs.Good.{geometry, good, Limits}
+use Rattle.state.specs.Update.{formatted, grownBy}
 use Rattle.state.proofs.Laws.Good.{limits, new-good}
 use Rattle.calls.specs.Call.{format, grow, feed, on, done}
-use Rattle.calls.specs.Health.{formatted, grownBy}
 use Rattle.calls.specs.Images.{zeroDisks}
 use Rattle.calls.specs.Table.{refusal}
 use Rattle.calls.specs.Effect.{effect, called}

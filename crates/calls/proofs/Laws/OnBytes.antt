@@ -11,9 +11,9 @@ use Rattle.layout.specs.Layout.{capacity}
 use Rattle.state.specs.declared.Record.{Record}
 use Rattle.state.specs.Good.{geometry, good}
 use Rattle.state.specs.Bytes.{decode, plain, goodBytes, encode}
+use Rattle.state.specs.Update.{formatted}
 use Rattle.state.proofs.Laws.Bytes.{decode-encode, length-encode, plain-encode}
 use Rattle.calls.specs.Call.{Call, format, read, view, write, grow, advance, out, rebuild, status, locate, owner, Event, on, Fed, fed, accepted}
-use Rattle.calls.specs.Health.{formatted}
 use Rattle.calls.specs.Images.{zeroDisks}
 use Rattle.calls.specs.Table.{word, table, refusal, rowsBytes, refusalBytes}
 use Rattle.calls.specs.Effect.{effect, Left, act, untouched, settle, called, sealed, calledBytes}

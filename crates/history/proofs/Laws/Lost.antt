@@ -8,9 +8,10 @@ use lib.ListN.{length}
 use Rattle.state.specs.declared.Health.the-variants.{Out, Lost}
 use Rattle.state.specs.declared.Record.{Record}
 use Rattle.state.specs.Good.{good}
+use Rattle.state.specs.Update.{withHealth}
 use Rattle.state.proofs.Laws.Good.{limits, within-limits}
 use Rattle.calls.specs.Call.{Call, format, read, view, write, grow, advance, out, rebuild, status, locate, owner, Fed, Answer, refused, accepted}
-use Rattle.calls.specs.Health.{isLost, withHealth}
+use Rattle.calls.specs.Health.{isLost}
 use Rattle.calls.specs.Table.{table, refusal}
 use Rattle.history.specs.Flat.{Flat, flatAct, flatSettle, flatStep}
 use Rattle.history.specs.Theorem.{NoReads}

@@ -13,9 +13,10 @@ use Rattle.state.specs.declared.Health.{Health}
 use Rattle.state.specs.declared.Record.{Record}
 use Rattle.state.specs.Good.{geometry, good}
 use Rattle.state.specs.Bytes.{decode, encode}
+use Rattle.state.specs.Update.{withHealth}
 use Rattle.state.proofs.Laws.Bytes.{decode-encode}
 use Rattle.calls.specs.Call.{Call, format, read, view, write, grow, advance, out, rebuild, status, locate, owner, Event, fed, Answer, accepted}
-use Rattle.calls.specs.Health.{afterOut, withHealth}
+use Rattle.calls.specs.Health.{afterOut}
 use Rattle.calls.specs.Images.{size, stored, recorded}
 use Rattle.calls.specs.Table.{word, table, refusal, rowsBytes, refusalBytes}
 use Rattle.calls.specs.Effect.{effect, Left, act, untouched, settle, sealed, calledBytes}

@@ -4,8 +4,8 @@ use mathlib.Core.List.{[]}
 use borrow.Author.Needs.{needs}
 use native.Mathlib.Omega.{arith}
 use Rattle.state.specs.Good.{Limits}
+use Rattle.state.specs.Update.{formatted}
 use Rattle.calls.specs.Call.{format, Event, on}
-use Rattle.calls.specs.Health.{formatted}
 use Rattle.calls.proofs.Laws.Format.{limits}
 use Rattle.array.proofs.Calls.Called.{called-refused}
 use Rattle.array.proofs.Calls.Zeroed.{format-passed, format-done}

@@ -43,8 +43,11 @@ sub-zero-block c = passed (c .before .before .before .before) .within
 zero-block-requires : tie.Need-zero-block-requires
 zero-block-requires c κs = omega (arith, passed (c .before .before .before .before) .within)
 
-cast-t16 : tie.Need-cast-t16
-cast-t16 c = omega (arith, passed (c .before .before .before .before .before .before .before) .small)
+cast-grown-by : tie.Need-cast-grown-by
+cast-grown-by c = omega (arith, passed (c .before .before .before .before .before .before) .small)
+
+grown-by-requires : tie.Need-grown-by-requires
+grown-by-requires c κs = search needs
 
 same-length : tie.Need-same-length
 same-length c = search needs
@@ -68,6 +71,7 @@ grow-spec =
     mul-at-2
     sub-zero-block
     zero-block-requires
-    cast-t16
+    cast-grown-by
+    grown-by-requires
     same-length
     returns-2)
