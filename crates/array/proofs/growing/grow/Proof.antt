@@ -44,7 +44,7 @@ zero-block-requires : tie.Need-zero-block-requires
 zero-block-requires c κs = omega (arith, passed (c .before .before .before .before) .within)
 
 cast-grown-by : tie.Need-cast-grown-by
-cast-grown-by c = omega (arith, passed (c .before .before .before .before .before .before) .small)
+cast-grown-by c = omega (arith, passed (c .before .before .before .before .before .before .before) .small)
 
 grown-by-requires : tie.Need-grown-by-requires
 grown-by-requires c κs = search needs
@@ -54,9 +54,10 @@ same-length c = search needs
 
 returns-2 : tie.Need-returns-2
 returns-2 c =
-    let e = c .before .before .before .before .before .before .before in
+    let z = c .before .before .before in
+    let e = z .before .before .before .before .before in
     let a = e .before .before .before .args in
-    rw (grow-done (a .images .now) (a .r) (a .m) (sym (e .before .of-grow .ensures) ∙ e .if1 .left)) (refl, (refl, c .before .before .zero-block .ensures))
+    rw (grow-done (a .images .now) (a .r) (a .m) (sym (e .before .of-grow .ensures) ∙ e .if1 .left)) (refl, (c .grown-by .ensures, z .zero-block .ensures))
 
 pub grow-spec : {M : Type 1} → statement M
 grow-spec =
