@@ -13,7 +13,7 @@ use Rattle.state.specs.Good.{good, Limits}
 use Rattle.state.specs.Bytes.{recordLength, decode, plain, goodBytes, healthByte, diskByte, encode, AreBytes}
 use Rattle.state.specs.Update.{formatted, grownBy, withMoves, withHealth}
 
--- "with the record as 16 bytes": in and out
+-- the record and its bytes: in and out
 pub record RoundTrip : Type 0 where
   pub record-back : (r : Record) → decode (encode r) ≡ r
   pub bytes-back : (b : List ℕ) → AreBytes b → length b ≡ recordLength → plain b ≡ true → encode (decode b) ≡ b

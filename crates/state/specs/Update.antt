@@ -1,4 +1,4 @@
--- The records that calls leave. Every record that a definition or a function makes is one of these, or decoded.
+-- The records that calls leave. No other definition makes a record, but `decode`, and the flat list, whose text is its own.
 use Prim.Native.Nat.{ℕ}
 use Rattle.state.specs.declared.Health.the-variants.{Whole}
 use Rattle.state.specs.declared.Health.{Health}
