@@ -14,7 +14,6 @@ ghost use Rattle.calls.specs.Images.{size, storedIn};
 ghost use Rattle.calls.specs.Table.{idle};
 ghost use Rattle.calls.specs.Effect.{moveStores, advanceStores, called};
 use crate::Advanced;
-use crate::health::with_moves;
 use crate::places::place_at;
 use crate::refusal::of_advance;
 use blocks::move_block;
@@ -22,6 +21,7 @@ use layout::move_of;
 use layout::total_of;
 use state::Record;
 use state::geometry_of;
+use state::with_moves;
 
 // The next move: the block to its new place, zeroes where it stood.
 fn make_move(r: Record, images: &mut [u8])

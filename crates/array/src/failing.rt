@@ -6,9 +6,9 @@ ghost use Rattle.calls.specs.Call.{out, on};
 ghost use Rattle.calls.specs.Effect.{called};
 use crate::Changed;
 use crate::health::after_out;
-use crate::health::with_health;
 use crate::refusal::of_out;
 use state::Record;
+use state::with_health;
 
 pub fn out(r: Record, d: u64) -> Changed
     ensures answer { λ x. ⌜ changedAnswer x ≡ called (on (out d) [] []) r .answer ⌝ }

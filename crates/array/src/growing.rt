@@ -8,6 +8,7 @@ use crate::Changed;
 use crate::refusal::of_grow;
 use blocks::zero_block;
 use state::Record;
+use state::grown_by;
 
 pub fn grow(r: Record, images: &mut [u8], m: u64) -> Changed
     ensures answer { λ x. ⌜ changedAnswer x ≡ called (on (grow m) (now (images .entry)) []) r .answer ⌝ }
@@ -21,13 +22,5 @@ pub fn grow(r: Record, images: &mut [u8], m: u64) -> Changed
     }
     let at = r.old as usize * (r.stripes as usize * r.block as usize);
     zero_block(images, at, len - at);
-    let health = r.health;
-    Changed::Done(Record {
-        old: r.old,
-        new: m as u8,
-        health: health,
-        block: r.block,
-        stripes: r.stripes,
-        moves: 0,
-    })
+    Changed::Done(grown_by(r, m as u8))
 }

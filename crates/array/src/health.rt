@@ -1,8 +1,7 @@
 // What the health of an array means for a disk.
 ghost use mathlib.Core.Path.{_≡_};
-ghost use Rattle.calls.specs.Health.{isLost, isDegraded, isOut, absent, afterOut, withMoves, withHealth};
+ghost use Rattle.calls.specs.Health.{isLost, isDegraded, isOut, absent, afterOut};
 use state::Health;
-use state::Record;
 
 pub fn is_lost(health: Health) -> bool
     ensures { λ x. ⌜ x ≡ isLost health ⌝ }
@@ -49,32 +48,5 @@ pub fn after_out(health: Health, d: u8) -> Health
         Health::Whole => Health::Out(d),
         Health::Out(_) => Health::Lost,
         Health::Lost => Health::Lost,
-    }
-}
-
-pub fn with_health(r: Record, health: Health) -> Record
-    ensures { λ x. ⌜ x ≡ withHealth r health ⌝ }
-{
-    Record {
-        old: r.old,
-        new: r.new,
-        health: health,
-        block: r.block,
-        stripes: r.stripes,
-        moves: r.moves,
-    }
-}
-
-pub fn with_moves(r: Record, moves: u32) -> Record
-    ensures { λ x. ⌜ x ≡ withMoves r moves ⌝ }
-{
-    let health = r.health;
-    Record {
-        old: r.old,
-        new: r.new,
-        health: health,
-        block: r.block,
-        stripes: r.stripes,
-        moves: moves,
     }
 }

@@ -9,14 +9,15 @@ ghost use Rattle.calls.specs.Call.{rebuild, on};
 ghost use Rattle.calls.specs.Images.{disksOf, size, othersIn, storedIn, fillDisk};
 ghost use Rattle.calls.specs.Effect.{called};
 use crate::Changed;
-use crate::health::with_health;
 use crate::refusal::disks_of;
 use crate::refusal::of_rebuild;
 use blocks::rebuild_place;
 use state::Health;
 use state::Record;
+use state::with_health;
 
-// Disk d of every stripe, each summed into `block` and then stored: two slices are told apart once and for all, two parts of the images are not.
+// Disk d of every stripe, each summed into `block` and then stored: two slices are told apart once and for all, two parts of the images
+// are not.
 fn fill_disk(r: Record, images: &mut [u8], d: u64, block: &mut [u8])
     requires { ⌜ Limits r × (d < disksOf r) × (length (now images) ≡ size r) × (length (now block) ≡ r .block) ⌝ }
     ensures { λ _. ⌜ now (images .exit) ≡ storedIn r (fillDisk (r .stripes) d (λ S. othersIn r (now (images .entry)) S d)) (now (images .entry)) ⌝ }

@@ -21,9 +21,10 @@ use Rattle.state.specs.declared.Health.the-variants.{Whole, Out, Lost}
 use Rattle.state.specs.declared.Health.{Health}
 use Rattle.state.specs.declared.Record.{Record}
 use Rattle.state.specs.Good.{geometry, good, Limits}
+use Rattle.state.specs.Update.{formatted, grownBy, withMoves, withHealth}
 use Rattle.calls.specs.Call.{Call, format, read, view, write, grow, advance, out, rebuild, status, locate, owner}
 use Rattle.calls.specs.Call.{Event, Answer, bytes, made}
-use Rattle.calls.specs.Health.{absent, afterOut, formatted, grownBy, withMoves, withHealth}
+use Rattle.calls.specs.Health.{absent, afterOut}
 use Rattle.calls.specs.Images.{disksOf, size, sizeWith, placeIn, othersIn, seen, Store, stored, recorded, zeroDisks}
 use Rattle.calls.specs.Table.{idle, refusal}
 use Rattle.calls.specs.Effect.{placeOf, scratchLeft, moveStores, advanceStores, effect, answerOf, recordLeft, roomLeft}

@@ -13,7 +13,8 @@ use Rattle.state.specs.declared.Health.the-variants.{Whole}
 use Rattle.state.specs.declared.Record.{Record}
 use Rattle.state.specs.Good.{geometry}
 use Rattle.calls.specs.Call.{Call, view, write, grow, rebuild, status, locate, owner, Event, on, feed}
-use Rattle.calls.specs.Health.{absent, grownBy, withHealth}
+use Rattle.state.specs.Update.{grownBy, withHealth}
+use Rattle.calls.specs.Health.{absent}
 use Rattle.calls.specs.Images.{disksOf, size, sizeWith, placeIn, othersIn, storedIn}
 use Rattle.calls.specs.Table.{refusalOf}
 use Rattle.calls.specs.Effect.{placeOf, scratchLeft, effect, imagesLeft, roomLeft, act, untouched, settle, called}

@@ -12,7 +12,8 @@ use Rattle.state.specs.declared.Health.the-variants.{Whole, Out, Lost}
 use Rattle.state.specs.declared.Record.{Record}
 use Rattle.state.specs.Good.{geometry}
 use Rattle.calls.specs.Call.{Call, format, read, view, write, grow, advance, out, rebuild, Event, on, fed, bytes, made}
-use Rattle.calls.specs.Health.{absent, formatted, grownBy, withMoves, withHealth}
+use Rattle.state.specs.Update.{formatted, grownBy, withMoves, withHealth}
+use Rattle.calls.specs.Health.{absent}
 use Rattle.calls.specs.Images.{placeIn, othersIn, seen}
 use Rattle.calls.specs.Table.{idle, refusalOf}
 use Rattle.calls.specs.Effect.{placeOf, act}

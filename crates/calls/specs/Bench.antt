@@ -10,8 +10,9 @@ use Rattle.layout.specs.Paper.{move}
 use Rattle.blocks.specs.Block.{zeros}
 use Rattle.state.specs.declared.Health.the-variants.{Whole, Out, Lost}
 use Rattle.state.specs.declared.Record.{Record}
-use Rattle.calls.specs.Call.{Call, format, grow, advance, status, locate, owner, Answer, refused, done, bytes, made, figures, placed, owned, number, shown, count, beside}
-use Rattle.calls.specs.Health.{formatted}
+use Rattle.state.specs.Update.{formatted, grownBy, withMoves}
+use Rattle.calls.specs.Call.{Call, format, grow, advance, status, locate, owner}
+use Rattle.calls.specs.Call.{Answer, refused, done, bytes, made, figures, placed, owned, number, shown, count, beside}
 use Rattle.calls.specs.Images.{size}
 use Rattle.calls.specs.Table.{refusal}
 use Rattle.calls.specs.Effect.{placeOf, called}
@@ -21,7 +22,7 @@ abbrev pub small : Record
 small = formatted 3 1 15
 
 abbrev pub mill : ℕ → Record
-mill t = record { old = 3; new = 2; health = Whole; block = 1; stripes = 15; moves = t }
+mill t = withMoves (grownBy small 2) t
 
 -- what a call that takes no images answers
 abbrev pub asked : Call → Record → Answer
@@ -38,7 +39,8 @@ owner-at S d r = asked (owner S d) r
 
 pub record Bench : Type 0 where
   -- "total 18, capacity 30, then 60"
-  pub numbers : (asked status small ≡ figures 30 0 0 Whole) × (asked status (mill 17) ≡ figures 30 17 18 Whole) × (asked status (mill 18) ≡ figures 60 18 18 Whole)
+  pub numbers : (asked status small ≡ figures 30 0 0 Whole)
+      × (asked status (mill 17) ≡ figures 30 17 18 Whole) × (asked status (mill 18) ≡ figures 60 18 18 Whole)
   -- "(P) Block 5 before growth: stripe 2, disk 0."
   pub block-5 : (located 5 small ≡ at 2 0) × (located 5 (mill 0) ≡ at 2 0)
   -- "(P) Move 0: parity of stripe 3, disk 0 to 3."
@@ -54,7 +56,8 @@ pub record Bench : Type 0 where
   -- "(P) Block 0 never moves."
   pub block-0 : (t : ℕ) → placeOf (mill t) 0 ≡ placeAt 0 2
   -- "(P) After 17 moves block 30 is refused 8; (P) after 18 it is (0, 3). (P) Block 32: (1, 2). (P) Block 59: (14, 3). Block 60: 8."
-  pub new-blocks : (located 30 (mill 17) ≡ refused 8) × (located 30 (mill 18) ≡ at 0 3) × (located 32 (mill 18) ≡ at 1 2) × (located 59 (mill 18) ≡ at 14 3) × (located 60 (mill 18) ≡ refused 8)
+  pub new-blocks : (located 30 (mill 17) ≡ refused 8) × (located 30 (mill 18) ≡ at 0 3)
+      × (located 32 (mill 18) ≡ at 1 2) × (located 59 (mill 18) ≡ at 14 3) × (located 60 (mill 18) ≡ refused 8)
 
 -- ---- cases not marked (P)
 
@@ -86,7 +89,8 @@ pub record Unmarked : Type 0 where
 pub record Values : Type 0 where
   -- advance's count; status's capacity, t, total, health and disk; locate's stripe and disk; owner's role and block
   pub counts : (beside 1 (made 7) ≡ 7 ∷ []) × (count (made 7) ≡ 7) × (count (refused 7) ≡ 0)
-  pub statuses : (beside 5 (figures 60 17 18 (Out 3)) ≡ 60 ∷ 17 ∷ 18 ∷ 1 ∷ 3 ∷ []) × (beside 5 (figures 30 0 0 Whole) ≡ 30 ∷ 0 ∷ 0 ∷ 0 ∷ 0 ∷ []) × (beside 5 (figures 30 4 18 Lost) ≡ 30 ∷ 4 ∷ 18 ∷ 2 ∷ 0 ∷ [])
+  pub statuses : (beside 5 (figures 60 17 18 (Out 3)) ≡ 60 ∷ 17 ∷ 18 ∷ 1 ∷ 3 ∷ [])
+      × (beside 5 (figures 30 0 0 Whole) ≡ 30 ∷ 0 ∷ 0 ∷ 0 ∷ 0 ∷ []) × (beside 5 (figures 30 4 18 Lost) ≡ 30 ∷ 4 ∷ 18 ∷ 2 ∷ 0 ∷ [])
   pub places : beside 2 (placed (placeAt 1 2)) ≡ 1 ∷ 2 ∷ []
   pub owners : (beside 2 (owned (Data 9)) ≡ 2 ∷ 9 ∷ []) × (beside 2 (owned Parity) ≡ 1 ∷ 0 ∷ []) × (beside 2 (owned Blank) ≡ 0 ∷ 0 ∷ [])
   -- a view's bytes; and nothing beside what has no numbers

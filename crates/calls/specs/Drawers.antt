@@ -8,15 +8,17 @@ use Rattle.blocks.specs.Block.{zeros}
 use Rattle.state.specs.declared.Health.the-variants.{Whole, Out, Lost}
 use Rattle.state.specs.declared.Health.{Health}
 use Rattle.state.specs.declared.Record.{Record}
+use Rattle.state.specs.Update as update
 use Rattle.calls.specs.Call.{Call, format, read, view, write, grow, advance, out, rebuild, Answer, bytes, made, done}
 use Rattle.calls.specs.Images.{block, header}
 use Rattle.calls.specs.Effect.{writeStores, moveStores, Left, called}
 
-abbrev pub cabinet : Health → ℕ → Record
-cabinet h t = record { old = 3; new = 1; health = h; block = 1; stripes = 12; moves = t }
-
+-- before growth, and with this health after t moves
 abbrev pub fresh : Record
-fresh = record { old = 3; new = 0; health = Whole; block = 1; stripes = 12; moves = 0 }
+fresh = update.formatted 3 1 12
+
+abbrev pub cabinet : Health → ℕ → Record
+cabinet h t = update.withHealth (update.withMoves (update.grownBy fresh 1) t) h
 
 -- a disk a line, stripe 0 first; the parity of stripes 3 and 7 stands on disk 3 already, and so do blocks 2 and 4
 abbrev pub disk0 : List ℕ
@@ -53,11 +55,11 @@ abbrev pub left : Record → List ℕ → List ℕ → Answer → Left Record
 left r img room a = record { answer = a; state = r; images = img; room = room }
 
 -- the cabinet with blocks of two bytes: block b holds b + 1 and 63 - 2 × b; a disk a line again, two bytes a stripe
-abbrev pub wide : Health → ℕ → Record
-wide h t = record { old = 3; new = 1; health = h; block = 2; stripes = 12; moves = t }
-
 abbrev pub freshWide : Record
-freshWide = record { old = 3; new = 0; health = Whole; block = 2; stripes = 12; moves = 0 }
+freshWide = update.formatted 3 2 12
+
+abbrev pub wide : Health → ℕ → Record
+wide h t = update.withHealth (update.withMoves (update.grownBy freshWide 1) t) h
 
 abbrev pub wide0 : List ℕ
 wide0 =
@@ -96,15 +98,24 @@ leftWide r img a = left r img (9 ∷ 9 ∷ []) a
 pub record Drawers : Type 0 where
   -- move 4: block 12, stripe 6, disk 2 to 3; the place left is zeroed
   pub move : on standing (cabinet Whole 4) (advance 1)
-      ≡ left (cabinet Whole 5) (disk0 ++ disk1 ++ (1 ∷ 0 ∷ 3 ∷ 7 ∷ 9 ∷ 7 ∷ 0 ∷ 15 ∷ 3 ∷ 19 ∷ 21 ∷ 15 ∷ []) ++ (0 ∷ 3 ∷ 5 ∷ 15 ∷ 0 ∷ 0 ∷ 13 ∷ 31 ∷ 0 ∷ 0 ∷ 0 ∷ 0 ∷ [])) (9 ∷ []) (made 1)
+      ≡ left (cabinet Whole 5)
+      (disk0 ++ disk1 ++ (1 ∷ 0 ∷ 3 ∷ 7 ∷ 9 ∷ 7 ∷ 0 ∷ 15 ∷ 3 ∷ 19 ∷ 21 ∷ 15 ∷ [])
+      ++ (0 ∷ 3 ∷ 5 ∷ 15 ∷ 0 ∷ 0 ∷ 13 ∷ 31 ∷ 0 ∷ 0 ∷ 0 ∷ 0 ∷ []))
+      (9 ∷ []) (made 1)
   -- "k = 0 makes none."
   pub no-move : on standing (cabinet Whole 4) (advance 0) ≡ left (cabinet Whole 4) standing (9 ∷ []) (made 0)
   -- it copies what is there, sound or not
   pub move-unsound : on degraded (cabinet Whole 4) (advance 1)
-      ≡ left (cabinet Whole 5) (disk0 ++ disk1 ++ (77 ∷ 77 ∷ 77 ∷ 77 ∷ 77 ∷ 77 ∷ 0 ∷ 77 ∷ 77 ∷ 77 ∷ 77 ∷ 77 ∷ []) ++ (0 ∷ 3 ∷ 5 ∷ 15 ∷ 0 ∷ 0 ∷ 77 ∷ 31 ∷ 0 ∷ 0 ∷ 0 ∷ 0 ∷ [])) (9 ∷ []) (made 1)
+      ≡ left (cabinet Whole 5)
+      (disk0 ++ disk1 ++ (77 ∷ 77 ∷ 77 ∷ 77 ∷ 77 ∷ 77 ∷ 0 ∷ 77 ∷ 77 ∷ 77 ∷ 77 ∷ 77 ∷ [])
+      ++ (0 ∷ 3 ∷ 5 ∷ 15 ∷ 0 ∷ 0 ∷ 77 ∷ 31 ∷ 0 ∷ 0 ∷ 0 ∷ 0 ∷ []))
+      (9 ∷ []) (made 1)
   -- block 6 is on disk 2 of stripe 3, its parity has moved to disk 3: 15 xor 7 xor 200 is 192
   pub written : on standing (cabinet Whole 4) (write 6 (200 ∷ []))
-      ≡ left (cabinet Whole 4) (disk0 ++ disk1 ++ (1 ∷ 0 ∷ 3 ∷ 200 ∷ 9 ∷ 7 ∷ 13 ∷ 15 ∷ 3 ∷ 19 ∷ 21 ∷ 15 ∷ []) ++ (0 ∷ 3 ∷ 5 ∷ 192 ∷ 0 ∷ 0 ∷ 0 ∷ 31 ∷ 0 ∷ 0 ∷ 0 ∷ 0 ∷ [])) (9 ∷ []) done
+      ≡ left (cabinet Whole 4)
+      (disk0 ++ disk1 ++ (1 ∷ 0 ∷ 3 ∷ 200 ∷ 9 ∷ 7 ∷ 13 ∷ 15 ∷ 3 ∷ 19 ∷ 21 ∷ 15 ∷ [])
+      ++ (0 ∷ 3 ∷ 5 ∷ 192 ∷ 0 ∷ 0 ∷ 0 ∷ 31 ∷ 0 ∷ 0 ∷ 0 ∷ 0 ∷ []))
+      (9 ∷ []) done
   -- with disk 2 out: the parity alone
   pub written-degraded : on degraded (cabinet (Out 2) 4) (write 6 (200 ∷ []))
       ≡ left (cabinet (Out 2) 4) (disk0 ++ disk1 ++ garbage ++ (0 ∷ 3 ∷ 5 ∷ 192 ∷ 0 ∷ 0 ∷ 0 ∷ 31 ∷ 0 ∷ 0 ∷ 0 ∷ 0 ∷ [])) (9 ∷ []) done
@@ -119,7 +130,8 @@ pub record Drawers : Type 0 where
   pub first-out : on standing (cabinet Whole 4) (out 2) ≡ left (cabinet (Out 2) 4) standing (9 ∷ []) done
   pub second-out : on degraded (cabinet (Out 2) 4) (out 0) ≡ left (cabinet Lost 4) degraded (9 ∷ []) done
   -- a new disk of garbage, zeroed; and a lost cabinet formatted anew
-  pub grown : on (disk0 ++ disk1 ++ disk2 ++ garbage) fresh (grow 1) ≡ left (cabinet Whole 0) (disk0 ++ disk1 ++ disk2 ++ zeros 12) (9 ∷ []) done
+  pub grown : on (disk0 ++ disk1 ++ disk2 ++ garbage) fresh (grow 1)
+      ≡ left (cabinet Whole 0) (disk0 ++ disk1 ++ disk2 ++ zeros 12) (9 ∷ []) done
   pub formatted : on (garbage ++ garbage ++ garbage) (cabinet Lost 4) (format 3 1 12) ≡ left fresh (zeros 36) (9 ∷ []) done
   -- in order: the copy, the zeroes, the record; the parity, the data
   pub move-stores : moveStores (cabinet Whole 4) standing ≡ block 6 3 (13 ∷ []) ∷ block 6 2 (0 ∷ []) ∷ header (cabinet Whole 5) ∷ []

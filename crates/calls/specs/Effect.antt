@@ -13,7 +13,8 @@ use Rattle.state.specs.Good.{geometry}
 use Rattle.state.specs.Bytes.{decode, encode}
 use Rattle.calls.specs.Call.{Call, format, read, view, write, grow, advance, out, rebuild, status, locate, owner}
 use Rattle.calls.specs.Call.{Event, fed, Answer, refused, done, bytes, made, figures, placed, owned}
-use Rattle.calls.specs.Health.{absent, afterOut, formatted, grownBy, withMoves, withHealth}
+use Rattle.state.specs.Update.{formatted, grownBy, withMoves, withHealth}
+use Rattle.calls.specs.Health.{absent, afterOut}
 use Rattle.calls.specs.Images.{placeIn, othersIn, seen, Store, block, header, storedIn, recorded, unless, fillDisk, zeroDisks}
 use Rattle.calls.specs.Table.{idle, refusalOf, refusalBytes}
 

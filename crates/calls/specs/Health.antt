@@ -1,10 +1,9 @@
--- What the health of an array means for a disk, and the records that calls leave.
+-- What the health of an array means for a disk, and what becomes of it.
 use Prim.Native.Nat.{ℕ}
 use mathlib.Core.Bool.{Bool, true, false}
 use lib.Dec.{eqb}
 use Rattle.state.specs.declared.Health.the-variants.{Whole, Out, Lost}
 use Rattle.state.specs.declared.Health.{Health}
-use Rattle.state.specs.declared.Record.{Record}
 
 abbrev pub isLost : Health → Bool
 isLost Whole = false
@@ -32,19 +31,3 @@ abbrev pub afterOut : Health → ℕ → Health
 afterOut Whole d = Out d
 afterOut (Out o) d = Lost
 afterOut Lost d = Lost
-
--- ---- records
-
--- "**Format** (n, B, T): .. record whole, m = t = 0"
-abbrev pub formatted : ℕ → ℕ → ℕ → Record
-formatted n B T = record { old = n; new = 0; health = Whole; block = B; stripes = T; moves = 0 }
-
--- "**Grow** (m): .. sets m"
-abbrev pub grownBy : Record → ℕ → Record
-grownBy r m = record { old = r .old; new = m; health = r .health; block = r .block; stripes = r .stripes; moves = 0 }
-
-abbrev pub withMoves : Record → ℕ → Record
-withMoves r t = record { old = r .old; new = r .new; health = r .health; block = r .block; stripes = r .stripes; moves = t }
-
-abbrev pub withHealth : Record → Health → Record
-withHealth r h = record { old = r .old; new = r .new; health = h; block = r .block; stripes = r .stripes; moves = r .moves }

@@ -1,21 +1,23 @@
--- The table of refusals, read row by row, and every cell of it by example. For each call and each number that the table has for it: a case where the condition of that number and
--- of every higher one holds, and no lower one's; for each number that the table does not have for it: a case where its condition
--- would hold, which is not refused; and both sides of the bounds. `rowwise` and `refusals` of proofs/Refusals.antt compute them.
-use Prim.Native.Nat.{ℕ, suc}
+-- The table of refusals, read row by row, and every cell of it by example. For each call and each number that the table has for it: a
+-- case where the condition of that number and of every higher one holds, and no lower one's; for each number that the table does not
+-- have for it: a case where its condition would hold, which is not refused; and both sides of the bounds. `rowwise` and `refusals` of
+-- proofs/Refusals.antt compute them.
+use Prim.Native.Nat.{ℕ, suc, _-_}
 use mathlib.Core.Path.{_≡_}
 use mathlib.Core.Bool.{Bool, cond}
 use mathlib.Core.List.{List, [], _∷_, _++_}
 use lib.Dec.{eqb}
-use lib.ListN.{getD, take, replicate}
+use lib.ListN.{getD, take, drop, replicate}
 use Rattle.state.specs.declared.Health.the-variants.{Whole, Out, Lost}
 use Rattle.state.specs.declared.Health.{Health}
 use Rattle.state.specs.declared.Record.{Record}
-use Rattle.state.specs.Bytes.{encode}
+use Rattle.state.specs.Bytes.{recordLength, encode}
+use Rattle.state.specs.Update.{formatted, grownBy, withMoves, withHealth}
 use Rattle.calls.specs.Call.{Call, column, format, read, view, write, grow, advance, out, rebuild, status, locate, owner}
 use Rattle.calls.specs.Table.{Row, table, refusalBytes}
 
--- ---- which calls each number is for: the table's last column, a line a number, a column a call (`column` of Call). `rowwise` proves that the rows of each call are those
--- marked here, whatever it is given.
+-- ---- which calls each number is for: the table's last column, a line a number, a column a call (`column` of Call). `rowwise` proves that
+-- the rows of each call are those marked here, whatever it is given.
 
 abbrev pub marks : List (List ℕ)
 marks =
@@ -42,26 +44,30 @@ numbers [] = []
 numbers (x ∷ rows) = x .0 ∷ numbers rows
 
 abbrev pub Rowwise : Type 0
-Rowwise = (c : Call) (short bad : Bool) (r : Record) (cap len room : ℕ) → numbers (table c short bad r cap len room) ≡ marked (column c) 1 marks
+Rowwise =
+    (c : Call) (short bad : Bool) (r : Record) (cap len room : ℕ) → numbers (table c short bad r cap len room) ≡ marked (column c) 1 marks
 
 -- ---- records, as bytes: 3 disks and 15 stripes of 2 bytes, of length 90 and capacity 30 ..
+abbrev pub fresh : Record
+fresh = formatted 3 2 15
+
 abbrev pub small : List ℕ
-small = encode (record { old = 3; new = 0; health = Whole; block = 2; stripes = 15; moves = 0 })
+small = encode fresh
 
 -- .. 3 disks and T stripes of 1 byte ..
 abbrev pub of-stripes : ℕ → List ℕ
-of-stripes T = encode (record { old = 3; new = 0; health = Whole; block = 1; stripes = T; moves = 0 })
+of-stripes T = encode (formatted 3 1 T)
 
 -- .. grown by 2, of length 150, with t of 18 moves done, and capacity 30 or at last 60
 abbrev pub grown : Health → ℕ → List ℕ
-grown h t = encode (record { old = 3; new = 2; health = h; block = 2; stripes = 15; moves = t })
+grown h t = encode (withHealth (withMoves (grownBy fresh 2) t) h)
 
--- not good; good but for the health's bytes and bytes 6 and 7, and so for byte 6; lost; not 16 bytes long
+-- not good, of 2 disks; good but for the health's bytes and bytes 6 and 7, and so for byte 6; lost; a byte short and a byte long
 abbrev pub bad : List ℕ
-bad = encode (record { old = 2; new = 2; health = Lost; block = 2; stripes = 15; moves = 18 })
+bad = encode (withHealth (withMoves (grownBy (formatted 2 2 15) 2) 18) Lost)
 
 abbrev pub spoilt : ℕ → ℕ → ℕ → ℕ → List ℕ
-spoilt health disk six seven = 3 ∷ 0 ∷ health ∷ disk ∷ 2 ∷ 0 ∷ six ∷ seven ∷ 15 ∷ 0 ∷ 0 ∷ 0 ∷ 0 ∷ 0 ∷ 0 ∷ 0 ∷ []
+spoilt health disk six seven = 3 ∷ 0 ∷ health ∷ disk ∷ 2 ∷ 0 ∷ six ∷ seven ∷ drop 8 small
 
 abbrev pub sixth : List ℕ
 sixth = spoilt 0 0 1 0
@@ -70,7 +76,7 @@ abbrev pub lost : List ℕ
 lost = grown Lost 17
 
 abbrev pub short : List ℕ
-short = take 15 small
+short = take (recordLength - 1) small
 
 abbrev pub long : List ℕ
 long = small ++ 0 ∷ []
@@ -94,7 +100,8 @@ reads c =
     -- 1, 2
     asks short (c 30 1) 89 1 ∷ asks bad (c 30 1) 89 1 ∷ asks sixth (c 30 1) 89 1 ∷ asks lost (c 30 1) 149 1
     -- 7, 8, 9, none
-    ∷ asks (grown Whole 17) (c 30 1) 149 1 ∷ asks (grown Whole 17) (c 30 1) 150 1 ∷ asks (grown Whole 17) (c 29 1) 150 1 ∷ asks (grown Whole 17) (c 29 2) 150 2
+    ∷ asks (grown Whole 17) (c 30 1) 149 1 ∷ asks (grown Whole 17) (c 30 1) 150 1
+    ∷ asks (grown Whole 17) (c 29 1) 150 1 ∷ asks (grown Whole 17) (c 29 2) 150 2
     -- degraded, grown and idle are no matter
     ∷ asks (grown (Out 4) 17) (c 29 2) 150 2 ∷ asks (grown Whole 18) (c 59 2) 150 2 ∷ asks small (c 29 2) 90 2
     -- the other sides of the bounds
@@ -118,7 +125,8 @@ pub record Refusals : Type 0 where
   -- 1 for its length alone; 6, 7; health lost, a bad record, m and t are no matter
   pub formats :
       asks short (format 2 2 15) 89 0 ∷ asks small (format 2 2 15) 89 0 ∷ asks small (format 3 2 15) 89 0 ∷ asks small (format 3 2 15) 90 0
-      ∷ asks bad (format 3 2 15) 90 0 ∷ asks sixth (format 3 2 15) 90 0 ∷ asks lost (format 3 2 15) 90 0 ∷ asks (grown (Out 1) 18) (format 3 2 15) 90 0
+      ∷ asks bad (format 3 2 15) 90 0 ∷ asks sixth (format 3 2 15) 90 0
+      ∷ asks lost (format 3 2 15) 90 0 ∷ asks (grown (Out 1) 18) (format 3 2 15) 90 0
       ∷ asks small (format 17 2 15) 510 0 ∷ asks small (format 3 0 15) 0 0 ∷ asks small (format 3 2 0) 0 0
       ∷ []
       ≡ 1 ∷ 6 ∷ 7 ∷ 0 ∷ 0 ∷ 0 ∷ 0 ∷ 0 ∷ 6 ∷ 6 ∷ 6 ∷ []
@@ -129,7 +137,8 @@ pub record Refusals : Type 0 where
   pub write-room : asks small (write 29 (bytes 2)) 90 1 ≡ 0
   -- 1, 2, 3, 4, 6, 7, none; m of 0 and of 17, T no multiple
   pub grows :
-      asks short (grow 0) 89 0 ∷ asks bad (grow 0) 89 0 ∷ asks lost (grow 0) 89 0 ∷ asks (grown (Out 4) 17) (grow 0) 89 0 ∷ asks (grown Whole 17) (grow 0) 89 0
+      asks short (grow 0) 89 0 ∷ asks bad (grow 0) 89 0 ∷ asks lost (grow 0) 89 0
+      ∷ asks (grown (Out 4) 17) (grow 0) 89 0 ∷ asks (grown Whole 17) (grow 0) 89 0
       ∷ asks small (grow 0) 89 0 ∷ asks small (grow 2) 149 0 ∷ asks small (grow 2) 150 0
       ∷ asks small (grow 17) 600 0 ∷ asks small (grow 1) 120 0 ∷ asks small (grow 2) 90 0
       ∷ asks (of-stripes 57) (grow 16) 1083 0 ∷ asks (of-stripes 60) (grow 17) 1200 0 ∷ asks (of-stripes 12) (grow 1) 48 0
@@ -137,36 +146,43 @@ pub record Refusals : Type 0 where
       ≡ 1 ∷ 1 ∷ 2 ∷ 3 ∷ 4 ∷ 6 ∷ 7 ∷ 0 ∷ 6 ∷ 6 ∷ 7 ∷ 0 ∷ 6 ∷ 0 ∷ []
   -- 1, 2, 3, 5, 7, none; 5 with m = 0; k = 0 is no refusal
   pub advances :
-      asks short (advance 1) 149 0 ∷ asks bad (advance 1) 149 0 ∷ asks lost (advance 1) 149 0 ∷ asks (grown (Out 4) 18) (advance 1) 149 0 ∷ asks (grown Whole 18) (advance 1) 149 0
+      asks short (advance 1) 149 0 ∷ asks bad (advance 1) 149 0 ∷ asks lost (advance 1) 149 0
+      ∷ asks (grown (Out 4) 18) (advance 1) 149 0 ∷ asks (grown Whole 18) (advance 1) 149 0
       ∷ asks (grown Whole 17) (advance 1) 149 0 ∷ asks (grown Whole 17) (advance 1) 150 0
       ∷ asks small (advance 1) 90 0 ∷ asks (grown Whole 17) (advance 0) 150 0 ∷ asks (grown Whole 0) (advance 1) 150 0
       ∷ []
       ≡ 1 ∷ 1 ∷ 2 ∷ 3 ∷ 5 ∷ 7 ∷ 0 ∷ 5 ∷ 0 ∷ 0 ∷ []
   -- 1, 2, 10 past the last disk and for the one that is out, none; no images are asked for
   pub outs :
-      asks short (out 5) 0 0 ∷ asks bad (out 5) 0 0 ∷ asks lost (out 5) 0 0 ∷ asks (grown Whole 17) (out 5) 0 0 ∷ asks (grown (Out 4) 17) (out 4) 0 0
-      ∷ asks (grown Whole 17) (out 4) 0 0 ∷ asks (grown (Out 4) 17) (out 3) 0 0 ∷ asks (grown (Out 4) 17) (out 5) 0 0 ∷ asks small (out 3) 0 0 ∷ asks small (out 2) 0 0
+      asks short (out 5) 0 0 ∷ asks bad (out 5) 0 0 ∷ asks lost (out 5) 0 0
+      ∷ asks (grown Whole 17) (out 5) 0 0 ∷ asks (grown (Out 4) 17) (out 4) 0 0
+      ∷ asks (grown Whole 17) (out 4) 0 0 ∷ asks (grown (Out 4) 17) (out 3) 0 0
+      ∷ asks (grown (Out 4) 17) (out 5) 0 0 ∷ asks small (out 3) 0 0 ∷ asks small (out 2) 0 0
       ∷ []
       ≡ 1 ∷ 1 ∷ 2 ∷ 10 ∷ 10 ∷ 0 ∷ 0 ∷ 10 ∷ 10 ∷ 0 ∷ []
   -- 1, 2, 7, 10 for another disk and for any if none is out, none
   pub rebuilds :
-      asks short (rebuild 3) 149 0 ∷ asks bad (rebuild 3) 149 0 ∷ asks lost (rebuild 3) 149 0 ∷ asks (grown (Out 4) 17) (rebuild 3) 149 0 ∷ asks (grown (Out 4) 17) (rebuild 3) 150 0
+      asks short (rebuild 3) 149 0 ∷ asks bad (rebuild 3) 149 0 ∷ asks lost (rebuild 3) 149 0
+      ∷ asks (grown (Out 4) 17) (rebuild 3) 149 0 ∷ asks (grown (Out 4) 17) (rebuild 3) 150 0
       ∷ asks (grown (Out 4) 17) (rebuild 4) 150 0 ∷ asks (grown Whole 17) (rebuild 0) 150 0
-      ∷ asks (grown (Out 4) 18) (rebuild 4) 150 0 ∷ asks (encode (record { old = 3; new = 0; health = Out 1; block = 2; stripes = 15; moves = 0 })) (rebuild 1) 90 0
+      ∷ asks (grown (Out 4) 18) (rebuild 4) 150 0 ∷ asks (encode (withHealth fresh (Out 1))) (rebuild 1) 90 0
       ∷ []
       ≡ 1 ∷ 1 ∷ 2 ∷ 7 ∷ 10 ∷ 0 ∷ 10 ∷ 0 ∷ 0 ∷ []
   -- 1, and nothing else
-  pub statuses : asks short status 0 0 ∷ asks bad status 0 0 ∷ asks sixth status 0 0 ∷ asks lost status 0 0 ∷ asks (grown (Out 4) 18) status 0 0 ∷ []
+  pub statuses :
+      asks short status 0 0 ∷ asks bad status 0 0 ∷ asks sixth status 0 0 ∷ asks lost status 0 0 ∷ asks (grown (Out 4) 18) status 0 0 ∷ []
       ≡ 1 ∷ 1 ∷ 1 ∷ 0 ∷ 0 ∷ []
   -- 1, 8, none; health and images are no matter
   pub locates :
-      asks short (locate 30) 0 0 ∷ asks bad (locate 30) 0 0 ∷ asks small (locate 30) 0 0 ∷ asks small (locate 29) 0 0 ∷ asks lost (locate 29) 0 0 ∷ asks lost (locate 30) 0 0
+      asks short (locate 30) 0 0 ∷ asks bad (locate 30) 0 0 ∷ asks small (locate 30) 0 0
+      ∷ asks small (locate 29) 0 0 ∷ asks lost (locate 29) 0 0 ∷ asks lost (locate 30) 0 0
       ∷ asks (grown (Out 4) 18) (locate 59) 0 0 ∷ asks (grown (Out 4) 18) (locate 60) 0 0
       ∷ []
       ≡ 1 ∷ 1 ∷ 8 ∷ 0 ∷ 0 ∷ 8 ∷ 0 ∷ 8 ∷ []
   -- 1, 8 by the stripe, 10 by the disk, none; health and images are no matter
   pub owners :
-      asks short (owner 15 5) 0 0 ∷ asks bad (owner 15 5) 0 0 ∷ asks lost (owner 15 5) 0 0 ∷ asks lost (owner 14 5) 0 0 ∷ asks lost (owner 14 4) 0 0
+      asks short (owner 15 5) 0 0 ∷ asks bad (owner 15 5) 0 0 ∷ asks lost (owner 15 5) 0 0
+      ∷ asks lost (owner 14 5) 0 0 ∷ asks lost (owner 14 4) 0 0
       ∷ asks small (owner 14 3) 0 0 ∷ asks small (owner 14 2) 0 0
       ∷ []
       ≡ 1 ∷ 1 ∷ 8 ∷ 10 ∷ 0 ∷ 10 ∷ 0 ∷ []

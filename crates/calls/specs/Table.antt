@@ -8,7 +8,7 @@ use Rattle.layout.specs.declared.Geometry.{Geometry}
 use Rattle.layout.specs.Layout.{totalOf, capacity}
 use Rattle.state.specs.declared.Record.{Record}
 use Rattle.state.specs.Good.{geometry, oldGood, newGood, blockGood, stripesGood, good}
-use Rattle.state.specs.Bytes.{decode, goodBytes}
+use Rattle.state.specs.Bytes.{recordLength, decode, goodBytes}
 use Rattle.calls.specs.Call.{Call, sameCall, format, read, view, write, grow, advance, out, rebuild, status, locate, owner, Fed}
 use Rattle.calls.specs.Health.{isLost, isDegraded, isOut}
 use Rattle.calls.specs.Images.{disksOf, size, sizeWith}
@@ -112,7 +112,7 @@ laterRows x r c len room = let t = terms x r in t .before ++ (imagesRow (t .take
 abbrev pub looks : Call → Bool
 looks x = not (sameCall x (format 0 0 0))
 
--- all its rows, the lowest number first: `short` says that the record is not 16 bytes long, `bad` that it is not good
+-- all its rows, the lowest number first: `short` says that the record is too short or too long, `bad` that it is not good
 unfoldable pub table : Call → Bool → Bool → Record → ℕ → ℕ → ℕ → List Row
 table x short bad r c len room = badRecord (cond (looks x) (short || bad) short) ∷ laterRows x r c len room
 
@@ -145,7 +145,7 @@ refusalOf r e = refusal r (capacity (geometry r)) e
 unfoldable pub rowsBytes : List ℕ → Fed → List Row
 rowsBytes b e =
     let r = decode b in
-    table (e .call) (not (eqb (length b) 16)) (not (goodBytes b)) r (capacity (geometry r)) (e .images) (e .room)
+    table (e .call) (not (eqb (length b) recordLength)) (not (goodBytes b)) r (capacity (geometry r)) (e .images) (e .room)
 
 unfoldable pub refusalBytes : List ℕ → Fed → ℕ
 refusalBytes b e = word (rowsBytes b e)

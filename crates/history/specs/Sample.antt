@@ -8,8 +8,9 @@ use lib.ListN.{take, drop}
 use Rattle.layout.specs.declared.Role.the-variants.{Data, Parity, Blank}
 use Rattle.layout.specs.Home.{placeAt}
 use Rattle.state.specs.declared.Health.the-variants.{Whole, Out, Lost}
-use Rattle.state.specs.Bytes.{decode}
-use Rattle.calls.specs.Call.{Call, format, read, view, write, grow, advance, out, rebuild, status, locate, owner, Event, fed, Answer, refused, done, bytes, made, figures, placed, owned}
+use Rattle.state.specs.Bytes.{recordLength, decode}
+use Rattle.calls.specs.Call.{Call, format, read, view, write, grow, advance, out, rebuild, status, locate, owner, Event, fed}
+use Rattle.calls.specs.Call.{Answer, refused, done, bytes, made, figures, placed, owned}
 use Rattle.history.specs.Flat.{Flat, flat}
 use Rattle.history.specs.Lent.{asBytes, Cabinet, next}
 use Rattle.history.specs.Theorem.{Fair, outcomes, flatOutcomes}
@@ -179,11 +180,11 @@ script = begun ++ growing ++ degraded ++ finished ++ turnedAway ++ lost ++ anew
 
 -- the array: nonsense, of the lengths that the format asks for
 abbrev pub cabinet : Cabinet (List ℕ)
-cabinet = record { rec = junk 91 16; img = junk 57 72 }
+cabinet = record { rec = junk 91 recordLength; img = junk 57 72 }
 
 -- the flat list: the same nonsense as numbers, and no blocks
 abbrev pub list : Flat
-list = flat (decode (junk 91 16)) []
+list = flat (decode (junk 91 recordLength)) []
 
 -- ---- the answers
 

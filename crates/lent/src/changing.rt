@@ -14,7 +14,8 @@ use state::Record;
 pub fn format(rec: &mut Record, images: &mut [u8], n: u64, block: u64, stripes: u64) -> u8
     ensures answer { λ k. ⌜ k ≡ number (called (on (format n block stripes) (now (images .entry)) []) (now (rec .entry)) .answer) ⌝ }
     ensures state { λ _. ⌜ now (rec .exit) ≡ called (on (format n block stripes) (now (images .entry)) []) (now (rec .entry)) .state ⌝ }
-    ensures images { λ _. ⌜ now (images .exit) ≡ called (on (format n block stripes) (now (images .entry)) []) (now (rec .entry)) .images ⌝ }
+    ensures images { λ _. ⌜ now (images .exit) ≡
+        called (on (format n block stripes) (now (images .entry)) []) (now (rec .entry)) .images ⌝ }
 {
     let r = *rec;
     let s = format_step(r, images, n, block, stripes);
@@ -34,7 +35,8 @@ pub fn grow(rec: &mut Record, images: &mut [u8], m: u64) -> u8
 }
 
 pub fn advance(rec: &mut Record, images: &mut [u8], k: u64) -> Count
-    ensures answer { λ c. ⌜ (c .number ≡ number (called (on (advance k) (now (images .entry)) []) (now (rec .entry)) .answer)) × (c .made ≡ count (called (on (advance k) (now (images .entry)) []) (now (rec .entry)) .answer)) ⌝ }
+    ensures answer { λ c. ⌜ (c .number ≡ number (called (on (advance k) (now (images .entry)) []) (now (rec .entry)) .answer))
+        × (c .made ≡ count (called (on (advance k) (now (images .entry)) []) (now (rec .entry)) .answer)) ⌝ }
     ensures state { λ _. ⌜ now (rec .exit) ≡ called (on (advance k) (now (images .entry)) []) (now (rec .entry)) .state ⌝ }
     ensures images { λ _. ⌜ now (images .exit) ≡ called (on (advance k) (now (images .entry)) []) (now (rec .entry)) .images ⌝ }
 {

@@ -1,5 +1,5 @@
-// The eleven calls on a lent record. Document 01: "Inside the library the record is lent and holds the next state when a call returns." Each is thin:
-// it copies the record out, makes the call of `array` on it, and stores the record that is left.
+// The eleven calls on a lent record. Document 01: "Inside the library the record is lent and holds the next state when a call returns."
+// Each is thin: it copies the record out, makes the call of `array` on it, and stores the record that is left.
 mod asking;
 mod changing;
 mod reaching;

@@ -68,7 +68,8 @@ pub fn grow_step(r: Record, images: &mut [u8], m: u64) -> Step
 }
 
 pub fn advance_step(r: Record, images: &mut [u8], k: u64) -> Progress
-    ensures answer { λ s. ⌜ (s .count .number ≡ number (called (on (advance k) (now (images .entry)) []) r .answer)) × (s .count .made ≡ count (called (on (advance k) (now (images .entry)) []) r .answer)) ⌝ }
+    ensures answer { λ s. ⌜ (s .count .number ≡ number (called (on (advance k) (now (images .entry)) []) r .answer))
+        × (s .count .made ≡ count (called (on (advance k) (now (images .entry)) []) r .answer)) ⌝ }
     ensures state { λ s. ⌜ s .rec ≡ called (on (advance k) (now (images .entry)) []) r .state ⌝ }
     ensures images { λ _. ⌜ now (images .exit) ≡ called (on (advance k) (now (images .entry)) []) r .images ⌝ }
 {

@@ -23,7 +23,8 @@ pub extern "C" fn pbm_status(
     out: &mut u64,
 ) -> u8
     ensures answer { λ k. ⌜ k ≡ number (calledBytes (on status [] []) (now (rec .entry)) .answer) ⌝ }
-    ensures beside { λ _. ⌜ (now (capacity .exit) ∷ now (moves .exit) ∷ now (total .exit) ∷ now (health .exit) ∷ now (out .exit) ∷ []) ≡ beside 5 (calledBytes (on status [] []) (now (rec .entry)) .answer) ⌝ }
+    ensures beside { λ _. ⌜ (now (capacity .exit) ∷ now (moves .exit) ∷ now (total .exit) ∷ now (health .exit) ∷ now (out .exit) ∷ []) ≡
+        beside 5 (calledBytes (on status [] []) (now (rec .entry)) .answer) ⌝ }
 {
     *capacity = 0;
     *moves = 0;
@@ -55,7 +56,8 @@ pub extern "C" fn pbm_status(
 #[no_mangle]
 pub extern "C" fn pbm_locate(rec: &[u8], b: u64, stripe: &mut u64, disk: &mut u64) -> u8
     ensures answer { λ k. ⌜ k ≡ number (calledBytes (on (locate b) [] []) (now (rec .entry)) .answer) ⌝ }
-    ensures beside { λ _. ⌜ (now (stripe .exit) ∷ now (disk .exit) ∷ []) ≡ beside 2 (calledBytes (on (locate b) [] []) (now (rec .entry)) .answer) ⌝ }
+    ensures beside { λ _. ⌜ (now (stripe .exit) ∷ now (disk .exit) ∷ []) ≡
+        beside 2 (calledBytes (on (locate b) [] []) (now (rec .entry)) .answer) ⌝ }
 {
     *stripe = 0;
     *disk = 0;
@@ -76,7 +78,8 @@ pub extern "C" fn pbm_locate(rec: &[u8], b: u64, stripe: &mut u64, disk: &mut u6
 #[no_mangle]
 pub extern "C" fn pbm_owner(rec: &[u8], s: u64, d: u64, role: &mut u64, block: &mut u64) -> u8
     ensures answer { λ k. ⌜ k ≡ number (calledBytes (on (owner s d) [] []) (now (rec .entry)) .answer) ⌝ }
-    ensures beside { λ _. ⌜ (now (role .exit) ∷ now (block .exit) ∷ []) ≡ beside 2 (calledBytes (on (owner s d) [] []) (now (rec .entry)) .answer) ⌝ }
+    ensures beside { λ _. ⌜ (now (role .exit) ∷ now (block .exit) ∷ []) ≡
+        beside 2 (calledBytes (on (owner s d) [] []) (now (rec .entry)) .answer) ⌝ }
 {
     *role = 0;
     *block = 0;
@@ -95,7 +98,7 @@ pub extern "C" fn pbm_owner(rec: &[u8], s: u64, d: u64, role: &mut u64, block: &
 }
 
 fn role_number(o: Role) -> u64
-    ensures { λ x. ⌜ x ≡ roleNumber o ⌝ }
+    ensures number { λ x. ⌜ x ≡ roleNumber o ⌝ }
 {
     match o {
         Role::Blank => 0,
@@ -105,7 +108,7 @@ fn role_number(o: Role) -> u64
 }
 
 fn role_block(o: Role) -> u64
-    ensures { λ x. ⌜ x ≡ roleBlock o ⌝ }
+    ensures block { λ x. ⌜ x ≡ roleBlock o ⌝ }
 {
     match o {
         Role::Blank => 0,

@@ -5,9 +5,9 @@ ghost use Rattle.calls.specs.Call.{format, grow, advance, out, rebuild, on, num
 ghost use Rattle.calls.specs.Effect.{calledBytes};
 use crate::closing::close;
 use crate::closing::close_advance;
-use crate::opening::RECORD_LENGTH;
 use crate::opening::is_readable;
 use array::RECORD;
+use state::RECORD_LENGTH;
 use state::decode;
 
 #[no_mangle]
@@ -19,8 +19,10 @@ pub extern "C" fn pbm_format(
     stripes: u64,
 ) -> u8
     ensures answer { λ k. ⌜ k ≡ number (calledBytes (on (format n block stripes) (now (images .entry)) []) (now (rec .entry)) .answer) ⌝ }
-    ensures state { λ _. ⌜ now (rec .exit) ≡ calledBytes (on (format n block stripes) (now (images .entry)) []) (now (rec .entry)) .state ⌝ }
-    ensures images { λ _. ⌜ now (images .exit) ≡ calledBytes (on (format n block stripes) (now (images .entry)) []) (now (rec .entry)) .images ⌝ }
+    ensures state { λ _. ⌜ now (rec .exit) ≡
+        calledBytes (on (format n block stripes) (now (images .entry)) []) (now (rec .entry)) .state ⌝ }
+    ensures images { λ _. ⌜ now (images .exit) ≡
+        calledBytes (on (format n block stripes) (now (images .entry)) []) (now (rec .entry)) .images ⌝ }
 {
     if rec.len() != RECORD_LENGTH {
         return RECORD;
@@ -43,7 +45,8 @@ pub extern "C" fn pbm_grow(rec: &mut [u8], images: &mut [u8], m: u64) -> u8
 #[no_mangle]
 pub extern "C" fn pbm_advance(rec: &mut [u8], images: &mut [u8], k: u64, made: &mut u64) -> u8
     ensures answer { λ x. ⌜ x ≡ number (calledBytes (on (advance k) (now (images .entry)) []) (now (rec .entry)) .answer) ⌝ }
-    ensures beside { λ _. ⌜ (now (made .exit) ∷ []) ≡ beside 1 (calledBytes (on (advance k) (now (images .entry)) []) (now (rec .entry)) .answer) ⌝ }
+    ensures beside { λ _. ⌜ (now (made .exit) ∷ []) ≡
+        beside 1 (calledBytes (on (advance k) (now (images .entry)) []) (now (rec .entry)) .answer) ⌝ }
     ensures state { λ _. ⌜ now (rec .exit) ≡ calledBytes (on (advance k) (now (images .entry)) []) (now (rec .entry)) .state ⌝ }
     ensures images { λ _. ⌜ now (images .exit) ≡ calledBytes (on (advance k) (now (images .entry)) []) (now (rec .entry)) .images ⌝ }
 {

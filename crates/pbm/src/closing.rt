@@ -1,6 +1,7 @@
 // The end of a call that may change the record: its bytes are written if the call was accepted, and else left alone.
 ghost use mathlib.Core.Path.{_≡_};
 ghost use lib.ListN.{length};
+ghost use Rattle.state.specs.Bytes.{recordLength};
 ghost use Rattle.array.specs.Answers.{changedAnswer, advancedAnswer};
 ghost use Rattle.calls.specs.Call.{number, count};
 ghost use Rattle.pbm.specs.Closing.{changedBytes, advancedBytes};
@@ -10,7 +11,7 @@ use state::encode;
 
 // Answers the number.
 pub(crate) fn close(rec: &mut [u8], x: Changed) -> u8
-    requires { ⌜ length (now rec) ≡ 16 ⌝ }
+    requires { ⌜ length (now rec) ≡ recordLength ⌝ }
     ensures answer { λ k. ⌜ k ≡ number (changedAnswer x) ⌝ }
     ensures state { λ _. ⌜ now (rec .exit) ≡ changedBytes x (now (rec .entry)) ⌝ }
 {
@@ -25,7 +26,7 @@ pub(crate) fn close(rec: &mut [u8], x: Changed) -> u8
 
 // The same for advance, with the moves made.
 pub(crate) fn close_advance(rec: &mut [u8], x: Advanced, made: &mut u64) -> u8
-    requires { ⌜ length (now rec) ≡ 16 ⌝ }
+    requires { ⌜ length (now rec) ≡ recordLength ⌝ }
     ensures answer { λ k. ⌜ k ≡ number (advancedAnswer x) ⌝ }
     ensures made { λ _. ⌜ now (made .exit) ≡ count (advancedAnswer x) ⌝ }
     ensures state { λ _. ⌜ now (rec .exit) ≡ advancedBytes x (now (rec .entry)) ⌝ }

@@ -1,6 +1,7 @@
-// The calls for the C line controller, as include/pbm.h has them: numbers and byte slices, the record as its 16 bytes. All but view, which returns a
-// reference. Every contract is on the bytes lent: number, numbers beside it and each slice at exit are those of `calledBytes` (crate array). The
-// length and the plainness of the record are tested here, what it says by the call of `array`: nothing is decoded or tested twice.
+// The calls for the C line controller, as include/pbm.h has them: numbers and byte slices, the record as its bytes. All but view, which
+// returns a reference. Every contract is on the bytes lent: number, numbers beside it and each slice at exit are those of `calledBytes`
+// (crate calls). The length and the plainness of the record are tested here, what it says by the call of `array`: nothing is decoded or
+// tested twice.
 mod asking;
 mod changing;
 mod closing;

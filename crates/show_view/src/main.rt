@@ -16,7 +16,6 @@ use records::grown;
 use records::moved;
 use records::rebuilt;
 use records::without;
-use state::Health;
 use state::Record;
 use viewed::view;
 
@@ -85,14 +84,7 @@ fn show_without(d: u64, r: Record, images: &[u8], b: u64, what: &[u8]) {
 
 // Not good: an array has 3 disks or more.
 fn no_array() -> Record {
-    Record {
-        old: 2,
-        new: 0,
-        health: Health::Whole,
-        block: 4,
-        stripes: 15,
-        moves: 0,
-    }
+    state::formatted(2, 4, 15)
 }
 
 // Block 4 is in stripe 2 on disk 1, block 5 on disk 0. What now stands in the place of block 4 is seen through r, by which the disk is

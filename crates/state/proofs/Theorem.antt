@@ -1,4 +1,4 @@
--- What is proved of the record: `round-trip` and `good-is`. Assumes nothing.
+-- What is proved of the record: `round-trip`, `good-is` and `updates`. Assumes nothing.
 use Prim.Native.Nat.{ℕ, _+_, _*_, _≤_}
 use mathlib.Core.Path.{_≡_, refl, subst}
 use mathlib.Core.Bool.{true}
@@ -14,8 +14,8 @@ use Rattle.state.specs.declared.Health.the-variants.{Whole, Out, Lost}
 use Rattle.state.specs.declared.Health.{Health}
 use Rattle.state.specs.declared.Record.{Record}
 use Rattle.state.specs.Good.{geometry, good, OutBelow, Limits}
-use Rattle.state.specs.Bytes.{decode, plain, goodBytes, encode, AreBytes}
-use Rattle.state.specs.Theorem.{RoundTrip, GoodIs}
+use Rattle.state.specs.Bytes.{recordLength, decode, plain, goodBytes, encode, AreBytes}
+use Rattle.state.specs.Theorem.{RoundTrip, GoodIs, Updates}
 use Rattle.state.proofs.Laws.Tests.{both}
 use Rattle.state.proofs.Laws.Good.{limits, within-limits}
 use Rattle.state.proofs.Laws.Bytes.{decode-encode, length-encode, plain-encode, Fits, bytes-encode, encode-decode}
@@ -26,7 +26,7 @@ round-trip =
     record {
       record-back = decode-encode;
       bytes-back = encode-decode;
-      plain-only = λ b r e. (subst (λ (x : List ℕ). length x ≡ 16) e (length-encode r), subst (λ (x : List ℕ). plain x ≡ true) e (plain-encode r));
+      plain-only = λ b r e. (subst (λ (x : List ℕ). length x ≡ recordLength) e (length-encode r), subst (λ (x : List ℕ). plain x ≡ true) e (plain-encode r));
       example = refl;
       whole-and-lost = (refl, refl, refl, refl);
     }
@@ -54,7 +54,7 @@ module _ (r : Record) (l : Limits r) where
       }
 
 -- good bytes are those of a good record
-good-bytes : (b : List ℕ) → AreBytes b → length b ≡ 16 → (goodBytes b ≡ true) ↔ ((r : Record) × (good r ≡ true) × (encode r ≡ b))
+good-bytes : (b : List ℕ) → AreBytes b → length b ≡ recordLength → (goodBytes b ≡ true) ↔ ((r : Record) × (good r ≡ true) × (encode r ≡ b))
 good-bytes b are long = (to, from)
   where
     to : goodBytes b ≡ true → (r : Record) × (good r ≡ true) × (encode r ≡ b)
@@ -65,3 +65,6 @@ good-bytes b are long = (to, from)
 
 pub good-is : GoodIs
 good-is = record { exactly = λ r. (limits r, within-limits r); fits = λ r l. bytes-encode r (fits r l); bytes = good-bytes }
+
+pub updates : Updates
+updates = record { formatted-is = λ n B T. refl; grown-is = λ r m. refl; moves-are = λ r t. refl; health-is = λ r h. refl }

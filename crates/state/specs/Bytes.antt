@@ -1,4 +1,4 @@
--- The record's 16 bytes. Document 01, Record: "decimal byte offsets, least byte first: 0 n; 1 m (0 before growth); 2 health
+-- The record's bytes. Document 01, Record: "decimal byte offsets, least byte first: 0 n; 1 m (0 before growth); 2 health
 -- (0 whole, 1 one disk out, 2 lost); 3 the disk that is out, 0 unless health is 1; 4–5 B; 6–7 zero; 8–11 T; 12–15 t, the
 -- moves done."
 use Prim.Native.Nat.{ℕ, _+_, _*_, _/_, _%_, _<_}
@@ -10,6 +10,10 @@ use Rattle.state.specs.declared.Health.the-variants.{Whole, Out, Lost}
 use Rattle.state.specs.declared.Health.{Health}
 use Rattle.state.specs.declared.Record.{Record}
 use Rattle.state.specs.Good.{good}
+
+-- "with the record as 16 bytes"
+abbrev pub recordLength : ℕ
+recordLength = 16
 
 -- ---- from bytes
 
@@ -23,7 +27,7 @@ four a b c d = a + 256 * b + 65536 * c + 16777216 * d
 abbrev pub healthOf : ℕ → ℕ → Health
 healthOf h d = cond (eqb h 0) Whole (cond (eqb h 1) (Out d) Lost)
 
--- the record that 16 bytes spell, good or not
+-- the record that so many bytes spell, good or not
 unfoldable pub decode : List ℕ → Record
 decode b =
     record {

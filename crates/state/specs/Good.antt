@@ -48,7 +48,8 @@ healthGood N Lost = true
 
 unfoldable pub good : Record → Bool
 good r =
-    oldGood (r .old) && (blockGood (r .block) && (stripesGood (r .stripes) && (movesGood (geometry r) && healthGood (r .old + r .new) (r .health))))
+    oldGood (r .old) && (blockGood (r .block) && (stripesGood (r .stripes)
+    && (movesGood (geometry r) && healthGood (r .old + r .new) (r .health))))
 
 -- ---- the same as facts (`GoodIs.exactly` of Theorem)
 

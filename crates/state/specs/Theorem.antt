@@ -1,4 +1,5 @@
--- What is proved of the record: `RoundTrip` and `GoodIs`; `round-trip` and `good-is` of proofs/Theorem.antt prove them.
+-- What is proved of the record: `RoundTrip`, `GoodIs` and `Updates`; `round-trip`, `good-is` and `updates` of proofs/Theorem.antt prove
+-- them.
 use Prim.Native.Nat.{ℕ}
 use mathlib.Core.Path.{_≡_}
 use mathlib.Core.Bool.{true}
@@ -6,16 +7,18 @@ use mathlib.Core.Logic.{_↔_}
 use mathlib.Core.List.{List, [], _∷_}
 use lib.ListN.{length}
 use Rattle.state.specs.declared.Health.the-variants.{Whole, Out, Lost}
+use Rattle.state.specs.declared.Health.{Health}
 use Rattle.state.specs.declared.Record.{Record}
 use Rattle.state.specs.Good.{good, Limits}
-use Rattle.state.specs.Bytes.{decode, plain, goodBytes, healthByte, diskByte, encode, AreBytes}
+use Rattle.state.specs.Bytes.{recordLength, decode, plain, goodBytes, healthByte, diskByte, encode, AreBytes}
+use Rattle.state.specs.Update.{formatted, grownBy, withMoves, withHealth}
 
--- "with the record as 16 bytes": in and out
+-- the record and its bytes: in and out
 pub record RoundTrip : Type 0 where
   pub record-back : (r : Record) → decode (encode r) ≡ r
-  pub bytes-back : (b : List ℕ) → AreBytes b → length b ≡ 16 → plain b ≡ true → encode (decode b) ≡ b
-  -- and 16 bytes that are not `plain` are those of no record
-  pub plain-only : (b : List ℕ) (r : Record) → encode r ≡ b → (length b ≡ 16) × (plain b ≡ true)
+  pub bytes-back : (b : List ℕ) → AreBytes b → length b ≡ recordLength → plain b ≡ true → encode (decode b) ≡ b
+  -- and bytes that are not `plain` are those of no record
+  pub plain-only : (b : List ℕ) (r : Record) → encode r ≡ b → (length b ≡ recordLength) × (plain b ≡ true)
   -- worked out by hand: n = 5, m = 7, disk 11 out, B = 515, T = 67,305,985, t = 134,678,021; and the health bytes of the others
   pub example : encode (record { old = 5; new = 7; health = Out 11; block = 515; stripes = 67305985; moves = 134678021 })
       ≡ 5 ∷ 7 ∷ 1 ∷ 11 ∷ 3 ∷ 2 ∷ 0 ∷ 0 ∷ 1 ∷ 2 ∷ 3 ∷ 4 ∷ 5 ∷ 6 ∷ 7 ∷ 8 ∷ []
@@ -26,5 +29,20 @@ pub record GoodIs : Type 0 where
   pub exactly : (r : Record) → (good r ≡ true) ↔ Limits r
   -- its bytes are bytes
   pub fits : (r : Record) → Limits r → AreBytes (encode r)
-  -- and 16 bytes are good exactly if they are those of a good record: "bytes 6–7 zero included"
-  pub bytes : (b : List ℕ) → AreBytes b → length b ≡ 16 → (goodBytes b ≡ true) ↔ ((r : Record) × (good r ≡ true) × (encode r ≡ b))
+  -- and so many bytes are good exactly if they are those of a good record: "bytes 6–7 zero included"
+  pub bytes : (b : List ℕ) → AreBytes b → length b ≡ recordLength
+      → (goodBytes b ≡ true) ↔ ((r : Record) × (good r ≡ true) × (encode r ≡ b))
+
+-- What every field is behind each update. One equation holds them all: a field more, and these lines have to say what becomes of it.
+pub record Updates : Type 0 where
+  -- "record whole, m = t = 0"; n, B, T as given
+  pub formatted-is : (n B T : ℕ) → formatted n B T ≡ record { old = n; new = 0; health = Whole; block = B; stripes = T; moves = 0 }
+  -- m as given, and no move is done yet
+  pub grown-is : (r : Record) (m : ℕ)
+      → grownBy r m ≡ record { old = r .old; new = m; health = r .health; block = r .block; stripes = r .stripes; moves = 0 }
+  -- t alone
+  pub moves-are : (r : Record) (t : ℕ)
+      → withMoves r t ≡ record { old = r .old; new = r .new; health = r .health; block = r .block; stripes = r .stripes; moves = t }
+  -- the health alone: a growth that a lost disk halts goes on where it stopped
+  pub health-is : (r : Record) (h : Health)
+      → withHealth r h ≡ record { old = r .old; new = r .new; health = h; block = r .block; stripes = r .stripes; moves = r .moves }

@@ -1,9 +1,12 @@
-// The record's 16 bytes, in and out. Reading tests nothing: `is_plain` and `is_good` are apart, so that no caller tests twice.
+// The record's bytes, in and out. Reading tests nothing: `is_plain` and `is_good` are apart, so that no caller tests twice.
 ghost use mathlib.Core.Path.{_≡_};
 ghost use lib.ListN.{length};
-ghost use Rattle.state.specs.Bytes.{two, four, healthOf, decode, healthPlain, plain, healthByte, diskByte, encode};
+ghost use Rattle.state.specs.Bytes.{recordLength, two, four, healthOf, decode, healthPlain, plain, healthByte, diskByte, encode};
 use crate::Health;
 use crate::Record;
+
+// How many they are: `recordLength`.
+pub const RECORD_LENGTH: usize = 16;
 
 // Is the health byte 0 to 2, and the disk byte zero unless it is 1?
 fn health_is_plain(h: u8, d: u8) -> bool
@@ -20,7 +23,7 @@ fn health_is_plain(h: u8, d: u8) -> bool
 
 // Are these the bytes of a record, good or not?
 pub fn is_plain(bytes: &[u8]) -> bool
-    requires { ⌜ length (now bytes) ≡ 16 ⌝ }
+    requires { ⌜ length (now bytes) ≡ recordLength ⌝ }
     ensures { λ r. ⌜ r ≡ plain (now (bytes .entry)) ⌝ }
 {
     if !health_is_plain(bytes[2], bytes[3]) {
@@ -61,7 +64,7 @@ fn join_four(a: u8, b: u8, c: u8, d: u8) -> u32
 
 // The record that the bytes spell.
 pub fn decode(bytes: &[u8]) -> Record
-    requires { ⌜ length (now bytes) ≡ 16 ⌝ }
+    requires { ⌜ length (now bytes) ≡ recordLength ⌝ }
     ensures { λ r. ⌜ r ≡ decode (now (bytes .entry)) ⌝ }
 {
     Record {
@@ -98,7 +101,7 @@ pub fn disk_byte(health: Health) -> u8
 
 // Writes the record's bytes.
 pub fn encode(r: Record, bytes: &mut [u8])
-    requires { ⌜ length (now bytes) ≡ 16 ⌝ }
+    requires { ⌜ length (now bytes) ≡ recordLength ⌝ }
     ensures { λ _. ⌜ now (bytes .exit) ≡ encode r ⌝ }
 {
     let health = r.health;

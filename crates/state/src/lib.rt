@@ -1,8 +1,10 @@
-// The record of an array: its fields, which ones are good, and its 16 bytes. Contracts cite the definitions of specs/, which
-// follow document 01.
+// The record of an array: its fields, which ones are good, its bytes, and those that calls leave. Contracts cite the definitions of
+// specs/, which follow document 01.
 mod bytes;
 mod good;
+mod update;
 
+pub use bytes::RECORD_LENGTH;
 pub use bytes::decode;
 pub use bytes::disk_byte;
 pub use bytes::encode;
@@ -14,6 +16,10 @@ pub use good::is_good;
 pub use good::new_is_good;
 pub use good::old_is_good;
 pub use good::stripes_are_good;
+pub use update::formatted;
+pub use update::grown_by;
+pub use update::with_health;
+pub use update::with_moves;
 
 // All disks are in; the one that is out; or two were out at once, and nothing can be read until a new format.
 pub enum Health {

@@ -16,7 +16,6 @@ use Rattle.state.specs.declared.Health.{Health}
 use Rattle.state.specs.declared.Record.{Record}
 use Rattle.state.specs.Good.{geometry, OutBelow, Limits}
 use Rattle.calls.specs.Call.{rebuild, feed, on, done}
-use Rattle.calls.specs.Health.{withHealth}
 use Rattle.calls.specs.Images.{disksOf, size, othersIn, block, stored, fillDisk}
 use Rattle.calls.specs.Table.{refusalOf}
 use Rattle.calls.specs.Effect.{effect, called}

@@ -21,7 +21,6 @@ use Rattle.blocks.proofs.Laws.Stripe.{place-in}
 use Rattle.state.specs.declared.Record.{Record}
 use Rattle.state.specs.Good.{geometry, Limits}
 use Rattle.calls.specs.Call.{advance, feed, on, made}
-use Rattle.calls.specs.Health.{withMoves}
 use Rattle.calls.specs.Images.{disksOf, size, Store, stored, recorded}
 use Rattle.calls.specs.Table.{idle, refusalOf}
 use Rattle.calls.specs.Effect.{moveStores, advanceStores, effect, Left, called}

@@ -11,7 +11,6 @@ use Rattle.state.specs.declared.Record.{Record}
 use Rattle.state.specs.Good.{geometry, Limits}
 use Rattle.state.proofs.Laws.Good.{new-good}
 use Rattle.calls.specs.Call.{format, grow, feed, on, done}
-use Rattle.calls.specs.Health.{formatted, grownBy}
 use Rattle.calls.specs.Images.{zeroDisks}
 use Rattle.calls.specs.Table.{refusalOf}
 use Rattle.calls.specs.Effect.{effect, called}

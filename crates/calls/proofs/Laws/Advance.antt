@@ -21,8 +21,9 @@ use Rattle.state.specs.declared.Health.the-variants.{Whole}
 use Rattle.state.specs.declared.Health.{Health}
 use Rattle.state.specs.declared.Record.{Record}
 use Rattle.state.specs.Good.{geometry}
+use Rattle.state.specs.Update.{withMoves}
 use Rattle.calls.specs.Call.{advance, made}
-use Rattle.calls.specs.Health.{isLost, absent, withMoves}
+use Rattle.calls.specs.Health.{isLost, absent}
 use Rattle.calls.specs.Images.{disksOf, size, placeIn, Store, block, stored, recorded}
 use Rattle.calls.specs.Table.{idle, laterRows, word}
 use Rattle.calls.specs.Effect.{moveStores, advanceStores, parityAfter, effect, act}

@@ -15,10 +15,11 @@ use Rattle.blocks.proofs.Laws.Rows.{sum-zero}
 use Rattle.blocks.proofs.Laws.Xor.{getD-zeros}
 use Rattle.state.specs.declared.Record.{Record}
 use Rattle.state.specs.Good.{geometry, oldGood, blockGood, stripesGood, Limits}
+use Rattle.state.specs.Update.{formatted}
 use Rattle.state.proofs.Laws.Good.{within-true}
 use Rattle.state.proofs.Laws.Tests.{both}
 use Rattle.calls.specs.Call.{format, done}
-use Rattle.calls.specs.Health.{absent, formatted}
+use Rattle.calls.specs.Health.{absent}
 use Rattle.calls.specs.Images.{disksOf, size, Store, stored, zeroDisks}
 use Rattle.calls.specs.Table.{formable, laterRows, word}
 use Rattle.calls.specs.Effect.{effect, act}

@@ -20,9 +20,10 @@ use Rattle.blocks.proofs.Laws.Rows.{sum-ext, sum-extend}
 use Rattle.state.specs.declared.Health.the-variants.{Whole}
 use Rattle.state.specs.declared.Record.{Record}
 use Rattle.state.specs.Good.{geometry, newGood}
+use Rattle.state.specs.Update.{grownBy}
 use Rattle.state.proofs.Laws.Good.{new-good}
 use Rattle.calls.specs.Call.{grow, done}
-use Rattle.calls.specs.Health.{isLost, absent, grownBy}
+use Rattle.calls.specs.Health.{isLost, absent}
 use Rattle.calls.specs.Images.{disksOf, sizeWith, Store, stored, zeroDisks}
 use Rattle.calls.specs.Table.{laterRows, word}
 use Rattle.calls.specs.Effect.{effect, act}

@@ -15,7 +15,8 @@ use Rattle.state.specs.declared.Record.{Record}
 use Rattle.state.specs.Good.{geometry, OutBelow, Limits}
 use Rattle.calls.specs.Call.{Call, format, read, view, write, grow, advance, out, rebuild, status, locate, owner}
 use Rattle.calls.specs.Call.{Event, Fed, feed, Answer, accepted, number, done}
-use Rattle.calls.specs.Health.{absent, formatted, grownBy, withHealth}
+use Rattle.state.specs.Update.{formatted, grownBy, withHealth}
+use Rattle.calls.specs.Health.{absent}
 use Rattle.calls.specs.Images.{disksOf, othersIn, Store, header, stored, storedIn, recorded, fillDisk, zeroDisks}
 use Rattle.calls.specs.Table.{looks, refusalOf}
 use Rattle.calls.specs.Effect.{placeOf, scratchLeft, writeStores, advanceStores, Effect, tells, fills, stores, effect, answerOf, recordLeft, imagesLeft, roomLeft}

@@ -10,10 +10,10 @@ use borrow.Author.Tests.{eq-eqb, ne-eqb}
 use Rattle.layout.specs.Layout.{capacity}
 use Rattle.state.specs.declared.Record.{Record}
 use Rattle.state.specs.Good.{geometry, good}
-use Rattle.state.specs.Bytes.{decode, plain, goodBytes, encode}
+use Rattle.state.specs.Bytes.{recordLength, decode, plain, goodBytes, encode}
+use Rattle.state.specs.Update.{formatted}
 use Rattle.state.proofs.Laws.Bytes.{decode-encode, length-encode, plain-encode}
 use Rattle.calls.specs.Call.{Call, format, Event, on, Fed, fed, accepted}
-use Rattle.calls.specs.Health.{formatted}
 use Rattle.calls.specs.Images.{zeroDisks}
 use Rattle.calls.specs.Table.{looks, terms, laterRows, table, word, refusal, rowsBytes, refusalBytes}
 use Rattle.calls.specs.Effect.{effect, Left, act, untouched, settle, called, sealed, calledBytes}
@@ -51,12 +51,12 @@ module _ (bad : Bool) (r : Record) (cap len room : ℕ) (c : Call) where
   unfolding table
   bad-first l q = rw (l, q) refl
 
--- bytes that are not 16, or that no record is written as
-pub bytes-short : (e : Event) (b : List ℕ) → length b ≢ 16 → calledBytes e b ≡ untouched e b 1
+-- bytes that are not so many, or that no record is written as
+pub bytes-short : (e : Event) (b : List ℕ) → length b ≢ recordLength → calledBytes e b ≡ untouched e b 1
 unfolding calledBytes refusalBytes rowsBytes
 bytes-short e b h = rw (ne-eqb _ _ h, short-first (not (goodBytes b)) (decode b) (capacity (geometry (decode b))) (length (e .images)) (length (e .room)) (e .call)) refl
 
-pub bytes-damaged : (e : Event) (b : List ℕ) → length b ≡ 16 → looks (e .call) ≡ true → plain b ≡ false → calledBytes e b ≡ untouched e b 1
+pub bytes-damaged : (e : Event) (b : List ℕ) → length b ≡ recordLength → looks (e .call) ≡ true → plain b ≡ false → calledBytes e b ≡ untouched e b 1
 unfolding calledBytes refusalBytes rowsBytes
 bytes-damaged e b long l p =
     rw (eq-eqb _ _ long, bad-first (not (goodBytes b)) (decode b) (capacity (geometry (decode b))) (length (e .images)) (length (e .room)) (e .call) l (rw p refl)) refl
@@ -75,8 +75,8 @@ seals e b r zero =
     record { answer = refl; images = refl; room = refl; kept = λ q. absurd (let w : _≡_ {A = ℕ} 0 1 = cc in omega arith); written = λ q. refl }
 seals e b r (suc n) = record { answer = refl; images = refl; room = refl; kept = λ q. refl; written = λ q. absurd (let w : _≡_ {A = ℕ} 0 1 = cc in omega arith) }
 
--- 16 bytes that a record is written as
-module _ (e : Event) (b : List ℕ) (long : length b ≡ 16) (p : plain b ≡ true) where
+-- bytes that a record is written as
+module _ (e : Event) (b : List ℕ) (long : length b ≡ recordLength) (p : plain b ≡ true) where
   agrees : refusalBytes b (fed e) ≡ refusal (decode b) (capacity (geometry (decode b))) (fed e)
   unfolding refusalBytes rowsBytes refusal
   agrees = rw (long, p) refl
@@ -85,8 +85,8 @@ module _ (e : Event) (b : List ℕ) (long : length b ≡ 16) (p : plain b ≡ tr
   unfolding called calledBytes
   record-seals = rw agrees (seals e b (decode b) (refusal (decode b) (capacity (geometry (decode b))) (fed e)))
 
--- format, lent any 16 bytes: as on any record
-module _ (n B T : ℕ) (img room b : List ℕ) (r : Record) (long : length b ≡ 16) where
+-- format, lent any bytes of its length: as on any record
+module _ (n B T : ℕ) (img room b : List ℕ) (r : Record) (long : length b ≡ recordLength) where
   abbrev e : Event
   e = on (format n B T) img room
 

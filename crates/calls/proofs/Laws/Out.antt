@@ -10,8 +10,9 @@ use Rattle.state.specs.declared.Health.the-variants.{Whole, Out, Lost}
 use Rattle.state.specs.declared.Health.{Health}
 use Rattle.state.specs.declared.Record.{Record}
 use Rattle.state.specs.Good.{geometry, OutBelow}
+use Rattle.state.specs.Update.{withHealth}
 use Rattle.calls.specs.Call.{out}
-use Rattle.calls.specs.Health.{isLost, absent, afterOut, withHealth}
+use Rattle.calls.specs.Health.{isLost, absent, afterOut}
 use Rattle.calls.specs.Images.{disksOf}
 use Rattle.calls.specs.Table.{laterRows, word}
 use Rattle.calls.proofs.Laws.Column.{reseen}

@@ -12,7 +12,7 @@ use Rattle.state.specs.declared.Health.{Health}
 use Rattle.state.specs.declared.Record.{Record}
 use Rattle.layout.specs.Layout.{capacity}
 use Rattle.state.specs.Good.{geometry, newGood, good, Limits}
-use Rattle.state.specs.Bytes.{decode, goodBytes}
+use Rattle.state.specs.Bytes.{recordLength, decode, goodBytes}
 use Rattle.state.proofs.Laws.Good.{limits}
 use Rattle.calls.specs.Call.{Call, Fed, format, read, view, write, grow, advance, out, rebuild, locate, owner}
 use Rattle.calls.specs.Health.{isLost, isDegraded, isOut}
@@ -82,7 +82,7 @@ pub passed-bytes : (b : List ℕ) (e : Fed) → refusalBytes b e ≡ 0 → word 
 unfolding refusalBytes rowsBytes
 passed-bytes b e z =
     let r : Record = decode b in
-    passed-on (e .call) (not (eqb (length b) 16)) (not (goodBytes b)) r (capacity (geometry r)) (e .images) (e .room) z
+    passed-on (e .call) (not (eqb (length b) recordLength)) (not (goodBytes b)) r (capacity (geometry r)) (e .images) (e .room) z
 
 -- and if it looks at the record, that is good
 was-good : (r : Record) (c : ℕ) (e : Fed) → looks (e .call) ≡ true → refusal r c e ≡ 0 → good r ≡ true

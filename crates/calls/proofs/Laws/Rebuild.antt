@@ -15,8 +15,9 @@ use Rattle.state.specs.declared.Health.the-variants.{Whole, Out}
 use Rattle.state.specs.declared.Health.{Health}
 use Rattle.state.specs.declared.Record.{Record}
 use Rattle.state.specs.Good.{geometry, OutBelow}
+use Rattle.state.specs.Update.{withHealth}
 use Rattle.calls.specs.Call.{rebuild, done}
-use Rattle.calls.specs.Health.{isLost, absent, withHealth}
+use Rattle.calls.specs.Health.{isLost, absent}
 use Rattle.calls.specs.Images.{disksOf, size, othersIn, Store, stored, fillDisk}
 use Rattle.calls.specs.Table.{laterRows, word}
 use Rattle.calls.specs.Effect.{effect, act}

@@ -6,7 +6,7 @@ use mathlib.Core.List.{List}
 use Rattle.state.specs.declared.Health.{Health}
 use Rattle.state.specs.declared.Record.{Record}
 use Rattle.calls.specs.Call.{Call, format, read, view, write, grow, advance, out, rebuild, status, locate, owner}
-use Rattle.calls.specs.Health.{withHealth}
+use Rattle.state.specs.Update.{withHealth}
 use Rattle.calls.specs.Table.{terms}
 use Rattle.calls.proofs.Laws.Table.{StopsLost}
 use Rattle.history.specs.Flat.{flat, flatAct}

@@ -8,9 +8,9 @@ use lib.ListN.{length}
 use Rattle.state.specs.declared.Health.the-variants.{Out, Lost}
 use Rattle.state.specs.declared.Record.{Record}
 use Rattle.state.specs.Good.{good}
+use Rattle.state.specs.Update.{withHealth}
 use Rattle.state.proofs.Laws.Good.{limits, within-limits}
 use Rattle.calls.specs.Call.{Call, format, read, view, write, grow, advance, out, Fed, Answer, refused, accepted}
-use Rattle.calls.specs.Health.{withHealth}
 use Rattle.calls.specs.Table.{terms, refusal}
 use Rattle.calls.proofs.Laws.Table.{StopsLost, given-2}
 use Rattle.history.specs.Flat.{Flat, flatAct, flatSettle, flatStep}

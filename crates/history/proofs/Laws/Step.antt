@@ -12,10 +12,11 @@ use Rattle.state.specs.declared.Health.the-variants.{Whole, Out, Lost}
 use Rattle.state.specs.declared.Health.{Health}
 use Rattle.state.specs.declared.Record.{Record}
 use Rattle.state.specs.Good.{geometry}
-use Rattle.state.specs.Bytes.{decode, encode}
+use Rattle.state.specs.Bytes.{recordLength, decode, encode}
+use Rattle.state.specs.Update.{withHealth}
 use Rattle.state.proofs.Laws.Bytes.{decode-encode}
 use Rattle.calls.specs.Call.{Call, format, read, view, write, grow, advance, out, rebuild, status, locate, owner, Event, fed, Answer, accepted}
-use Rattle.calls.specs.Health.{afterOut, grownBy, withHealth}
+use Rattle.calls.specs.Health.{afterOut}
 use Rattle.calls.specs.Images.{size, recorded}
 use Rattle.calls.specs.Table.{terms, laterRows, table, word, refusal, refusalOf, rowsBytes, refusalBytes}
 use Rattle.calls.specs.Effect.{effect, Left, act, untouched, settle, sealed, calledBytes}
@@ -155,9 +156,9 @@ module _ (n B T : ℕ) (img room : List ℕ) (a : Cabinet (List ℕ)) (f : Flat)
   abbrev e : Event
   e = event (format n B T) img room
 
-  -- the numbers that the two machines are given differ only if the record is not 16 bytes long
+  -- the numbers that the two machines are given differ only if the record is too short or too long
   abbrev short : Bool
-  short = not (eqb (length (a .rec)) 16)
+  short = not (eqb (length (a .rec)) recordLength)
 
   abbrev W : ℕ
   W = word (laterRows (format n B T) (f .numbers) 0 (length img) (length room))

@@ -1,4 +1,4 @@
--- The record and its 16 bytes: each way there and back. Assumes nothing.
+-- The record and its bytes: each way there and back. Assumes nothing.
 use Prim.Native.Nat.{ℕ, zero, suc, _+_, _/_, _%_, _<_, _≤_}
 use mathlib.Core.Path.{_≡_, refl, sym, ap, _∙_}
 use mathlib.Core.Bool.{Bool, true, false, cond, _&&_, _||_}
@@ -12,7 +12,7 @@ use Rattle.state.specs.declared.Health.the-variants.{Whole, Out, Lost}
 use Rattle.state.specs.declared.Health.{Health}
 use Rattle.state.specs.declared.Record.{Record}
 use Rattle.state.specs.Good.{OutBelow}
-use Rattle.state.specs.Bytes.{two, four, healthOf, decode, healthPlain, plain, healthByte, diskByte, encode, AreBytes}
+use Rattle.state.specs.Bytes.{recordLength, two, four, healthOf, decode, healthPlain, plain, healthByte, diskByte, encode, AreBytes}
 use Rattle.state.proofs.Laws.Tests.{both}
 
 -- ---- from the record to its bytes and back
@@ -34,7 +34,7 @@ decode-encode r = simp (two-back (r .block), four-back (r .stripes), four-back (
 
 -- ---- what the bytes of a record are
 
-pub length-encode : (r : Record) → length (encode r) ≡ 16
+pub length-encode : (r : Record) → length (encode r) ≡ recordLength
 unfolding encode
 length-encode r = refl
 
@@ -105,8 +105,8 @@ spell-drop : (n i : ℕ) (b : List ℕ) → length b ≡ i + n → spell i n b �
 spell-drop zero i b e = let q : i ≡ length b = omega arith in sym (ap (λ k. drop k b) q ∙ drop-length b)
 spell-drop (suc n) i b e = ap (λ t. getD b i 0 ∷ t) (spell-drop n (suc i) b (omega arith)) ∙ sym (drop-cons b i 0 (omega arith))
 
-pub spelled : (b : List ℕ) → length b ≡ 16 → spell 0 16 b ≡ b
-spelled b e = spell-drop 16 0 b e
+pub spelled : (b : List ℕ) → length b ≡ recordLength → spell 0 recordLength b ≡ b
+spelled b e = spell-drop recordLength 0 b e
 
 two-bytes : (a b : ℕ) → a < 256 → two a b % 256 ∷ two a b / 256 ∷ [] ≡ a ∷ b ∷ []
 two-bytes a b ha =
@@ -131,7 +131,7 @@ health-bytes h d e =
     let p = both _ _ e in
     health-cases (eqb h 0) (eqb h 1) h d refl refl (leb-true h 2 (p .0)) (p .1)
 
-spelt : (b : List ℕ) → AreBytes b → plain b ≡ true → encode (decode b) ≡ spell 0 16 b
+spelt : (b : List ℕ) → AreBytes b → plain b ≡ true → encode (decode b) ≡ spell 0 recordLength b
 unfolding encode decode plain
 spelt b by e =
     let p = both (healthPlain (getD b 2 0) (getD b 3 0)) (eqb (getD b 6 0) 0 && eqb (getD b 7 0) 0) e in
@@ -147,5 +147,5 @@ spelt b by e =
       four-bytes (getD b 12 0) (getD b 13 0) (getD b 14 0) (getD b 15 0) (by 12) (by 13) (by 14),
     )
 
-pub encode-decode : (b : List ℕ) → AreBytes b → length b ≡ 16 → plain b ≡ true → encode (decode b) ≡ b
+pub encode-decode : (b : List ℕ) → AreBytes b → length b ≡ recordLength → plain b ≡ true → encode (decode b) ≡ b
 encode-decode b by l e = spelt b by e ∙ spelled b l

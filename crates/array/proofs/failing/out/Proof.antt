@@ -5,8 +5,8 @@ use native.Mathlib.Omega.{arith}
 use borrow.Author.Needs.{needs}
 use Rattle.layout.specs.Layout.{capacity}
 use Rattle.state.specs.Good.{geometry}
+use Rattle.state.specs.Update.{withHealth}
 use Rattle.calls.specs.Call.{out, feed, on}
-use Rattle.calls.specs.Health.{withHealth}
 use Rattle.calls.specs.Images.{recorded}
 use Rattle.calls.specs.Table.{refusalOf}
 use Rattle.calls.specs.Effect.{effect}

@@ -4,8 +4,8 @@ use mathlib.Core.List.{[]}
 use borrow.Author.Needs.{needs}
 use native.Mathlib.Omega.{arith}
 use Rattle.state.specs.Good.{Limits}
+use Rattle.state.specs.Update.{formatted}
 use Rattle.calls.specs.Call.{format, Event, on}
-use Rattle.calls.specs.Health.{formatted}
 use Rattle.calls.proofs.Laws.Format.{limits}
 use Rattle.array.proofs.Calls.Called.{called-refused}
 use Rattle.array.proofs.Calls.Zeroed.{format-passed, format-done}
@@ -34,25 +34,29 @@ fits c =
     let r = formatted (a .n) (a .block) (a .stripes) in
     limits _ _ _ (format-passed (a .images .now) r _ _ _ (sym (c .before .of-format .ensures r) ∙ c .if1 .left) .fits)
 
-cast-t11 : tie.Need-cast-t11
-cast-t11 c = omega (arith, fits (c .before .before .before .before) .array .disks .n-high)
+cast-formatted : tie.Need-cast-formatted
+cast-formatted c = omega (arith, fits (c .before .before .before .before) .array .disks .n-high)
 
-cast-t13 : tie.Need-cast-t13
-cast-t13 c = omega (arith, fits (c .before .before .before .before) .block-high)
+cast-formatted-2 : tie.Need-cast-formatted-2
+cast-formatted-2 c = omega (arith, fits (c .before .before .before .before) .block-high)
 
-cast-t14 : tie.Need-cast-t14
-cast-t14 c = omega (arith, fits (c .before .before .before .before) .array .stripes-high)
+cast-formatted-3 : tie.Need-cast-formatted-3
+cast-formatted-3 c = omega (arith, fits (c .before .before .before .before) .array .stripes-high)
+
+formatted-requires : tie.Need-formatted-requires
+formatted-requires c κs = search needs
 
 same-length : tie.Need-same-length
 same-length c = search needs
 
 returns-2 : tie.Need-returns-2
 returns-2 c =
-    let e = c .before .before .before .before in
+    let b = c .before .before .before in
+    let e = b .before .before in
     let l = e .before .before .before .args .images .now in
     let k = e .before .of-format .ensures in
     let z = e .if1 .left in
-    (λ r. rw (format-done l r _ _ _ (sym (k r) ∙ z)) refl, (λ r. rw (format-done l r _ _ _ (sym (k r) ∙ z)) refl, λ r. rw (format-done l r _ _ _ (sym (k r) ∙ z)) (c .before .before .zero-block .ensures)))
+    (λ r. rw (format-done l r _ _ _ (sym (k r) ∙ z)) refl, (λ r. rw (format-done l r _ _ _ (sym (k r) ∙ z)) (c .formatted .ensures), λ r. rw (format-done l r _ _ _ (sym (k r) ∙ z)) (b .zero-block .ensures)))
 
 pub format-spec : {M : Type 1} → statement M
 format-spec =
@@ -61,8 +65,9 @@ format-spec =
     of-format-requires
     returns
     zero-block-requires
-    cast-t11
-    cast-t13
-    cast-t14
+    cast-formatted
+    cast-formatted-2
+    cast-formatted-3
+    formatted-requires
     same-length
     returns-2)

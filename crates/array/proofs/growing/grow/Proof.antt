@@ -43,17 +43,21 @@ sub-zero-block c = passed (c .before .before .before .before) .within
 zero-block-requires : tie.Need-zero-block-requires
 zero-block-requires c κs = omega (arith, passed (c .before .before .before .before) .within)
 
-cast-t16 : tie.Need-cast-t16
-cast-t16 c = omega (arith, passed (c .before .before .before .before .before .before .before) .small)
+cast-grown-by : tie.Need-cast-grown-by
+cast-grown-by c = omega (arith, passed (c .before .before .before .before .before .before .before) .small)
+
+grown-by-requires : tie.Need-grown-by-requires
+grown-by-requires c κs = search needs
 
 same-length : tie.Need-same-length
 same-length c = search needs
 
 returns-2 : tie.Need-returns-2
 returns-2 c =
-    let e = c .before .before .before .before .before .before .before in
+    let z = c .before .before .before in
+    let e = z .before .before .before .before .before in
     let a = e .before .before .before .args in
-    rw (grow-done (a .images .now) (a .r) (a .m) (sym (e .before .of-grow .ensures) ∙ e .if1 .left)) (refl, (refl, c .before .before .zero-block .ensures))
+    rw (grow-done (a .images .now) (a .r) (a .m) (sym (e .before .of-grow .ensures) ∙ e .if1 .left)) (refl, (c .grown-by .ensures, z .zero-block .ensures))
 
 pub grow-spec : {M : Type 1} → statement M
 grow-spec =
@@ -68,6 +72,7 @@ grow-spec =
     mul-at-2
     sub-zero-block
     zero-block-requires
-    cast-t16
+    cast-grown-by
+    grown-by-requires
     same-length
     returns-2)
