@@ -1,7 +1,7 @@
 // Document 01: "**Rebuild** (d): writes disk d of every stripe as the xor of the others; health whole."
 ghost use mathlib.Core.Path.{_≡_};
 ghost use mathlib.Core.List.{[]};
-ghost use Prim.Native.Nat.{_<_};
+ghost use Prim.Native.Nat.{_+_, _≤_, _<_};
 ghost use lib.ListN.{length};
 ghost use Rattle.state.specs.Good.{Limits};
 ghost use Rattle.array.specs.Answers.{changedAnswer, changedRecord};
@@ -16,29 +16,31 @@ use state::Health;
 use state::Record;
 use state::with_health;
 
-// Disk d of every stripe, each summed into `block` and then stored: two slices are told apart once and for all, two parts of the images
-// are not.
-fn fill_disk(r: Record, images: &mut [u8], d: u64, block: &mut [u8])
-    requires { ⌜ Limits r × (d < disksOf r) × (length (now images) ≡ size r) × (length (now block) ≡ r .block) ⌝ }
-    ensures { λ _. ⌜ now (images .exit) ≡ storedIn r (fillDisk (r .stripes) d (λ S. othersIn r (now (images .entry)) S d)) (now (images .entry)) ⌝ }
+// Disk d of `count` stripes from `first` on, each summed into `block` and then stored: two slices are told apart once and for all, two parts
+// of the images are not.
+fn fill_disk(r: Record, images: &mut [u8], d: u64, first: usize, count: usize, block: &mut [u8])
+    requires { ⌜ Limits r × (d < disksOf r) × (first + count ≤ r .stripes) × (length (now images) ≡ size r) × (length (now block) ≡ r .block) ⌝ }
+    ensures images { λ _. ⌜ now (images .exit) ≡
+        storedIn r (fillDisk first count d (λ S. othersIn r (now (images .entry)) S d)) (now (images .entry)) ⌝ }
 {
     let disks = disks_of(r) as usize;
     let stripes = r.stripes as usize;
-    let mut s = 0;
-    while s < stripes {
-        rebuild_place(images, disks, stripes, s, d as usize, block);
-        s += 1;
+    let mut made = 0;
+    while made < count {
+        rebuild_place(images, disks, stripes, first + made, d as usize, block);
+        made += 1;
     }
 }
 
 // The same, with a block of its own to sum into.
-fn fill_disk_alone(r: Record, images: &mut [u8], d: u64)
-    requires { ⌜ Limits r × (d < disksOf r) × (length (now images) ≡ size r) ⌝ }
-    ensures { λ _. ⌜ now (images .exit) ≡ storedIn r (fillDisk (r .stripes) d (λ S. othersIn r (now (images .entry)) S d)) (now (images .entry)) ⌝ }
+fn fill_disk_alone(r: Record, images: &mut [u8], d: u64, first: usize, count: usize)
+    requires { ⌜ Limits r × (d < disksOf r) × (first + count ≤ r .stripes) × (length (now images) ≡ size r) ⌝ }
+    ensures images { λ _. ⌜ now (images .exit) ≡
+        storedIn r (fillDisk first count d (λ S. othersIn r (now (images .entry)) S d)) (now (images .entry)) ⌝ }
 {
     let mut block = [0u8; 4096];
     let len = r.block as usize;
-    fill_disk(r, images, d, &mut block[..len]);
+    fill_disk(r, images, d, first, count, &mut block[..len]);
 }
 
 pub fn rebuild(r: Record, images: &mut [u8], d: u64) -> Changed
@@ -50,6 +52,6 @@ pub fn rebuild(r: Record, images: &mut [u8], d: u64) -> Changed
     if k != 0 {
         return Changed::Refused(k);
     }
-    fill_disk_alone(r, images, d);
+    fill_disk_alone(r, images, d, 0, r.stripes as usize);
     Changed::Done(with_health(r, Health::Whole))
 }

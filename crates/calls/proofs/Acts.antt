@@ -237,7 +237,7 @@ module _ (r : Record) (e : Event) where
       (length-others (r .block) (r .stripes) img S (disksOf r) d)
       (λ j lj.
       cell-stored (r .block) (r .stripes) (disksOf r) (rebuilt r e d) img (within-rebuild r e d low) long j S d lj l
-      ∙ column-fill d (λ s. othersIn r img s d) j (r .stripes) (cellIn r img j) S d l
+      ∙ column-fill 0 d (λ s. othersIn r img s d) j (r .stripes) (cellIn r img j) S d (omega arith) (omega arith)
       ∙ put-same (cellIn r img j S) d (getD (othersIn r img S d) j 0)))
 
   rebuild-record : (d : ℕ) → kept (rebuild d) ≡ withHealth r Whole

@@ -98,7 +98,7 @@ module _ (r : Record) (e : Event) where
       (length-stored (r .block) (r .stripes) (rebuilt r e d) img) S f lS lf
       (λ j lj.
       cell-stored (r .block) (r .stripes) (disksOf r) (rebuilt r e d) img (within-rebuild r e d ld) long j S f lj lS
-      ∙ column-fill d (λ s. othersIn r img s d) j (r .stripes) (cellIn r img j) S f lS
+      ∙ column-fill 0 d (λ s. othersIn r img s d) j (r .stripes) (cellIn r img j) S f (omega arith) (omega arith)
       ∙ put-other (cellIn r img j S) d (getD (othersIn r img S d) j 0) f ne))
 
 -- ---- every call

@@ -1,6 +1,4 @@
-pub mod Bench
-pub mod Refusals
-pub mod Drawers
+pub mod Cases
 pub mod Laws
 pub mod Theorem
 pub mod Alone

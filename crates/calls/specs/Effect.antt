@@ -108,7 +108,7 @@ effect (grow m) r e = stores done r (zeroDisks (r .block) (r .stripes) (r .old) 
 effect (advance k) r e = let ps = advanceStores k r (e .images) in stores (made (recorded ps r .moves - r .moves)) r ps
 effect (out d) r e = stores done r (header (withHealth r (afterOut (r .health) d)) ∷ [])
 -- "writes disk d of every stripe as the xor of the others; health whole"
-effect (rebuild d) r e = stores done r (fillDisk (r .stripes) d (λ S. othersIn r (e .images) S d) ++ header (withHealth r Whole) ∷ [])
+effect (rebuild d) r e = stores done r (fillDisk 0 (r .stripes) d (λ S. othersIn r (e .images) S d) ++ header (withHealth r Whole) ∷ [])
 -- "capacity, t, total, health"
 effect status r e = tells (figures (capacity (geometry r)) (r .moves) (totalOf (geometry r)) (r .health))
 -- "the stripe and disk of block b"

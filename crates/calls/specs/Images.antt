@@ -57,12 +57,12 @@ abbrev pub unless : Bool → Store → List Store
 unless true x = []
 unless false x = x ∷ []
 
--- the first T blocks of disk d, each by its stripe, in rising order
-unfoldable pub fillDisk : ℕ → ℕ → (ℕ → List ℕ) → List Store
-fillDisk zero d f = []
-fillDisk (suc T) d f = fillDisk T d f ++ (block T d (f T) ∷ [])
+-- k blocks of disk d from stripe S on, each by its stripe, in rising order
+unfoldable pub fillDisk : ℕ → ℕ → ℕ → (ℕ → List ℕ) → List Store
+fillDisk S zero d f = []
+fillDisk S (suc k) d f = fillDisk S k d f ++ (block (S + k) d (f (S + k)) ∷ [])
 
 -- zeroes on `more` disks of T blocks of B bytes, from disk `first` on
 unfoldable pub zeroDisks : ℕ → ℕ → ℕ → ℕ → List Store
 zeroDisks B T first zero = []
-zeroDisks B T first (suc more) = zeroDisks B T first more ++ fillDisk T (first + more) (λ S. zeros B)
+zeroDisks B T first (suc more) = zeroDisks B T first more ++ fillDisk 0 T (first + more) (λ S. zeros B)

@@ -1,3 +1,3 @@
-pub mod Sample
+pub mod Cases
 pub mod Laws
 pub mod Theorem

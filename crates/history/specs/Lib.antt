@@ -1,6 +1,6 @@
 -- Demand 3. `Flat` is the flat list, `Lent` what may be lent, `Theorem` the one claim about every list of calls and its short
--- form, `Sample` a history computed through both machines.
+-- form, `Cases` a history computed through both machines.
 pub mod Flat
 pub mod Lent
 pub mod Theorem
-pub mod Sample
+pub mod Cases

@@ -20,6 +20,7 @@ use Rattle.blocks.specs.Stripe.{offset}
 use Rattle.blocks.proofs.Laws.Stripe.{place-in}
 use Rattle.state.specs.declared.Record.{Record}
 use Rattle.state.specs.Good.{geometry, Limits}
+use Rattle.state.specs.Update.{withMoves}
 use Rattle.calls.specs.Call.{advance, feed, on, made}
 use Rattle.calls.specs.Images.{disksOf, size, Store, stored, recorded}
 use Rattle.calls.specs.Table.{idle, refusalOf}

@@ -9,6 +9,7 @@ use Rattle.blocks.specs.Block.{store, zeros}
 use Rattle.layout.specs.Layout.{capacity}
 use Rattle.state.specs.declared.Record.{Record}
 use Rattle.state.specs.Good.{geometry, Limits}
+use Rattle.state.specs.Update.{formatted, grownBy}
 use Rattle.state.proofs.Laws.Good.{new-good}
 use Rattle.calls.specs.Call.{format, grow, feed, on, done}
 use Rattle.calls.specs.Images.{zeroDisks}

@@ -86,14 +86,14 @@ module _ (r : Record) (e : Event) where
   zeroed m = zeroDisks (r .block) (r .stripes) (r .old) m
 
   abbrev pub rebuilt : ℕ → List Store
-  rebuilt d = fillDisk (r .stripes) d (λ S. othersIn r img S d)
+  rebuilt d = fillDisk 0 (r .stripes) d (λ S. othersIn r img S d)
 
   pub within-grow : (m : ℕ) → Within (r .old + m) (r .block) (r .stripes) (zeroed m)
   within-grow m = within-zero (r .block) (r .stripes) (r .old) (r .old + m) m (omega arith)
 
   pub within-rebuild : (d : ℕ) → d < disksOf r → Within (disksOf r) (r .block) (r .stripes) (rebuilt d)
   within-rebuild d ld =
-      within-fill d (λ S. othersIn r img S d) (disksOf r) (r .block) (r .stripes) ld (λ S. length-others (r .block) (r .stripes) img S (disksOf r) d) (r .stripes) (omega arith)
+      within-fill 0 d (λ S. othersIn r img S d) (disksOf r) (r .block) (r .stripes) ld (λ S. length-others (r .block) (r .stripes) img S (disksOf r) d) (r .stripes) (omega arith)
 
   format-inside : (n B T : ℕ) → Passed (format n B T) → Inside (length img) B T (zeroDisks B T 0 n ++ header (formatted n B T) ∷ [])
   format-inside n B T z =

@@ -36,15 +36,15 @@ put-seen N I d e = go (ℕ-discrete e d)
 
 module _ (r : Record) (img room : List ℕ) (bs : List (List ℕ)) (lends : length img ≡ size r → Holding r img bs) (d : ℕ) (c k : ℕ) where
   abbrev ps : List Store
-  ps = fillDisk (r .stripes) d (λ S. othersIn r img S d)
+  ps = fillDisk 0 (r .stripes) d (λ S. othersIn r img S d)
 
   -- what disk d and the others are then
   rebuilt : length img ≡ size r → d < disksOf r → (j S e : ℕ) → j < r .block → S < r .stripes
       → cellIn r (stored (r .block) (r .stripes) ps img) j S e ≡ cond (eqb e d) (rest (disksOf r) e (cellIn r img j S)) (cellIn r img j S e)
   rebuilt z ld j S e lj lS =
       cell-stored (r .block) (r .stripes) (disksOf r) ps img
-      (within-fill d (λ s. othersIn r img s d) (disksOf r) (r .block) (r .stripes) ld (λ s. length-others (r .block) (r .stripes) img s (disksOf r) d) (r .stripes) (omega arith)) z j S e lj lS
-      ∙ column-fill d (λ s. othersIn r img s d) j (r .stripes) (cellIn r img j) S e lS
+      (within-fill 0 d (λ s. othersIn r img s d) (disksOf r) (r .block) (r .stripes) ld (λ s. length-others (r .block) (r .stripes) img s (disksOf r) d) (r .stripes) (omega arith)) z j S e lj lS
+      ∙ column-fill 0 d (λ s. othersIn r img s d) j (r .stripes) (cellIn r img j) S e (omega arith) (omega arith)
       ∙ ap (λ (x : ℕ). put (cellIn r img j S) d x e) (getD-others (r .block) (r .stripes) img S (disksOf r) d j lj)
       ∙ put-seen (disksOf r) (cellIn r img j S) d e
 

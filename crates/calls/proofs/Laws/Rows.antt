@@ -10,9 +10,9 @@ use lib.ListN.{getD}
 use Rattle.state.specs.declared.Record.{Record}
 use Rattle.calls.specs.Call.{Call, column}
 use Rattle.calls.specs.Table.{Row, table, word}
-use Rattle.calls.specs.Refusals.{marks, marked, numbers}
+use Rattle.calls.specs.Cases.Refusals.{marks, marked, numbers}
 use Rattle.calls.specs.Theorem.{NoneHolds, Given}
-use Rattle.calls.proofs.Refusals.{rowwise}
+use Rattle.calls.proofs.Cases.Refusals.{rowwise}
 
 -- numbers above low, each above the one before
 unfoldable pub Rising : ℕ → List Row → Type 0

@@ -102,50 +102,55 @@ unfolding recorded
 recorded-unless true S d v x = refl
 recorded-unless false S d v x = refl
 
--- ---- whole disks
+-- ---- a disk from stripe S₀ on
 
-module _ (d : ℕ) (f : ℕ → List ℕ) where
-  -- below stripe T the blocks given, elsewhere what was there
-  column-miss : (j T : ℕ) (I : Grid) (S e : ℕ) → T ≤ S → column j (fillDisk T d f) I S e ≡ I S e
+module _ (S₀ d : ℕ) (f : ℕ → List ℕ) where
+  -- in k stripes the blocks given, elsewhere what was there
+  column-miss : (j k : ℕ) (I : Grid) (S e : ℕ) → S₀ + k ≤ S → column j (fillDisk S₀ k d f) I S e ≡ I S e
   unfolding fillDisk column
   column-miss j zero I S e l = refl
-  column-miss j (suc T) I S e l =
-      rw (column-append j (fillDisk T d f) (block T d (f T) ∷ []) I)
-      (storeAt-far (column j (fillDisk T d f) I) T d (getD (f T) j 0) S e (omega arith) ∙ column-miss j T I S e (omega arith))
+  column-miss j (suc k) I S e l =
+      rw (column-append j (fillDisk S₀ k d f) (block (S₀ + k) d (f (S₀ + k)) ∷ []) I)
+      (storeAt-far (column j (fillDisk S₀ k d f) I) (S₀ + k) d (getD (f (S₀ + k)) j 0) S e (omega arith) ∙ column-miss j k I S e (omega arith))
 
-  pub column-fill : (j T : ℕ) (I : Grid) (S e : ℕ) → S < T → column j (fillDisk T d f) I S e ≡ put (I S) d (getD (f S) j 0) e
+  pub column-fill : (j k : ℕ) (I : Grid) (S e : ℕ) → S₀ ≤ S → S < S₀ + k → column j (fillDisk S₀ k d f) I S e ≡ put (I S) d (getD (f S) j 0) e
   unfolding fillDisk column
-  column-fill j zero I S e l = absurd (omega arith)
-  column-fill j (suc T) I S e l = rw (column-append j (fillDisk T d f) (block T d (f T) ∷ []) I) (go (ℕ-discrete S T) (ℕ-discrete e d) (λ k. column-fill j T I S e k))
+  column-fill j zero I S e lo l = absurd (omega arith)
+  column-fill j (suc k) I S e lo l =
+      rw (column-append j (fillDisk S₀ k d f) (block T d (f T) ∷ []) I) (go (ℕ-discrete S T) (ℕ-discrete e d) (λ h. column-fill j k I S e lo h))
     where
+      T : ℕ
+      T = S₀ + k
+
       J : Grid
-      J = column j (fillDisk T d f) I
+      J = column j (fillDisk S₀ k d f) I
 
       go : Dec (S ≡ T) → Dec (e ≡ d) → (S < T → J S e ≡ put (I S) d (getD (f S) j 0) e) → storeAt J T d (getD (f T) j 0) S e ≡ put (I S) d (getD (f S) j 0) e
       go (yes q) (yes p) ih = rw (q, p, storeAt-same J T d (getD (f T) j 0), put-same (I T) d (getD (f T) j 0))
-      go (yes q) (no p) ih = rw (q, storeAt-row J T d (getD (f T) j 0) e p, put-other (I T) d (getD (f T) j 0) e p) (column-miss j T I T e (omega arith))
+      go (yes q) (no p) ih = rw (q, storeAt-row J T d (getD (f T) j 0) e p, put-other (I T) d (getD (f T) j 0) e p) (column-miss j k I T e (omega arith))
       go (no q) p ih = storeAt-far J T d (getD (f T) j 0) S e q ∙ ih (omega arith)
 
-  pub within-fill : (N B T : ℕ) → d < N → ((S : ℕ) → length (f S) ≡ B) → (k : ℕ) → k ≤ T → Within N B T (fillDisk k d f)
+  pub within-fill : (N B T : ℕ) → d < N → ((S : ℕ) → length (f S) ≡ B) → (k : ℕ) → S₀ + k ≤ T → Within N B T (fillDisk S₀ k d f)
   unfolding fillDisk Within
   within-fill N B T ld lf zero l = tt
-  within-fill N B T ld lf (suc k) l = within-append N B T (fillDisk k d f) (block k d (f k) ∷ []) (within-fill N B T ld lf k (omega arith)) (omega arith, ld, lf k, tt)
+  within-fill N B T ld lf (suc k) l =
+      within-append N B T (fillDisk S₀ k d f) (block (S₀ + k) d (f (S₀ + k)) ∷ []) (within-fill N B T ld lf k (omega arith)) (omega arith, ld, lf (S₀ + k), tt)
 
 module _ (B T first : ℕ) where
   pub column-below : (j k : ℕ) (I : Grid) (S e : ℕ) → S < T → e < first → column j (zeroDisks B T first k) I S e ≡ I S e
   unfolding zeroDisks column
   column-below j zero I S e lS l = refl
   column-below j (suc k) I S e lS l =
-      rw (column-append j (zeroDisks B T first k) (fillDisk T (first + k) (λ x. zeros B)) I)
-      (column-fill (first + k) (λ x. zeros B) j T (column j (zeroDisks B T first k) I) S e lS
+      rw (column-append j (zeroDisks B T first k) (fillDisk 0 T (first + k) (λ x. zeros B)) I)
+      (column-fill 0 (first + k) (λ x. zeros B) j T (column j (zeroDisks B T first k) I) S e (omega arith) (omega arith)
       ∙ put-other (column j (zeroDisks B T first k) I S) (first + k) (getD (zeros B) j 0) e (omega arith) ∙ column-below j k I S e lS l)
 
   pub column-zero : (j k : ℕ) (I : Grid) (S e : ℕ) → S < T → first ≤ e → e < first + k → column j (zeroDisks B T first k) I S e ≡ 0
   unfolding zeroDisks
   column-zero j zero I S e lS lo hi = absurd (omega arith)
   column-zero j (suc k) I S e lS lo hi =
-      rw (column-append j (zeroDisks B T first k) (fillDisk T (first + k) (λ x. zeros B)) I)
-      (column-fill (first + k) (λ x. zeros B) j T J S e lS ∙ go (ℕ-discrete e (first + k)) (λ h. column-zero j k I S e lS lo h))
+      rw (column-append j (zeroDisks B T first k) (fillDisk 0 T (first + k) (λ x. zeros B)) I)
+      (column-fill 0 (first + k) (λ x. zeros B) j T J S e (omega arith) (omega arith) ∙ go (ℕ-discrete e (first + k)) (λ h. column-zero j k I S e lS lo h))
     where
       J : Grid
       J = column j (zeroDisks B T first k) I
@@ -158,5 +163,5 @@ module _ (B T first : ℕ) where
   unfolding zeroDisks Within
   within-zero N zero l = tt
   within-zero N (suc k) l =
-      within-append N B T (zeroDisks B T first k) (fillDisk T (first + k) (λ x. zeros B)) (within-zero N k (omega arith))
-      (within-fill (first + k) (λ x. zeros B) N B T (omega arith) (λ x. length-replicate {A = ℕ} B 0) T (omega arith))
+      within-append N B T (zeroDisks B T first k) (fillDisk 0 T (first + k) (λ x. zeros B)) (within-zero N k (omega arith))
+      (within-fill 0 (first + k) (λ x. zeros B) N B T (omega arith) (λ x. length-replicate {A = ℕ} B 0) T (omega arith))

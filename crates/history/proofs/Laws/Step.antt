@@ -13,7 +13,7 @@ use Rattle.state.specs.declared.Health.{Health}
 use Rattle.state.specs.declared.Record.{Record}
 use Rattle.state.specs.Good.{geometry}
 use Rattle.state.specs.Bytes.{recordLength, decode, encode}
-use Rattle.state.specs.Update.{withHealth}
+use Rattle.state.specs.Update.{grownBy, withHealth}
 use Rattle.state.proofs.Laws.Bytes.{decode-encode}
 use Rattle.calls.specs.Call.{Call, format, read, view, write, grow, advance, out, rebuild, status, locate, owner, Event, fed, Answer, accepted}
 use Rattle.calls.specs.Health.{afterOut}

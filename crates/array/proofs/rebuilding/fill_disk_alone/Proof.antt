@@ -17,7 +17,7 @@ slice-aggregate-fill-disk c = sym (length-prefix _ 4096 (c .before .before .befo
 fill-disk-requires : tie.Need-fill-disk-requires
 fill-disk-requires c κs =
     let p = c .before .before .before .before .pre in
-    (p .0, p .1, p .2, length-prefix _ 4096 (p .0 .block-high))
+    (p .0, p .1, p .2, p .3, length-prefix _ 4096 (p .0 .block-high))
 
 same-length : tie.Need-same-length
 same-length c = search needs

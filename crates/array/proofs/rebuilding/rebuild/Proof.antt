@@ -16,9 +16,12 @@ returns c =
     let a = c .before .before .before .args in
     rw (called-refused (on (rebuild (a .d)) (a .images .now) []) (a .r) _ (sym (c .before .of-rebuild .ensures)) (c .if1 .taken)) (refl, (refl, refl))
 
+cast-fill-disk-alone : tie.Need-cast-fill-disk-alone
+cast-fill-disk-alone c = search needs
+
 fill-disk-alone-requires : tie.Need-fill-disk-alone-requires
 fill-disk-alone-requires c κs =
-    let e = c .before in
+    let e = c .before .before in
     let a = e .before .before .before .args in
     rebuild-passed (a .images .now) (a .r) (a .d) (sym (e .before .of-rebuild .ensures) ∙ e .if1 .left)
 
@@ -31,7 +34,7 @@ same-length c = search needs
 returns-2 : tie.Need-returns-2
 returns-2 c =
     let f = c .before .before .before in
-    let e = f .before .before in
+    let e = f .before .before .before in
     let a = e .before .before .before .args in
     rw (rebuild-done (a .images .now) (a .r) (a .d) (sym (e .before .of-rebuild .ensures) ∙ e .if1 .left)) (refl, (c .with-health .ensures, f .fill-disk-alone .ensures))
 
@@ -41,6 +44,7 @@ rebuild-spec =
     (tie.spec
     of-rebuild-requires
     returns
+    cast-fill-disk-alone
     fill-disk-alone-requires
     with-health-requires
     same-length

@@ -13,7 +13,7 @@ use Rattle.calls.specs.Effect.{viewOf, scratchLeft, writeStores, moveStores, ad
 use Rattle.history.specs.Flat.{flatAct, flatStep}
 use Rattle.history.specs.Lent.{asBytes, next}
 use Rattle.history.specs.Theorem.{outcomes, flatOutcomes}
-use Rattle.history.specs.Sample.{junk, play, script, cabinet, list, Sample}
+use Rattle.history.specs.Cases.Sample.{junk, play, script, cabinet, list, Sample}
 use Rattle.history.proofs.Laws.Fairness.{same, below, keeps, lends, fairly, fair}
 
 pub sample : Sample

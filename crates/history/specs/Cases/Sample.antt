@@ -1,6 +1,6 @@
 -- One history of one cabinet, run through both machines. 3 disks of 12 stripes, with blocks of 2 bytes, and then a fourth: 9 moves,
 -- capacity 24, then 36. The expected answers are literals, printed by a program that was written from document 01 and knows none
--- of these definitions: it replays the moves one by one on a table of places. `sample` of proofs/Sample.antt computes both machines.
+-- of these definitions: it replays the moves one by one on a table of places. `sample` of proofs/Cases/Sample.antt computes both machines.
 use Prim.Native.Nat.{ℕ, zero, suc, _+_, _*_, _%_}
 use mathlib.Core.Path.{_≡_}
 use mathlib.Core.List.{List, [], _∷_, _++_, map}

@@ -6,7 +6,7 @@ use Rattle.state.specs.Good.{newGood, movesGood, good}
 use Rattle.state.specs.Bytes.{decode, plain, encode}
 use Rattle.calls.specs.Call.{format, read, view, write, grow, advance, out, rebuild, status, locate, owner}
 use Rattle.calls.specs.Table.{idle, formable, terms, laterRows, table, rowsBytes, refusalBytes}
-use Rattle.calls.specs.Refusals.{Rowwise, Refusals}
+use Rattle.calls.specs.Cases.Refusals.{Rowwise, Refusals}
 
 pub rowwise : Rowwise
 unfolding terms laterRows table

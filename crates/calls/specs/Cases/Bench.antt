@@ -1,5 +1,5 @@
 -- The worked cases of document 01, "Drawers on the bench", over the definitions of the calls. `Bench` is the one table of those marked (P),
--- `Unmarked` has the others, `Values` answers in numbers; `bench`, `unmarked` and `values` of proofs/Bench.antt compute them.
+-- `Unmarked` has the others, `Values` answers in numbers; `bench`, `unmarked` and `values` of proofs/Cases/Bench.antt compute them.
 use Prim.Native.Nat.{ℕ, _*_}
 use mathlib.Core.Path.{_≡_}
 use mathlib.Core.List.{[], _∷_}

@@ -9,7 +9,7 @@ use Rattle.state.specs.Good.{newGood, movesGood, good}
 use Rattle.calls.specs.Images.{stored, recorded}
 use Rattle.calls.specs.Table.{idle, formable, terms, laterRows, table, refusal}
 use Rattle.calls.specs.Effect.{moveStores, advanceStores, effect, called}
-use Rattle.calls.specs.Bench.{Bench, Unmarked, Values}
+use Rattle.calls.specs.Cases.Bench.{Bench, Unmarked, Values}
 
 pub bench : Bench
 unfolding dataDisk homeStripe homeDisk rankOf homeBlock homeOwner moveZone moveTo moveLag moveWithin moveStripe moveFrom total lag target turn isMoved diskAt source taken blanksBelow blanks newStripe newDisk newBlock openStripes capacity grownPlace grownParity newOwner grownOwner newGood movesGood good stored recorded idle formable terms laterRows table refusal effect called

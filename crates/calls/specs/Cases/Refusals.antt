@@ -1,7 +1,7 @@
 -- The table of refusals, read row by row, and every cell of it by example. For each call and each number that the table has for it: a
 -- case where the condition of that number and of every higher one holds, and no lower one's; for each number that the table does not
 -- have for it: a case where its condition would hold, which is not refused; and both sides of the bounds. `rowwise` and `refusals` of
--- proofs/Refusals.antt compute them.
+-- proofs/Cases/Refusals.antt compute them.
 use Prim.Native.Nat.{ℕ, suc, _-_}
 use mathlib.Core.Path.{_≡_}
 use mathlib.Core.Bool.{Bool, cond}

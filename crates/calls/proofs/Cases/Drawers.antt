@@ -8,7 +8,7 @@ use Rattle.state.specs.Good.{newGood, movesGood, good}
 use Rattle.calls.specs.Images.{seen, stored, recorded, fillDisk, zeroDisks}
 use Rattle.calls.specs.Table.{idle, formable, terms, laterRows, table, refusal}
 use Rattle.calls.specs.Effect.{viewOf, scratchLeft, writeStores, moveStores, advanceStores, effect, called}
-use Rattle.calls.specs.Drawers.{Drawers}
+use Rattle.calls.specs.Cases.Drawers.{Drawers}
 
 pub drawers : Drawers
 unfolding dataDisk homeStripe homeDisk moveZone moveTo moveLag moveWithin moveStripe moveFrom total lag target turn isMoved diskAt openStripes capacity grownPlace grownParity newGood movesGood good seen stored recorded fillDisk zeroDisks idle formable terms laterRows table refusal viewOf scratchLeft writeStores moveStores advanceStores effect called

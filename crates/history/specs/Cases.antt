@@ -1,0 +1,2 @@
+-- A computed case: a history through both machines.
+pub mod Sample
