@@ -1,5 +1,4 @@
 -- What the proofs of the functions cite, from the bottom: what a test shows, what a call is by the table's number, and a file for each kind of call.
-pub mod Asked
 pub mod Bounds
 pub mod Ready
 pub mod Called

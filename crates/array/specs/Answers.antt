@@ -1,5 +1,5 @@
--- What the functions' enums say in document 01's terms, case by case. "For an answer that is an enum, a definition gives this paper's number and
--- values for each case." (Numbers alone are read off an answer by `number`, `shown` and `beside` of Call.)
+-- What the functions' enums say in document 01's terms, case by case. "For an answer that is an enum, a definition gives this paper's
+-- number and values for each case." (Numbers alone are read off an answer by `number`, `shown` and `beside` of Call.)
 use Prim.Native.Nat.{ℕ, zero, suc, _+_}
 use mathlib.Core.List.{List}
 use Rattle.blocks.specs.Block.{blockAt}
@@ -56,7 +56,8 @@ choiceOf zero (part at len) = choice.Part at
 choiceOf zero scratch = choice.Scratch
 choiceOf (suc k) v = choice.Refused (suc k)
 
--- "returns the block as a part of the images, or, if its disk is out, as the lent scratch": where the view begins, given where those two begin
+-- "returns the block as a part of the images, or, if its disk is out, as the lent scratch": where the view begins, given where those two
+-- begin
 abbrev pub begins : Choice → ℕ × ℕ → ℕ × ℕ → ℕ × ℕ
 begins (choice.Refused k) img scr = img
 begins (choice.Part at) img scr = (img .0, at + img .1)

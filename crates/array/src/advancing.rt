@@ -26,7 +26,7 @@ use state::with_moves;
 // The next move: the block to its new place, zeroes where it stood.
 fn make_move(r: Record, images: &mut [u8])
     requires { ⌜ Limits r × (idle (geometry r) ≡ false) × (length (now images) ≡ size r) ⌝ }
-    ensures { λ _. ⌜ now (images .exit) ≡ storedIn r (moveStores r (now (images .entry))) (now (images .entry)) ⌝ }
+    ensures images { λ _. ⌜ now (images .exit) ≡ storedIn r (moveStores r (now (images .entry))) (now (images .entry)) ⌝ }
 {
     let x = move_of(r.old as u64, r.new as u64, r.moves as u64);
     let from = place_at(r, x.stripe, x.from);
@@ -37,7 +37,7 @@ fn make_move(r: Record, images: &mut [u8])
 // The next `count` moves, of which there are so many.
 fn make_moves(r: Record, images: &mut [u8], count: u32)
     requires { ⌜ Limits r × (r .new ≢ 0) × (r .moves + count ≤ totalOf (geometry r)) × (length (now images) ≡ size r) ⌝ }
-    ensures { λ _. ⌜ now (images .exit) ≡ storedIn r (advanceStores count r (now (images .entry))) (now (images .entry)) ⌝ }
+    ensures images { λ _. ⌜ now (images .exit) ≡ storedIn r (advanceStores count r (now (images .entry))) (now (images .entry)) ⌝ }
 {
     let mut made = 0;
     while made < count {
@@ -48,7 +48,7 @@ fn make_moves(r: Record, images: &mut [u8], count: u32)
 
 // The lesser of the budget and the moves that are left.
 fn moves_due(k: u64, left: u32) -> u32
-    ensures { λ x. ⌜ x ≡ min k left ⌝ }
+    ensures count { λ x. ⌜ x ≡ min k left ⌝ }
 {
     if k < left as u64 { k as u32 } else { left }
 }

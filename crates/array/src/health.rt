@@ -4,7 +4,7 @@ ghost use Rattle.calls.specs.Health.{isLost, isDegraded, isOut, absent, afterOu
 use state::Health;
 
 pub fn is_lost(health: Health) -> bool
-    ensures { λ x. ⌜ x ≡ isLost health ⌝ }
+    ensures answer { λ x. ⌜ x ≡ isLost health ⌝ }
 {
     match health {
         Health::Whole => false,
@@ -14,7 +14,7 @@ pub fn is_lost(health: Health) -> bool
 }
 
 pub fn is_degraded(health: Health) -> bool
-    ensures { λ x. ⌜ x ≡ isDegraded health ⌝ }
+    ensures answer { λ x. ⌜ x ≡ isDegraded health ⌝ }
 {
     match health {
         Health::Whole => false,
@@ -24,7 +24,7 @@ pub fn is_degraded(health: Health) -> bool
 }
 
 pub fn is_out(health: Health, d: u64) -> bool
-    ensures { λ x. ⌜ x ≡ isOut health d ⌝ }
+    ensures answer { λ x. ⌜ x ≡ isOut health d ⌝ }
 {
     match health {
         Health::Whole => false,
@@ -35,14 +35,14 @@ pub fn is_out(health: Health, d: u64) -> bool
 
 // Does disk d count as out in stripe s?
 pub fn is_absent(health: Health, s: u64, d: u64) -> bool
-    ensures { λ x. ⌜ x ≡ absent health s d ⌝ }
+    ensures answer { λ x. ⌜ x ≡ absent health s d ⌝ }
 {
     is_out(health, d)
 }
 
 // The health once disk d is out too.
 pub fn after_out(health: Health, d: u8) -> Health
-    ensures { λ x. ⌜ x ≡ afterOut health d ⌝ }
+    ensures health { λ x. ⌜ x ≡ afterOut health d ⌝ }
 {
     match health {
         Health::Whole => Health::Out(d),

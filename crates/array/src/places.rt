@@ -13,7 +13,7 @@ use state::Record;
 // The byte at which place (s, d) begins.
 pub(crate) fn place_at(r: Record, s: u64, d: u64) -> usize
     requires { ⌜ Limits r × (s < r .stripes) × (d < disksOf r) ⌝ }
-    ensures { λ x. ⌜ x ≡ offset (r .block) (r .stripes) s d ⌝ }
+    ensures start { λ x. ⌜ x ≡ offset (r .block) (r .stripes) s d ⌝ }
 {
     offset_of(r.stripes as usize, r.block as usize, s as usize, d as usize)
 }
@@ -21,7 +21,7 @@ pub(crate) fn place_at(r: Record, s: u64, d: u64) -> usize
 // Sets block to the xor of the other places of its stripe.
 pub(crate) fn sum_others(r: Record, images: &[u8], s: u64, d: u64, block: &mut [u8])
     requires { ⌜ Limits r × (s < r .stripes) × (length (now images) ≡ size r) × (length (now block) ≡ r .block) ⌝ }
-    ensures { λ _. ⌜ now (block .exit) ≡ othersIn r (now (images .entry)) s d ⌝ }
+    ensures block { λ _. ⌜ now (block .exit) ≡ othersIn r (now (images .entry)) s d ⌝ }
 {
     let disks = disks_of(r) as usize;
     xor_others(

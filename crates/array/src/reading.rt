@@ -16,7 +16,7 @@ use state::geometry_of;
 // Block b, on a call that the table lets through.
 fn fill(r: Record, images: &[u8], b: u64, block: &mut [u8])
     requires { ⌜ refusalOf r (feed (read b) (length (now images)) (length (now block))) ≡ 0 ⌝ }
-    ensures { λ _. ⌜ now (block .exit) ≡ blockOf r (now (images .entry)) b ⌝ }
+    ensures block { λ _. ⌜ now (block .exit) ≡ blockOf r (now (images .entry)) b ⌝ }
 {
     let q = place_of(geometry_of(r), b);
     let health = r.health;

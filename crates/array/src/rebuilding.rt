@@ -16,10 +16,11 @@ use state::Health;
 use state::Record;
 use state::with_health;
 
-// Disk d of `count` stripes from `first` on, each summed into `block` and then stored: two slices are told apart once and for all, two parts
-// of the images are not.
+// Disk d of `count` stripes from `first` on, each summed into `block` and then stored: two slices are told apart once and for all, two
+// parts of the images are not.
 fn fill_disk(r: Record, images: &mut [u8], d: u64, first: usize, count: usize, block: &mut [u8])
-    requires { ⌜ Limits r × (d < disksOf r) × (first + count ≤ r .stripes) × (length (now images) ≡ size r) × (length (now block) ≡ r .block) ⌝ }
+    requires { ⌜ Limits r × (d < disksOf r) × (first + count ≤ r .stripes)
+        × (length (now images) ≡ size r) × (length (now block) ≡ r .block) ⌝ }
     ensures images { λ _. ⌜ now (images .exit) ≡
         storedIn r (fillDisk first count d (λ S. othersIn r (now (images .entry)) S d)) (now (images .entry)) ⌝ }
 {

@@ -43,7 +43,7 @@ const DISK: u8 = 10;
 
 // N, all disks of an array.
 pub fn disks_of(r: Record) -> u64
-    ensures { λ x. ⌜ x ≡ disksOf r ⌝ }
+    ensures count { λ x. ⌜ x ≡ disksOf r ⌝ }
 {
     r.old as u64 + r.new as u64
 }
@@ -51,7 +51,7 @@ pub fn disks_of(r: Record) -> u64
 // The length of the images of its old disks and m new ones.
 fn size_with(r: Record, m: u64) -> u64
     requires { ⌜ Limits r × (m ≤ 16) ⌝ }
-    ensures { λ x. ⌜ x ≡ sizeWith r m ⌝ }
+    ensures length { λ x. ⌜ x ≡ sizeWith r m ⌝ }
 {
     (r.old as u64 + m) * (r.stripes as u64 * r.block as u64)
 }
@@ -59,7 +59,7 @@ fn size_with(r: Record, m: u64) -> u64
 // The number of its blocks.
 fn blocks_of(r: Record) -> u64
     requires { ⌜ Limits r ⌝ }
-    ensures { λ x. ⌜ x ≡ capacity (geometry r) ⌝ }
+    ensures count { λ x. ⌜ x ≡ capacity (geometry r) ⌝ }
 {
     capacity_of(geometry_of(r))
 }
@@ -67,13 +67,13 @@ fn blocks_of(r: Record) -> u64
 // Is there no move to make?
 fn is_idle(r: Record) -> bool
     requires { ⌜ Limits r ⌝ }
-    ensures { λ x. ⌜ x ≡ idle (geometry r) ⌝ }
+    ensures answer { λ x. ⌜ x ≡ idle (geometry r) ⌝ }
 {
     all_moved(geometry_of(r))
 }
 
 fn is_formable(n: u64, block: u64, stripes: u64) -> bool
-    ensures { λ x. ⌜ x ≡ formable n block stripes ⌝ }
+    ensures answer { λ x. ⌜ x ≡ formable n block stripes ⌝ }
 {
     if !old_is_good(n) {
         return false;
@@ -85,7 +85,7 @@ fn is_formable(n: u64, block: u64, stripes: u64) -> bool
 }
 
 pub fn of_format(images: usize, n: u64, block: u64, stripes: u64) -> u8
-    ensures { λ k. ⌜ ((r : Record) → k ≡ refusalOf r (feed (format n block stripes) images 0)) ⌝ }
+    ensures number { λ k. ⌜ ((r : Record) → k ≡ refusalOf r (feed (format n block stripes) images 0)) ⌝ }
 {
     if !is_formable(n, block, stripes) {
         return GEOMETRY;
@@ -141,7 +141,7 @@ fn of_lent(r: Record, images: usize) -> u8
 
 // Of read, view and write: room is the length of the block that is lent.
 pub fn of_reach(r: Record, images: usize, b: u64, room: usize) -> u8
-    ensures { λ k. ⌜ k ≡ refusalOf r (feed (read b) images room) ⌝ }
+    ensures number { λ k. ⌜ k ≡ refusalOf r (feed (read b) images room) ⌝ }
 {
     let k = of_lent(r, images);
     if k != 0 {
@@ -157,7 +157,7 @@ pub fn of_reach(r: Record, images: usize, b: u64, room: usize) -> u8
 }
 
 pub fn of_grow(r: Record, images: usize, m: u64) -> u8
-    ensures { λ k. ⌜ k ≡ refusalOf r (feed (grow m) images 0) ⌝ }
+    ensures number { λ k. ⌜ k ≡ refusalOf r (feed (grow m) images 0) ⌝ }
 {
     let k = of_whole(r);
     if k != 0 {
@@ -176,7 +176,7 @@ pub fn of_grow(r: Record, images: usize, m: u64) -> u8
 }
 
 pub fn of_advance(r: Record, images: usize, k: u64) -> u8
-    ensures { λ x. ⌜ x ≡ refusalOf r (feed (advance k) images 0) ⌝ }
+    ensures number { λ x. ⌜ x ≡ refusalOf r (feed (advance k) images 0) ⌝ }
 {
     let w = of_whole(r);
     if w != 0 {
@@ -192,7 +192,7 @@ pub fn of_advance(r: Record, images: usize, k: u64) -> u8
 }
 
 pub fn of_out(r: Record, d: u64) -> u8
-    ensures { λ k. ⌜ k ≡ refusalOf r (feed (out d) 0 0) ⌝ }
+    ensures number { λ k. ⌜ k ≡ refusalOf r (feed (out d) 0 0) ⌝ }
 {
     let k = of_kept(r);
     if k != 0 {
@@ -209,7 +209,7 @@ pub fn of_out(r: Record, d: u64) -> u8
 }
 
 pub fn of_rebuild(r: Record, images: usize, d: u64) -> u8
-    ensures { λ k. ⌜ k ≡ refusalOf r (feed (rebuild d) images 0) ⌝ }
+    ensures number { λ k. ⌜ k ≡ refusalOf r (feed (rebuild d) images 0) ⌝ }
 {
     let k = of_lent(r, images);
     if k != 0 {
@@ -223,7 +223,7 @@ pub fn of_rebuild(r: Record, images: usize, d: u64) -> u8
 }
 
 pub fn of_status(r: Record) -> u8
-    ensures { λ k. ⌜ k ≡ refusalOf r (feed status 0 0) ⌝ }
+    ensures number { λ k. ⌜ k ≡ refusalOf r (feed status 0 0) ⌝ }
 {
     if !is_good(r) {
         return RECORD;
@@ -232,7 +232,7 @@ pub fn of_status(r: Record) -> u8
 }
 
 pub fn of_locate(r: Record, b: u64) -> u8
-    ensures { λ k. ⌜ k ≡ refusalOf r (feed (locate b) 0 0) ⌝ }
+    ensures number { λ k. ⌜ k ≡ refusalOf r (feed (locate b) 0 0) ⌝ }
 {
     if !is_good(r) {
         return RECORD;
@@ -244,7 +244,7 @@ pub fn of_locate(r: Record, b: u64) -> u8
 }
 
 pub fn of_owner(r: Record, s: u64, d: u64) -> u8
-    ensures { λ k. ⌜ k ≡ refusalOf r (feed (owner s d) 0 0) ⌝ }
+    ensures number { λ k. ⌜ k ≡ refusalOf r (feed (owner s d) 0 0) ⌝ }
 {
     if !is_good(r) {
         return RECORD;

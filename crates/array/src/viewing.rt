@@ -19,8 +19,8 @@ use state::geometry_of;
 // Which it is, with the scratch filled if it is that one, on a call that the table lets through.
 fn choose(r: Record, images: &[u8], b: u64, scratch: &mut [u8]) -> Choice
     requires { ⌜ refusalOf r (feed (view b) (length (now images)) (length (now scratch))) ≡ 0 ⌝ }
-    ensures { λ x. ⌜ x ≡ choiceOf 0 (viewOf r b) ⌝ }
-    ensures { λ _. ⌜ now (scratch .exit) ≡ scratchLeft r (now (images .entry)) b (now (scratch .entry)) ⌝ }
+    ensures choice { λ x. ⌜ x ≡ choiceOf 0 (viewOf r b) ⌝ }
+    ensures scratch { λ _. ⌜ now (scratch .exit) ≡ scratchLeft r (now (images .entry)) b (now (scratch .entry)) ⌝ }
 {
     let q = place_of(geometry_of(r), b);
     let health = r.health;

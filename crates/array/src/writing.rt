@@ -1,5 +1,5 @@
-// Document 01: "**Write**: the data place takes the data, the parity place its old value xor old block xor data; either is skipped if its disk is
-// out. All other bytes stay."
+// Document 01: "**Write**: the data place takes the data, the parity place its old value xor old block xor data; either is skipped if its
+// disk is out. All other bytes stay."
 ghost use mathlib.Core.Path.{_≡_};
 ghost use mathlib.Core.List.{[]};
 ghost use lib.ListN.{length};
@@ -22,7 +22,7 @@ use state::geometry_of;
 // The parity, then the data, on a call that the table lets through.
 fn put(r: Record, images: &mut [u8], b: u64, bytes: &[u8])
     requires { ⌜ refusalOf r (feed (write b (now bytes)) (length (now images)) 0) ≡ 0 ⌝ }
-    ensures { λ _. ⌜ now (images .exit) ≡ storedIn r (writeStores r (now (images .entry)) b (now (bytes .entry))) (now (images .entry)) ⌝ }
+    ensures images { λ _. ⌜ now (images .exit) ≡ storedIn r (writeStores r (now (images .entry)) b (now (bytes .entry))) (now (images .entry)) ⌝ }
 {
     let g = geometry_of(r);
     let q = place_of(g, b);

@@ -55,10 +55,12 @@ flatAct (grow m) r bs =
 -- "Advance: the lesser of k and total − t is added to t and reported."
 flatAct (advance k) r bs =
     let c = min k (totalOf (geometry r) - r .moves) in
-    let next : Record = record { old = r .old; new = r .new; health = r .health; block = r .block; stripes = r .stripes; moves = r .moves + c } in
+    let next : Record =
+    record { old = r .old; new = r .new; health = r .health; block = r .block; stripes = r .stripes; moves = r .moves + c } in
     (made c, flat next (lengthened next bs))
 flatAct (out d) r bs =
-    (done, flat (record { old = r .old; new = r .new; health = fallen (r .health) d; block = r .block; stripes = r .stripes; moves = r .moves }) bs)
+    let h = fallen (r .health) d in
+    (done, flat (record { old = r .old; new = r .new; health = h; block = r .block; stripes = r .stripes; moves = r .moves }) bs)
 flatAct (rebuild d) r bs =
     (done, flat (record { old = r .old; new = r .new; health = Whole; block = r .block; stripes = r .stripes; moves = r .moves }) bs)
 -- "Status, locate and owner answer from these numbers, by Layout."

@@ -18,7 +18,8 @@ use Rattle.blocks.specs.Block.{zeros}
 use Rattle.state.specs.declared.Health.the-variants.{Out, Lost}
 use Rattle.state.specs.declared.Record.{Record}
 use Rattle.state.specs.Good.{geometry, good}
-use Rattle.calls.specs.Call.{Call, sameCall, format, read, view, write, grow, advance, out, Event, Fed, fed, Answer, refused, bytes, accepted, count}
+use Rattle.calls.specs.Call.{Call, sameCall, format, read, view, write, grow, advance, out}
+use Rattle.calls.specs.Call.{Event, Fed, fed, Answer, refused, bytes, accepted, count}
 use Rattle.calls.specs.Health.{isLost, absent}
 use Rattle.calls.specs.Images.{disksOf, size, placeIn, seen}
 use Rattle.calls.specs.Table.{nothing, those, idle, refusal}

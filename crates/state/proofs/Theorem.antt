@@ -16,7 +16,7 @@ use Rattle.state.specs.declared.Record.{Record}
 use Rattle.state.specs.Good.{geometry, good, OutBelow, Limits}
 use Rattle.state.specs.Bytes.{recordLength, decode, plain, goodBytes, encode, AreBytes}
 use Rattle.state.specs.Theorem.{RoundTrip, GoodIs, Updates}
-use Rattle.state.proofs.Laws.Tests.{both}
+use Rattle.conditions.proofs.Tests.{both}
 use Rattle.state.proofs.Laws.Good.{limits, within-limits}
 use Rattle.state.proofs.Laws.Bytes.{decode-encode, length-encode, plain-encode, Fits, bytes-encode, encode-decode}
 

@@ -17,7 +17,7 @@ use Rattle.state.specs.declared.Record.{Record}
 use Rattle.state.specs.Good.{geometry, oldGood, blockGood, stripesGood, Limits}
 use Rattle.state.specs.Update.{formatted}
 use Rattle.state.proofs.Laws.Good.{within-true}
-use Rattle.state.proofs.Laws.Tests.{both}
+use Rattle.conditions.proofs.Tests.{both}
 use Rattle.calls.specs.Call.{format, done}
 use Rattle.calls.specs.Health.{absent}
 use Rattle.calls.specs.Images.{disksOf, size, Store, stored, zeroDisks}

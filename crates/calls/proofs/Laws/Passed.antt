@@ -18,7 +18,8 @@ use Rattle.calls.specs.Call.{Call, Fed, format, read, view, write, grow,
 use Rattle.calls.specs.Health.{isLost, isDegraded, isOut}
 use Rattle.calls.specs.Images.{disksOf, size, sizeWith}
 use Rattle.calls.specs.Table.{idle, formable, looks, terms, laterRows, word, table, refusal, rowsBytes, refusalBytes}
-use Rattle.calls.proofs.Laws.Table.{passes, equal, below, neither}
+use Rattle.conditions.proofs.Tests.{equal, below, neither}
+use Rattle.calls.proofs.Laws.Table.{passes}
 
 -- every disk is in
 all-in : (h : Health) → isDegraded h ≡ false → h ≡ Whole

@@ -7,7 +7,8 @@ use mathlib.Core.Logic.{_≢_}
 use mathlib.Core.List.{List, [], _∷_, _++_}
 use native.Mathlib.Omega.{arith}
 use lib.Dec.{eqb, ltb}
-use borrow.Author.Tests.{eqb-true, eqb-false, eq-eqb, ltb-true, not-false}
+use borrow.Author.Tests.{eqb-true, eqb-false, eq-eqb}
+use Rattle.conditions.proofs.Tests.{neither}
 use Rattle.layout.specs.declared.Geometry.{Geometry}
 use Rattle.layout.specs.Layout.{totalOf}
 use Rattle.layout.specs.Limits.{Good}
@@ -141,18 +142,6 @@ given-2 r c len room x s g h = rw (g, s .1, h) (go (looks x))
     go : (l : Bool) → _≡_ {A = ℕ} (cond (cond l false false) 1 2) 2
     go true = refl
     go false = refl
-
--- ---- single conditions
-
-pub equal : (a b : ℕ) → not (eqb a b) ≡ false → a ≡ b
-equal a b e = eqb-true a b (not-false _ e)
-
-pub below : (a b : ℕ) → not (ltb a b) ≡ false → a < b
-below a b e = ltb-true a b (not-false _ e)
-
-pub neither : (a b : Bool) → (a || b) ≡ false → (a ≡ false) × (b ≡ false)
-neither true b e = (e, let z : b ≡ false = cc in z)
-neither false b e = (refl, e)
 
 -- ---- 5's condition
 

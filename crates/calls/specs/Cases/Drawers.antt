@@ -1,6 +1,6 @@
 -- One cabinet, byte by byte: 3 disks growing by 1, 12 stripes, blocks of one byte, 4 of 9 moves made; block b holds b + 1. What some calls
--- leave of it, by a program that was written from document 01 and replays the moves; `drawers` of proofs/Cases/Drawers.antt computes that the
--- definitions say the same. Then the same cabinet with blocks of two bytes, `wide`.
+-- leave of it, by a program that was written from document 01 and replays the moves; `drawers` of proofs/Cases/Drawers.antt computes that
+-- the definitions say the same. Then the same cabinet with blocks of two bytes, `wide`.
 use Prim.Native.Nat.{ℕ}
 use mathlib.Core.Path.{_≡_}
 use mathlib.Core.List.{List, [], _∷_, _++_}

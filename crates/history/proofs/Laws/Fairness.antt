@@ -9,7 +9,7 @@ use lib.Dec.{eqb}
 use lib.ListN.{length}
 use borrow.Author.Tests.{eqb-true, eq-eqb}
 use Rattle.state.specs.declared.Record.{Record}
-use Rattle.state.proofs.Laws.Tests.{both}
+use Rattle.conditions.proofs.Tests.{both, second}
 use Rattle.calls.specs.Call.{Event, fed}
 use Rattle.calls.specs.Health.{absent}
 use Rattle.calls.specs.Images.{disksOf, placeIn}
@@ -59,24 +59,19 @@ each-below (suc n) f q i l =
     let z = both (f n) (below n f) q in
     elim (ℕ-discrete i n) [ yes e ↦ ap f e ∙ z .0 | no ne ↦ each-below n f (z .1) i (omega arith) ]
 
--- where the first of two does not hold the second does
-other : (a b : Bool) → (a || b) ≡ true → a ≡ false → b ≡ true
-other true b q u = absurd (let w : _≡_ {A = ℕ} 0 1 = cc in omega arith)
-other false b q u = q
-
 is-kept : (r : Record) (left lent : List ℕ) → keeps r left lent ≡ true → Keeps r left lent
 unfolding keeps Keeps
 is-kept r left lent q S d lS ld u =
     let z = each-below (r .stripes) (λ s. below (disksOf r) (λ e. absent (r .health) s e || same (placeIn r lent s e) (placeIn r left s e))) q S lS in
     let y = each-below (disksOf r) (λ e. absent (r .health) S e || same (placeIn r lent S e) (placeIn r left S e)) z d ld in
-    is-same (placeIn r lent S d) (placeIn r left S d) (other (absent (r .health) S d) (same (placeIn r lent S d) (placeIn r left S d)) y u)
+    is-same (placeIn r lent S d) (placeIn r left S d) (second (absent (r .health) S d) (same (placeIn r lent S d) (placeIn r left S d)) y u)
 
 may-lend : (t : Takes) (r : Record) (left lent : List ℕ) → lends t r left lent ≡ true → Lent t r left lent
 unfolding lends
 may-lend nothing r left lent q = tt
 may-lend (anything len) r left lent q = tt
 may-lend (those len) r left lent q =
-    λ z. is-kept r left lent (other (not (eqb (length lent) len)) (keeps r left lent) q (ap not (eq-eqb (length lent) len z)))
+    λ z. is-kept r left lent (second (not (eqb (length lent) len)) (keeps r left lent) q (ap not (eq-eqb (length lent) len z)))
 
 pub fair : {R : Type 0} (x : Form R) (es : List Event) (a : Cabinet R) (f : Flat) → fairly x es a f ≡ true → Fair x es a f
 unfolding fairly Fair Lends

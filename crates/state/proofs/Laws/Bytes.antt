@@ -13,7 +13,7 @@ use Rattle.state.specs.declared.Health.{Health}
 use Rattle.state.specs.declared.Record.{Record}
 use Rattle.state.specs.Good.{OutBelow}
 use Rattle.state.specs.Bytes.{recordLength, two, four, healthOf, decode, healthPlain, plain, healthByte, diskByte, encode, AreBytes}
-use Rattle.state.proofs.Laws.Tests.{both}
+use Rattle.conditions.proofs.Tests.{both}
 
 -- ---- from the record to its bytes and back
 

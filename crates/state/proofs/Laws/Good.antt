@@ -14,7 +14,7 @@ use Rattle.state.specs.declared.Health.the-variants.{Whole, Out, Lost}
 use Rattle.state.specs.declared.Health.{Health}
 use Rattle.state.specs.declared.Record.{Record}
 use Rattle.state.specs.Good.{geometry, within, newGood, movesGood, healthGood, good, OutBelow, Limits}
-use Rattle.state.proofs.Laws.Tests.{both, and-true}
+use Rattle.conditions.proofs.Tests.{both, and-true}
 
 -- ---- between two bounds
 

@@ -1,7 +1,7 @@
 -- `is_formable` meets its contract. Assumes nothing.
 use mathlib.Core.Path.{refl}
 use borrow.Author.Needs.{needs}
-use Rattle.state.proofs.Laws.Tests.{went-on, returned}
+use Rattle.conditions.proofs.Tests.{went-on, returned}
 use Rattle.calls.specs.Table.{formable}
 use Rattle.array.proofs.refusal.is_formable.Statement.{statement}
 use Rattle.array.proofs.refusal.is_formable.Tie as tie

@@ -8,7 +8,7 @@ use Rattle.state.specs.Good.{geometry}
 use Rattle.calls.specs.Images.{size}
 use Rattle.calls.specs.Table.{nothingToMove, images, keptWhole}
 use Rattle.calls.proofs.Laws.Table.{stops, given, skipped, whole-on, advance-rows}
-use Rattle.array.proofs.Calls.Asked.{same, other, told}
+use Rattle.conditions.proofs.Asked.{same, other, told}
 use Rattle.array.proofs.Calls.Ready.{ready-whole}
 use Rattle.array.proofs.refusal.of_advance.Statement.{statement}
 use Rattle.array.proofs.refusal.of_advance.Tie as tie

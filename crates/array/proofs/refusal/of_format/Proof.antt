@@ -5,12 +5,12 @@ use mathlib.Core.Bool.{true, not}
 use mathlib.Core.List.{[], _∷_}
 use native.Mathlib.Omega.{arith}
 use borrow.Author.Needs.{needs}
-use Rattle.state.proofs.Laws.Tests.{went-on, returned}
+use Rattle.conditions.proofs.Tests.{went-on, returned}
 use Rattle.calls.specs.Table.{formable, images}
 use Rattle.calls.proofs.Laws.Table.{given, skipped, format-rows}
 use Rattle.layout.specs.Layout.{capacity}
 use Rattle.state.specs.Good.{geometry}
-use Rattle.array.proofs.Calls.Asked.{same, other}
+use Rattle.conditions.proofs.Asked.{same, other}
 use Rattle.array.proofs.Calls.Bounds.{Bounded, bounded}
 use Rattle.calls.proofs.Laws.Format.{limits}
 use Rattle.array.proofs.refusal.of_format.Statement.{statement}

@@ -6,11 +6,11 @@ use borrow.Author.Needs.{needs}
 use Rattle.layout.specs.Layout.{capacity}
 use Rattle.state.specs.Good.{geometry, newGood}
 use Rattle.state.proofs.Laws.Good.{new-good}
-use Rattle.state.proofs.Laws.Tests.{went-on, returned}
+use Rattle.conditions.proofs.Tests.{went-on, returned}
 use Rattle.calls.specs.Images.{sizeWith}
 use Rattle.calls.specs.Table.{grownAlready, badGeometry, images, keptWhole}
 use Rattle.calls.proofs.Laws.Table.{stops, given, skipped, whole-on, grow-rows}
-use Rattle.array.proofs.Calls.Asked.{same, other}
+use Rattle.conditions.proofs.Asked.{same, other}
 use Rattle.array.proofs.Calls.Ready.{ready-whole}
 use Rattle.array.proofs.refusal.of_grow.Statement.{statement}
 use Rattle.array.proofs.refusal.of_grow.Tie as tie

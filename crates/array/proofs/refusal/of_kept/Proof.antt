@@ -1,8 +1,8 @@
 -- `of_kept` meets its contract. Assumes nothing.
 use mathlib.Core.Path.{refl}
 use borrow.Author.Needs.{needs}
-use Rattle.state.proofs.Laws.Tests.{went-on, returned}
-use Rattle.array.proofs.Calls.Asked.{told}
+use Rattle.conditions.proofs.Tests.{went-on, returned}
+use Rattle.conditions.proofs.Asked.{told}
 use Rattle.array.proofs.refusal.of_kept.Statement.{statement}
 use Rattle.array.proofs.refusal.of_kept.Tie as tie
 

@@ -6,7 +6,7 @@ use borrow.Author.Needs.{needs}
 use Rattle.calls.specs.Images.{size}
 use Rattle.calls.specs.Table.{images, kept}
 use Rattle.calls.proofs.Laws.Table.{stops, given, skipped, kept-on}
-use Rattle.array.proofs.Calls.Asked.{same, other}
+use Rattle.conditions.proofs.Asked.{same, other}
 use Rattle.array.proofs.Calls.Ready.{ready-kept}
 use Rattle.array.proofs.refusal.of_lent.Statement.{statement}
 use Rattle.array.proofs.refusal.of_lent.Tie as tie

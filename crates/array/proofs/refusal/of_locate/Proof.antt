@@ -6,10 +6,10 @@ use borrow.Author.Needs.{needs}
 use Rattle.layout.specs.Layout.{capacity}
 use Rattle.state.specs.Good.{geometry, good}
 use Rattle.state.proofs.Laws.Good.{limits}
-use Rattle.state.proofs.Laws.Tests.{went-on, returned}
+use Rattle.conditions.proofs.Tests.{went-on, returned}
 use Rattle.calls.specs.Table.{pastEnd}
 use Rattle.calls.proofs.Laws.Table.{given, skipped, locate-rows}
-use Rattle.array.proofs.Calls.Asked.{under, over}
+use Rattle.conditions.proofs.Asked.{under, over}
 use Rattle.array.proofs.refusal.of_locate.Statement.{statement}
 use Rattle.array.proofs.refusal.of_locate.Tie as tie
 

@@ -10,7 +10,7 @@ use Rattle.calls.specs.Health.{isOut}
 use Rattle.calls.specs.Images.{disksOf}
 use Rattle.calls.specs.Table.{disk, kept}
 use Rattle.calls.proofs.Laws.Table.{stops, given, skipped, kept-on, out-rows}
-use Rattle.array.proofs.Calls.Asked.{under, over, told}
+use Rattle.conditions.proofs.Asked.{under, over, told}
 use Rattle.array.proofs.refusal.of_out.Statement.{statement}
 use Rattle.array.proofs.refusal.of_out.Tie as tie
 

@@ -6,11 +6,11 @@ use borrow.Author.Needs.{needs}
 use lib.Dec.{ltb}
 use Rattle.layout.specs.Layout.{capacity}
 use Rattle.state.specs.Good.{geometry, good}
-use Rattle.state.proofs.Laws.Tests.{went-on, returned}
+use Rattle.conditions.proofs.Tests.{went-on, returned}
 use Rattle.calls.specs.Images.{disksOf}
 use Rattle.calls.specs.Table.{pastEnd, disk}
 use Rattle.calls.proofs.Laws.Table.{given, skipped, owner-rows}
-use Rattle.array.proofs.Calls.Asked.{under, over}
+use Rattle.conditions.proofs.Asked.{under, over}
 use Rattle.array.proofs.refusal.of_owner.Statement.{statement}
 use Rattle.array.proofs.refusal.of_owner.Tie as tie
 

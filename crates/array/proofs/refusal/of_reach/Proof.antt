@@ -7,7 +7,7 @@ use Rattle.layout.specs.Layout.{capacity}
 use Rattle.state.specs.Good.{geometry}
 use Rattle.calls.specs.Table.{pastEnd, blockLength, keptLent}
 use Rattle.calls.proofs.Laws.Table.{stops, given, skipped, lent-on, read-rows}
-use Rattle.array.proofs.Calls.Asked.{same, other, under, over}
+use Rattle.conditions.proofs.Asked.{same, other, under, over}
 use Rattle.array.proofs.Calls.Ready.{ready-lent}
 use Rattle.array.proofs.refusal.of_reach.Statement.{statement}
 use Rattle.array.proofs.refusal.of_reach.Tie as tie

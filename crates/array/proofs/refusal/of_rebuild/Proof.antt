@@ -5,7 +5,7 @@ use mathlib.Core.List.{[], _∷_}
 use borrow.Author.Needs.{needs}
 use Rattle.layout.specs.Layout.{capacity}
 use Rattle.state.specs.Good.{geometry}
-use Rattle.state.proofs.Laws.Tests.{went-on, returned}
+use Rattle.conditions.proofs.Tests.{went-on, returned}
 use Rattle.calls.specs.Health.{isOut}
 use Rattle.calls.specs.Table.{disk, keptLent}
 use Rattle.calls.proofs.Laws.Table.{stops, given, skipped, lent-on, rebuild-rows}

@@ -5,7 +5,7 @@ use mathlib.Core.List.{[]}
 use borrow.Author.Needs.{needs}
 use Rattle.layout.specs.Layout.{capacity}
 use Rattle.state.specs.Good.{geometry}
-use Rattle.state.proofs.Laws.Tests.{went-on, returned}
+use Rattle.conditions.proofs.Tests.{went-on, returned}
 use Rattle.calls.proofs.Laws.Table.{given, skipped, status-rows}
 use Rattle.array.proofs.refusal.of_status.Statement.{statement}
 use Rattle.array.proofs.refusal.of_status.Tie as tie

@@ -4,7 +4,7 @@ use mathlib.Core.List.{[], _∷_}
 use borrow.Author.Needs.{needs}
 use Rattle.calls.specs.Table.{degraded, kept}
 use Rattle.calls.proofs.Laws.Table.{stops, given, skipped, kept-on}
-use Rattle.array.proofs.Calls.Asked.{told}
+use Rattle.conditions.proofs.Asked.{told}
 use Rattle.array.proofs.refusal.of_whole.Statement.{statement}
 use Rattle.array.proofs.refusal.of_whole.Tie as tie
 

@@ -2,7 +2,7 @@
 use mathlib.Core.Path.{sym, _∙_}
 use lib.ListN.{length}
 use borrow.Author.Needs.{needs}
-use Rattle.array.proofs.Calls.Asked.{told}
+use Rattle.conditions.proofs.Asked.{told}
 use Rattle.calls.proofs.Laws.Table.{view-rows}
 use Rattle.array.proofs.Calls.Reach.{Reached, asked, reached, choice-out, choice-in}
 use Rattle.array.proofs.viewing.choose.Statement.{statement}

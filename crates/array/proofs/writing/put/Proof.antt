@@ -5,10 +5,10 @@ use native.Mathlib.Omega.{arith}
 use lib.ListN.{length}
 use borrow.Author.Needs.{needs}
 use Rattle.blocks.specs.Block.{store}
-use Rattle.state.proofs.Laws.Tests.{went-on, returned}
+use Rattle.conditions.proofs.Tests.{went-on, returned}
 use Rattle.calls.specs.Images.{stored}
 use Rattle.calls.specs.Effect.{writeStores}
-use Rattle.array.proofs.Calls.Asked.{told}
+use Rattle.conditions.proofs.Asked.{told}
 use Rattle.calls.proofs.Laws.Table.{write-rows}
 use Rattle.array.proofs.Calls.Reach.{Reached, asked, reached, inside, short, parity-asked}
 use Rattle.array.proofs.Calls.Put.{Aimed, aimed, parity-lt, sums, folds, data-out, both-in, parity-out}

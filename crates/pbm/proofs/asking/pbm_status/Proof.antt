@@ -3,7 +3,7 @@ use mathlib.Core.Path.{_≡_, refl, sym, _∙_}
 use mathlib.Core.Bool.{true}
 use mathlib.Core.List.{[]}
 use borrow.Author.Needs.{needs}
-use Rattle.state.proofs.Laws.Tests.{went-on, returned}
+use Rattle.conditions.proofs.Tests.{went-on, returned}
 use Rattle.array.specs.Answers.{reportAnswer}
 use Rattle.calls.specs.Call.{status, Event, on}
 use Rattle.calls.specs.Effect.{calledBytes}

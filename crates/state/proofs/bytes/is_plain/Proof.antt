@@ -3,7 +3,7 @@ use mathlib.Core.Path.{sym, _∙_}
 use borrow.Author.Tests.{eq-eqb, ne-eqb}
 use borrow.Author.Needs.{needs}
 use Rattle.state.specs.Bytes.{plain}
-use Rattle.state.proofs.Laws.Tests.{and-true, and-false, went-on, returned}
+use Rattle.conditions.proofs.Tests.{and-true, and-false, went-on, returned}
 use Rattle.state.proofs.bytes.is_plain.Statement.{statement}
 use Rattle.state.proofs.bytes.is_plain.Tie as tie
 

@@ -3,7 +3,7 @@
 use mathlib.Core.Path.{sym, _∙_}
 use borrow.Author.Needs.{needs}
 use Rattle.state.specs.Good.{good}
-use Rattle.state.proofs.Laws.Tests.{and-true, and-false, went-on, returned}
+use Rattle.conditions.proofs.Tests.{and-true, and-false, went-on, returned}
 use Rattle.state.proofs.Laws.Good.{within-true}
 use Rattle.state.proofs.good.is_good.Statement.{statement}
 use Rattle.state.proofs.good.is_good.Tie as tie

@@ -5,7 +5,7 @@ use borrow.Author.Tests.{eq-eqb, ne-eqb}
 use borrow.Author.Needs.{needs}
 use Rattle.layout.proofs.Laws.Zones.{total-le}
 use Rattle.state.specs.Good.{movesGood}
-use Rattle.state.proofs.Laws.Tests.{went-on, returned}
+use Rattle.conditions.proofs.Tests.{went-on, returned}
 use Rattle.state.proofs.Laws.Good.{sides}
 use Rattle.state.proofs.good.moves_are_good.Statement.{statement}
 use Rattle.state.proofs.good.moves_are_good.Tie as tie

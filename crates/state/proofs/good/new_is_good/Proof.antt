@@ -3,7 +3,7 @@ use mathlib.Core.Path.{sym}
 use native.Mathlib.Omega.{arith}
 use borrow.Author.Needs.{needs}
 use Rattle.state.specs.Good.{newGood}
-use Rattle.state.proofs.Laws.Tests.{and-true, and-false, went-on, returned}
+use Rattle.conditions.proofs.Tests.{and-true, and-false, went-on, returned}
 use Rattle.state.proofs.Laws.Good.{divisor}
 use Rattle.state.proofs.good.new_is_good.Statement.{statement}
 use Rattle.state.proofs.good.new_is_good.Tie as tie

@@ -1,0 +1,1 @@
+// What tests of conditions show: laws of Bool alone, no code.
