@@ -39,4 +39,4 @@ taken n m t S e = eqb (diskAt n m t S (source n m S e)) e
 -- ---- what the code needs of a stripe to answer all this: its number S, its zone Z, its place s in the zone, and its parity disk before growth
 
 abbrev pub stripeOf : ℕ → ℕ → ℕ → Stripe
-stripeOf n m S = record { number = S; zone = zoneOf n m S; within = withinZone n m S; parity = parityDisk n S }
+stripeOf n m S = record { number = S; zone = zoneOf n m S; within = withinZone n m S; home = parityDisk n S }

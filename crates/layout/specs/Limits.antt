@@ -19,11 +19,11 @@ pub record Sizes (n m S : ℕ) : Type 0 where
   pub stripe : S < 1048576
 
 -- x is stripe `x .number`, taken apart
-pub record Apart (n m : ℕ) (x : Stripe) : Type 0 where
+pub record TakenApart (n m : ℕ) (x : Stripe) : Type 0 where
   pub sizes : Sizes n m (x .number)
   pub zone : x .zone ≡ zoneOf n m (x .number)
   pub within : x .within ≡ withinZone n m (x .number)
-  pub parity : x .parity ≡ parityDisk n (x .number)
+  pub home : x .home ≡ parityDisk n (x .number)
 
 -- an array: "n, the old disks, is 3 to 16; m, the new ones, 1 to 16" (0 before growth), "T, the stripes, is 1 to 1,048,576", "t is at most the total of moves" (with m = 0 that is 0), "and with m above 0 T is a multiple of n × (n + m)"
 pub record Good (g : Geometry) : Type 0 where

@@ -6,7 +6,7 @@ ghost use lib.Dec.{eqb};
 ghost use Rattle.layout.specs.Closed.{taken};
 ghost use Rattle.layout.specs.Layout.{disks, totalOf, oldBlocks, openStripes, capacity, carried, newPlace, newOwner, layout};
 ghost use Rattle.layout.specs.Coded.{code};
-ghost use Rattle.layout.specs.Limits.{Apart, Good};
+ghost use Rattle.layout.specs.Limits.{TakenApart, Good};
 use crate::Geometry;
 use crate::Place;
 use crate::Role;
@@ -113,12 +113,12 @@ pub fn parity_of(g: Geometry, s: u64) -> u64
     ensures { λ r. ⌜ r ≡ layout g .parity s ⌝ }
 {
     let x = stripe_of(g.old, g.new, s);
-    disk_at(g.old, g.new, g.moves, x, x.parity)
+    disk_at(g.old, g.new, g.moves, x, x.home)
 }
 
 // What disk e of stripe x holds, coded, if nothing of before the growth.
 fn new_code(g: Geometry, x: Stripe, e: u64) -> u64
-    requires { ⌜ Good g × Apart (g .old) (g .new) x × (x .number < g .stripes) × (e < disks g) ⌝ }
+    requires { ⌜ Good g × TakenApart (g .old) (g .new) x × (x .number < g .stripes) × (e < disks g) ⌝ }
     ensures { λ r. ⌜ (taken (g .old) (g .new) (g .moves) (x .number) e ≡ false → r ≡ code (newOwner g (x .number) e)) ⌝ }
 {
     let s = x.number;
@@ -137,7 +137,7 @@ pub fn owner_of(g: Geometry, s: u64, e: u64) -> Role
     let x = stripe_of(g.old, g.new, s);
     let d = source_of(g.old, g.new, x, e);
     let there = disk_at(g.old, g.new, g.moves, x, d);
-    let old = home_code(g.old, x.parity, s, d);
+    let old = home_code(g.old, x.home, s, d);
     let new = new_code(g, x, e);
     role_of(pick(there == e, old, new))
 }

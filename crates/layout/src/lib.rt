@@ -48,12 +48,13 @@ pub struct Move {
     pub to: u64,
 }
 
-// A stripe taken apart once, so that no question about one of its disks divides again.
+// A stripe taken apart once, so that no question about one of its disks divides again: its number, its zone, its place in the zone, and
+// the disk of its parity before the growth.
 pub struct Stripe {
     pub number: u64,
     pub zone: u64,
     pub within: u64,
-    pub parity: u64,
+    pub home: u64,
 }
 
 // The blanks of a stripe whose moves have all been made, run by run: the first disk of the first run and of the second, and the

@@ -7,7 +7,7 @@ use Rattle.layout.specs.declared.Geometry.{Geometry}
 use Rattle.layout.specs.declared.Stripe.{Stripe}
 use Rattle.layout.specs.Moves.{total}
 use Rattle.layout.specs.Closed.{lag}
-use Rattle.layout.specs.Limits.{Disks, Sizes, Apart, Good}
+use Rattle.layout.specs.Limits.{Disks, Sizes, TakenApart, Good}
 use Rattle.layout.proofs.Laws.Basics.{times}
 use Rattle.layout.proofs.Laws.Lag.{lag-lt}
 
@@ -34,7 +34,7 @@ room n m k w pm =
 -- a stripe that was taken apart, and the turn of the move with lag i
 pub record Parts (n m : ℕ) (x : Stripe) : Type 0 where
   pub within : x .within < n + m
-  pub parity : x .parity < n
+  pub home : x .home < n
   pub zone-m : x .zone * m ≤ 16777216
 
 pub record Turns (n m : ℕ) (x : Stripe) (i : ℕ) : Type 0 where
@@ -43,14 +43,14 @@ pub record Turns (n m : ℕ) (x : Stripe) (i : ℕ) : Type 0 where
   pub lag : i < n
   pub index : (k : ℕ) → k ≡ x .within + i - n → (x .zone * m + k) * n ≤ 268435968
 
-module _ (n m : ℕ) (x : Stripe) (w : Apart n m x) where
+module _ (n m : ℕ) (x : Stripe) (w : TakenApart n m x) where
   p0 : 0 < n
   p0 = omega (arith, w .sizes .disks .n-low)
 
   pub parts : Parts n m x
   parts = record {
     within = omega (arith, w .within, p0, mod-lt (x .number) {m = n + m} (omega (arith, p0)));
-    parity = omega (arith, w .parity, mod-lt (x .number) {m = n} p0);
+    home = omega (arith, w .home, mod-lt (x .number) {m = n} p0);
     zone-m = times {a = x .zone} {b = m} 1048576 16 (omega (arith, w .zone, div-le-self (x .number) (n + m), w .sizes .stripe)) (w .sizes .disks .m-high);
   }
 
