@@ -25,11 +25,7 @@ fn lag_of(n: u64, m: u64, x: Stripe, d: u64) -> u64
     ensures { λ r. ⌜ r ≡ lag n (x .number) d ⌝ }
 {
     let home = x.home;
-    if d <= home {
-        home - d
-    } else {
-        home + n - d
-    }
+    if d <= home { home - d } else { home + n - d }
 }
 
 // The disk on which stands, after t moves, what stood on disk d.

@@ -2,13 +2,14 @@
 ghost use Prim.Native.Nat.{_<_, _*_};
 ghost use mathlib.Core.Path.{_≡_};
 ghost use mathlib.Core.Bool.{false};
-ghost use lib.Dec.{eqb};
+ghost use lib.Dec.{leb, eqb};
 ghost use Rattle.layout.specs.Closed.{taken};
 ghost use Rattle.layout.specs.Layout.{disks, totalOf, oldBlocks, openStripes, capacity, carried, newPlace, newOwner, layout};
 ghost use Rattle.layout.specs.Coded.{code};
-ghost use Rattle.layout.specs.Limits.{TakenApart, Good};
+ghost use Rattle.layout.specs.Limits.{TakenApart, Sized, Measured, Good};
 use crate::Geometry;
 use crate::Place;
+use crate::Progress;
 use crate::Role;
 use crate::Stripe;
 use crate::blanks::count_below;
@@ -22,14 +23,36 @@ use crate::coded::role_of;
 use crate::home::home_code;
 use crate::home::home_place;
 
+// The moves done and the total, which is T * n * m / (n + m), both times n + m.
+fn progress_of(g: Geometry) -> Progress
+    requires { ⌜ Sized g ⌝ }
+    ensures { λ r. ⌜ Measured g r ⌝ }
+{
+    let n = g.old;
+    let m = g.new;
+    Progress {
+        done: g.moves * (n + m),
+        all: g.stripes * n * m,
+        times: n + m,
+    }
+}
+
 // The moves of the growth.
 pub fn total_of(g: Geometry) -> u64
     requires { ⌜ Good g ⌝ }
     ensures { λ r. ⌜ r ≡ totalOf g ⌝ }
 {
-    let n = g.old;
-    let m = g.new;
-    g.stripes * n * m / (n + m)
+    let p = progress_of(g);
+    p.all / p.times
+}
+
+// Is t at most the total?
+pub fn moves_fit(g: Geometry) -> bool
+    requires { ⌜ Sized g ⌝ }
+    ensures { λ x. ⌜ x ≡ leb (g .moves) (totalOf g) ⌝ }
+{
+    let p = progress_of(g);
+    p.done <= p.all
 }
 
 fn old_blocks(g: Geometry) -> u64
@@ -39,14 +62,13 @@ fn old_blocks(g: Geometry) -> u64
     g.stripes * (g.old - 1)
 }
 
-// Are all moves of the growth made? (With no new disk there is none.) n + m divides T * n * m, so the code need not.
+// Are all moves of the growth made? (With no new disk there is none.)
 pub fn all_moved(g: Geometry) -> bool
     requires { ⌜ Good g ⌝ }
     ensures { λ r. ⌜ r ≡ eqb (g .moves) (totalOf g) ⌝ }
 {
-    let n = g.old;
-    let m = g.new;
-    g.moves * (n + m) == g.stripes * n * m
+    let p = progress_of(g);
+    p.done == p.all
 }
 
 // The stripes whose blanks are new blocks.

@@ -12,6 +12,7 @@ mod moves;
 pub use home::home_place;
 pub use layout::all_moved;
 pub use layout::capacity_of;
+pub use layout::moves_fit;
 pub use layout::owner_of;
 pub use layout::parity_of;
 pub use layout::place_of;
@@ -37,6 +38,13 @@ pub struct Geometry {
     pub new: u64,
     pub stripes: u64,
     pub moves: u64,
+}
+
+// How far an array is: t and the total of moves, both times the same number, so that they are compared with no division.
+pub struct Progress {
+    pub done: u64,
+    pub all: u64,
+    pub times: u64,
 }
 
 // A move: its zone, its stripe in the zone and in the array, the disk it leaves, the disk it goes to.
