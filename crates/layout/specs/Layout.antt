@@ -2,13 +2,15 @@
 use Prim.Native.Nat.{ℕ, suc, _+_, _-_, _*_}
 use mathlib.Core.Bool.{cond}
 use lib.Dec.{ltb, eqb}
+use Rattle.layout.specs.declared.Found.{Found}
 use Rattle.layout.specs.declared.Geometry.{Geometry}
 use Rattle.layout.specs.declared.Place.{Place}
 use Rattle.layout.specs.declared.Role.the-variants.{Data, Blank}
 use Rattle.layout.specs.declared.Role.{Role}
+use Rattle.layout.specs.declared.Spot.{Spot}
 use Rattle.layout.specs.Home.{placeAt, homePlace, parityDisk, homeOwner}
 use Rattle.layout.specs.Moves.{total, moveStripe, moveFrom, moveTo}
-use Rattle.layout.specs.Closed.{diskAt, source, taken}
+use Rattle.layout.specs.Closed.{stripeOf, diskAt, source, taken}
 use Rattle.layout.specs.Blanks.{newStripe, newDisk, newBlock}
 
 pub record Layout : Type 0 where
@@ -80,6 +82,14 @@ home g = homeLayout (g .old)
 -- now
 abbrev pub layout : Geometry → Layout
 layout g = grown (home g) g
+
+-- place q, its stripe taken apart
+abbrev pub spotAt : Geometry → Place → Spot
+spotAt g q = record { stripe = stripeOf (g .old) (g .new) (q .stripe); disk = q .disk }
+
+-- the place of block b, and the parity disk of its stripe
+abbrev pub found : Geometry → ℕ → Found
+found g b = record { place = layout g .place b; parity = layout g .parity (layout g .place b .stripe) }
 
 -- ---- its next move: the stripe, the disk that it leaves, the disk that it goes to, and the array with it done
 

@@ -4,13 +4,15 @@ ghost use mathlib.Core.Path.{_≡_};
 ghost use mathlib.Core.Bool.{false};
 ghost use lib.Dec.{leb, eqb};
 ghost use Rattle.layout.specs.Closed.{taken};
-ghost use Rattle.layout.specs.Layout.{disks, totalOf, oldBlocks, openStripes, capacity, carried, newPlace, newOwner, layout};
+ghost use Rattle.layout.specs.Layout.{disks, totalOf, oldBlocks, openStripes, capacity, carried, newPlace, spotAt, newOwner, layout, found};
 ghost use Rattle.layout.specs.Coded.{code};
 ghost use Rattle.layout.specs.Limits.{TakenApart, Sized, Measured, Good};
+use crate::Found;
 use crate::Geometry;
 use crate::Place;
 use crate::Progress;
 use crate::Role;
+use crate::Spot;
 use crate::Stripe;
 use crate::blanks::count_below;
 use crate::blanks::nth_blank;
@@ -88,31 +90,47 @@ pub fn capacity_of(g: Geometry) -> u64
 }
 
 // Where what stood at place q of the old disks stands now.
-fn carried_place(g: Geometry, q: Place) -> Place
+fn carried_spot(g: Geometry, q: Place) -> Spot
     requires { ⌜ Good g × (q .stripe < g .stripes) × (q .disk < g .old) ⌝ }
-    ensures { λ r. ⌜ r ≡ carried g q ⌝ }
+    ensures { λ r. ⌜ r ≡ spotAt g (carried g q) ⌝ }
 {
     if g.new == 0 {
-        return q;
+        let x = stripe_of(g.old, 0, q.stripe);
+        return Spot {
+            stripe: x,
+            disk: q.disk,
+        };
     }
     let x = stripe_of(g.old, g.new, q.stripe);
-    Place {
-        stripe: q.stripe,
+    Spot {
+        stripe: x,
         disk: disk_at(g.old, g.new, g.moves, x, q.disk),
     }
 }
 
 // Where new block k stands, counted from 0.
-fn new_place(g: Geometry, k: u64) -> Place
+fn new_spot(g: Geometry, k: u64) -> Spot
     requires { ⌜ Good g × (k < openStripes g * g .new) ⌝ }
-    ensures { λ r. ⌜ r ≡ newPlace g k ⌝ }
+    ensures { λ r. ⌜ r ≡ spotAt g (newPlace g k) ⌝ }
 {
     let m = g.new;
-    let s = k / m;
-    let x = stripe_of(g.old, m, s);
-    Place {
-        stripe: s,
+    let x = stripe_of(g.old, m, k / m);
+    Spot {
+        stripe: x,
         disk: nth_blank(g.old, m, x, k % m),
+    }
+}
+
+// Where block b stands, its stripe taken apart.
+fn spot_of(g: Geometry, b: u64) -> Spot
+    requires { ⌜ Good g × (b < capacity g) ⌝ }
+    ensures { λ r. ⌜ r ≡ spotAt g (layout g .place b) ⌝ }
+{
+    let old = old_blocks(g);
+    if b < old {
+        carried_spot(g, home_place(g.old, b))
+    } else {
+        new_spot(g, b - old)
     }
 }
 
@@ -121,12 +139,19 @@ pub fn place_of(g: Geometry, b: u64) -> Place
     requires { ⌜ Good g × (b < capacity g) ⌝ }
     ensures { λ r. ⌜ r ≡ layout g .place b ⌝ }
 {
-    let old = old_blocks(g);
-    if b < old {
-        carried_place(g, home_place(g.old, b))
-    } else {
-        new_place(g, b - old)
+    let y = spot_of(g, b);
+    Place {
+        stripe: y.stripe.number,
+        disk: y.disk,
     }
+}
+
+// The disk on which the parity of stripe x stands.
+fn parity_at(g: Geometry, x: Stripe) -> u64
+    requires { ⌜ TakenApart (g .old) (g .new) x ⌝ }
+    ensures { λ r. ⌜ r ≡ layout g .parity (x .number) ⌝ }
+{
+    disk_at(g.old, g.new, g.moves, x, x.home)
 }
 
 // The disk on which the parity of stripe s stands.
@@ -134,8 +159,23 @@ pub fn parity_of(g: Geometry, s: u64) -> u64
     requires { ⌜ Good g × (s < g .stripes) ⌝ }
     ensures { λ r. ⌜ r ≡ layout g .parity s ⌝ }
 {
-    let x = stripe_of(g.old, g.new, s);
-    disk_at(g.old, g.new, g.moves, x, x.home)
+    parity_at(g, stripe_of(g.old, g.new, s))
+}
+
+// Where block b stands, and the parity of its stripe.
+pub fn find(g: Geometry, b: u64) -> Found
+    requires { ⌜ Good g × (b < capacity g) ⌝ }
+    ensures { λ r. ⌜ r ≡ found g b ⌝ }
+{
+    let y = spot_of(g, b);
+    let x = y.stripe;
+    Found {
+        place: Place {
+            stripe: x.number,
+            disk: y.disk,
+        },
+        parity: parity_at(g, x),
+    }
 }
 
 // What disk e of stripe x holds, coded, if nothing of before the growth.

@@ -12,6 +12,7 @@ mod moves;
 pub use home::home_place;
 pub use layout::all_moved;
 pub use layout::capacity_of;
+pub use layout::find;
 pub use layout::moves_fit;
 pub use layout::owner_of;
 pub use layout::parity_of;
@@ -23,6 +24,12 @@ pub use moves::move_of;
 pub struct Place {
     pub stripe: u64,
     pub disk: u64,
+}
+
+// Where a block stands, and the disk on which its stripe's parity stands.
+pub struct Found {
+    pub place: Place,
+    pub parity: u64,
 }
 
 // What a place holds: a block by its number, its stripe's parity, or nothing.
@@ -63,6 +70,12 @@ pub struct Stripe {
     pub zone: u64,
     pub within: u64,
     pub home: u64,
+}
+
+// Where a block stands, its stripe taken apart.
+pub struct Spot {
+    pub stripe: Stripe,
+    pub disk: u64,
 }
 
 // The blanks of a stripe whose moves have all been made, run by run: the first disk of the first run and of the second, and the

@@ -1,5 +1,5 @@
 -- The layout of the array is lawful; what a program finds that looks for a block, and for an owner. Assumes nothing.
-use Prim.Native.Nat.{ℕ, _+_, _-_, _*_, _/_, _≤_, _<_}
+use Prim.Native.Nat.{ℕ, _+_, _-_, _*_, _/_, _%_, _≤_, _<_}
 use mathlib.Core.Path.{_≡_, refl, sym, ap, _∙_}
 use mathlib.Core.Bool.{false, cond}
 use mathlib.Core.Logic.{_≢_}
@@ -7,23 +7,27 @@ use native.Mathlib.Decide.{ℕ-discrete}
 use native.Mathlib.Nat.{div-lt-iff-lt-mul}
 use native.Mathlib.Omega.{arith}
 use lib.Dec.{eqb}
-use lib.ListN.{length}
+use lib.ListN.{length, getD}
 use borrow.Author.Tests.{lt-ltb, le-ltb, eq-eqb, ne-eqb}
 use Rattle.layout.specs.declared.Geometry.{Geometry}
 use Rattle.layout.specs.declared.Place.{Place}
 use Rattle.layout.specs.declared.Role.{Role}
+use Rattle.layout.specs.declared.Spot.{Spot}
 use Rattle.layout.specs.declared.Stripe.{Stripe}
+use Rattle.layout.specs.Home.{placeAt}
 use Rattle.layout.specs.Closed.{stripeOf, diskAt, source, taken}
-use Rattle.layout.specs.Blanks.{blanksBelow, blanks, newBlock}
+use Rattle.layout.specs.Blanks.{blanksBelow, blanks, newStripe, newDisk, newBlock}
 use Rattle.layout.specs.Runs.{settled}
-use Rattle.layout.specs.Layout.{disks, oldBlocks, openStripes, capacity, home, layout, carried, newPlace, grownPlace, newOwner, grownOwner}
+use Rattle.layout.specs.Layout.{disks, oldBlocks, openStripes, capacity, home, layout, carried, newPlace, grownPlace, newOwner, grownOwner, spotAt, found}
 use Rattle.layout.specs.Coded.{code, roleOf}
-use Rattle.layout.specs.Limits.{Good}
+use Rattle.layout.specs.Limits.{Good, TakenApart}
 use Rattle.layout.proofs.Laws.Basics.{times}
+use Rattle.layout.proofs.Laws.Closed.{disk-stays}
 use Rattle.layout.proofs.Laws.Source.{says-taken}
+use Rattle.layout.proofs.Laws.Apart.{apart}
 use Rattle.layout.proofs.Laws.Settled.{same-taken, same-below}
 use Rattle.layout.proofs.Laws.Numbers.{open-le, open-settled}
-use Rattle.layout.proofs.Laws.Bounds.{products}
+use Rattle.layout.proofs.Laws.Bounds.{products, sizes-of}
 use Rattle.layout.proofs.Laws.Lawful.Held.{a-block, the-parity, nothing}
 use Rattle.layout.proofs.Laws.Lawful.{Lawful, Full, Held}
 use Rattle.layout.proofs.Laws.Home.{home-layout-full}
@@ -45,20 +49,45 @@ module _ (g : Geometry) (good : Good g) where
   -- ---- what a program finds that looks for block b
 
   module _ (b : ℕ) where
-    pub find-old : b < oldBlocks g → (p q : Place) → p ≡ home g .place b → q ≡ carried g p → q ≡ layout g .place b
-    find-old l p q ep eq = eq ∙ ap (carried g) ep ∙ sym (low (home g) g b l)
+    pub find-old : b < oldBlocks g → (p : Place) → p ≡ home g .place b → carried g p ≡ layout g .place b
+    find-old l p ep = ap (carried g) ep ∙ sym (low (home g) g b l)
 
     pub home-in : b < oldBlocks g → (p : Place) → p ≡ home g .place b → (p .stripe < g .stripes) × (p .disk < g .old)
     home-in l p e = rw e (home-full .lawful .stripe-lt b l, home-full .lawful .disk-lt b l)
 
     module _ (old : ℕ) (e : old ≡ oldBlocks g) (l : old ≤ b) where
-      pub find-new : (q : Place) → q ≡ newPlace g (b - old) → q ≡ layout g .place b
+      pub find-new : newPlace g (b - old) ≡ layout g .place b
       unfolding grownPlace
-      find-new q eq = simp (le-ltb b (oldBlocks g) (omega arith)) (eq ∙ ap (λ x. newPlace g (b - x)) e)
+      find-new = simp (le-ltb b (oldBlocks g) (omega arith)) (ap (λ x. newPlace g (b - x)) e)
 
       pub new-in : b < capacity g → b - old < openStripes g * g .new
       unfolding capacity
       new-in h = omega arith
+
+    -- y is its spot
+    module _ (y : Spot) (ey : y ≡ spotAt g (layout g .place b)) where
+      pub spot-apart : b < capacity g → TakenApart (g .old) (g .new) (y .stripe)
+      spot-apart l = apart _ _ _ _ (sizes-of g good _ (lawful .stripe-lt b l)) (ap (λ x. x .stripe) ey)
+
+      pub spot-place : placeAt (y .stripe .number) (y .disk) ≡ layout g .place b
+      spot-place = ap (λ x. placeAt (x .stripe .number) (x .disk)) ey
+
+      pub spot-found : (p : ℕ) → p ≡ layout g .parity (y .stripe .number) → record { place = placeAt (y .stripe .number) (y .disk); parity = p } ≡ found g b
+      spot-found p ep =
+          ap (λ x. record { place = placeAt (y .stripe .number) (y .disk); parity = x }) ep
+          ∙ ap (λ (q : Place). record { place = q; parity = layout g .parity (q .stripe) }) spot-place
+
+  -- x is the stripe of place q, taken apart, and e its disk
+  spotted : (q : Place) (x : Stripe) (e : ℕ) → x ≡ stripeOf (g .old) (g .new) (q .stripe) → e ≡ q .disk → record { stripe = x; disk = e } ≡ spotAt g q
+  spotted q x e ex ee = ap (λ y. record { stripe = y; disk = e }) ex ∙ ap (λ d. record { stripe = stripeOf (g .old) (g .new) (q .stripe); disk = d }) ee
+
+  module _ (q : Place) (x : Stripe) where
+    pub none-carried : g .new ≡ 0 → x ≡ stripeOf (g .old) 0 (q .stripe) → record { stripe = x; disk = q .disk } ≡ spotAt g (carried g q)
+    none-carried z ex =
+        spotted (carried g q) x (q .disk) (ex ∙ ap (λ m. stripeOf (g .old) m (q .stripe)) (sym z)) (sym (disk-stays (g .old) (g .new) (g .moves) (q .stripe) (q .disk) (λ lo hi. omega arith)))
+
+    pub spot-carried : (e : ℕ) → x ≡ stripeOf (g .old) (g .new) (q .stripe) → e ≡ diskAt (g .old) (g .new) (g .moves) (x .number) (q .disk) → record { stripe = x; disk = e } ≡ spotAt g (carried g q)
+    spot-carried e ex ee = spotted (carried g q) x e ex (ee ∙ ap (λ y. diskAt (g .old) (g .new) (g .moves) (y .number) (q .disk)) ex)
 
   pub new-room : (k : ℕ) → k < openStripes g * g .new → (0 < g .new) × (k / g .new < g .stripes) × (k / g .new < openStripes g)
   new-room k l =
@@ -70,6 +99,14 @@ module _ (g : Geometry) (good : Good g) where
   pub open-blanks : (S : ℕ) → S < openStripes g → blanks (g .old) (g .new) (settled (g .old) (g .new) S) S ≡ blanks (g .old) (g .new) (g .moves) S
   unfolding blanks
   open-blanks S l = sym (same-below (g .old) (g .new) pn S (g .moves) (open-settled g good S l) (disks g))
+
+  pub spot-new : (k : ℕ) → k < openStripes g * g .new → (x : Stripe) (e : ℕ) → x ≡ stripeOf (g .old) (g .new) (k / g .new) → e ≡ getD (blanks (g .old) (g .new) (settled (g .old) (g .new) (x .number)) (x .number)) (k % g .new) 0 → record { stripe = x; disk = e } ≡ spotAt g (newPlace g k)
+  unfolding newStripe newDisk
+  spot-new k l x e ex ee =
+      spotted (newPlace g k) x e ex
+      (ee
+      ∙ ap (λ y. getD (blanks (g .old) (g .new) (settled (g .old) (g .new) (y .number)) (y .number)) (k % g .new) 0) ex
+      ∙ ap (λ b. getD b (k % g .new) 0) (open-blanks _ (new-room k l .2)))
 
   -- ---- and for the owner of place (S, e)
 
