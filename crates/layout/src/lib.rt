@@ -18,7 +18,9 @@ pub use layout::owner_of;
 pub use layout::parity_of;
 pub use layout::place_of;
 pub use layout::total_of;
+pub use moves::cursor_of;
 pub use moves::move_of;
+pub use moves::next_move;
 
 // Block `stripe` of disk `disk`.
 pub struct Place {
@@ -58,6 +60,16 @@ pub struct Progress {
 pub struct Move {
     pub zone: u64,
     pub within: u64,
+    pub stripe: u64,
+    pub from: u64,
+    pub to: u64,
+}
+
+// A move, with what it takes to count on to the next: its index, its lag i, and the disk that the move with lag 0 to its new disk leaves.
+pub struct Cursor {
+    pub index: u64,
+    pub lag: u64,
+    pub base: u64,
     pub stripe: u64,
     pub from: u64,
     pub to: u64,
