@@ -63,7 +63,8 @@ pub(crate) fn nth_blank(n: u64, m: u64, x: Stripe, j: u64) -> u64
 // The way back: the number of blank places below disk e, if that is one itself.
 pub(crate) fn count_below(n: u64, m: u64, x: Stripe, e: u64) -> u64
     requires { ⌜ TakenApart n m x × (e < n + m) ⌝ }
-    ensures { λ r. ⌜ (r ≤ e) × (taken n m (settled n m (x .number)) (x .number) e ≡ false → r ≡ length (blanksBelow n m (settled n m (x .number)) (x .number) e)) ⌝ }
+    ensures { λ r. ⌜ (r ≤ e) × (taken n m (settled n m (x .number)) (x .number) e ≡ false →
+        r ≡ length (blanksBelow n m (settled n m (x .number)) (x .number) e)) ⌝ }
 {
     let r = runs_of(n, m, x);
     let new = pick(e < x.within, n - r.left, x.within + n - r.early);

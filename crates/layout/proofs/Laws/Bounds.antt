@@ -77,7 +77,12 @@ unfolding total
 total-high g w = omega (arith, div-le-self (g .stripes * g .old * g .new) (g .old + g .new), by-moves g (w .disks) (w .stripes-high))
 
 pub sized : (g : Geometry) → Good g → Sized g
-sized g w = record { disks = w .disks; stripes-high = w .stripes-high; moves-high = omega (arith, w .moves, total-high g w); groups = w .groups }
+sized g w = record {
+  disks = w .disks;
+  stripes-high = w .stripes-high;
+  moves-high = omega (arith, w .moves, total-high g w);
+  groups = w .groups;
+}
 
 -- what the code compares, t and the total by the same number
 pub record Sides (g : Geometry) : Type 0 where

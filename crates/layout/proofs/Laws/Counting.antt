@@ -5,7 +5,8 @@ use native.Mathlib.Nat.{mod-add-mod, add-mod-right, add-mul-mod-self-right, mod-
 use native.Mathlib.Omega.{arith}
 use Rattle.layout.specs.declared.Cursor.{Cursor}
 use Rattle.layout.specs.declared.Move.{Move}
-use Rattle.layout.specs.Moves.{ruleWithin, ruleFrom, moveIndex, moveZone, moveTo, moveLag, moveWithin, moveStripe, moveFrom, moveOf, cursorAt}
+use Rattle.layout.specs.Moves.{ruleWithin, ruleFrom, moveIndex}
+use Rattle.layout.specs.Moves.{moveZone, moveTo, moveLag, moveWithin, moveStripe, moveFrom, moveOf, cursorAt}
 use Rattle.layout.specs.Limits.{Disks}
 use Rattle.layout.proofs.Laws.Basics.{times}
 use Rattle.layout.proofs.Laws.Lag.{lag-below, to-above, to-below, index, from-below}
@@ -13,7 +14,8 @@ use Rattle.layout.proofs.Laws.Order.{lag-of, zone-of, to-of}
 use Rattle.layout.proofs.Laws.Bounds.{room}
 
 -- field by field
-same : (c d : Cursor) → c .index ≡ d .index → c .lag ≡ d .lag → c .base ≡ d .base → c .stripe ≡ d .stripe → c .from ≡ d .from → c .to ≡ d .to → c ≡ d
+same : (c d : Cursor) → c .index ≡ d .index → c .lag ≡ d .lag → c .base ≡ d .base → c .stripe ≡ d .stripe → c .from ≡ d .from
+    → c .to ≡ d .to → c ≡ d
 same c d ek el eb es ef et = λ x. record { index = ek x; lag = el x; base = eb x; stripe = es x; from = ef x; to = et x }
 
 -- the cursor at the move of zone Z, new disk p and lag i
@@ -55,9 +57,12 @@ module _ (n m : ℕ) (w : Disks n m) (pm : 0 < m) where
   unfolding moveZone moveWithin
   move-held k x e = rw e (omega arith, room n m k w pm .zone-m, to-below n m pn pm k)
 
-  pub cursor-made : (k : ℕ) (x : Move) → x ≡ moveOf n m k → record { index = k; lag = x .to - x .within; base = (x .to + x .zone * m) % n; stripe = x .stripe; from = x .from; to = x .to } ≡ cursorAt n m k
+  pub cursor-made : (k : ℕ) (x : Move) → x ≡ moveOf n m k →
+      record { index = k; lag = x .to - x .within; base = (x .to + x .zone * m) % n; stripe = x .stripe; from = x .from; to = x .to }
+      ≡ cursorAt n m k
   unfolding moveWithin
-  cursor-made k x e = rw e (same _ _ refl (omega (arith, to-above n m pn pm k, lag-below n m pn pm k)) (sym (base-rule (moveZone n m k) (moveTo n m k))) refl refl refl)
+  cursor-made k x e =
+      rw e (same _ _ refl (omega (arith, to-above n m pn pm k, lag-below n m pn pm k)) (sym (base-rule (moveZone n m k) (moveTo n m k))) refl refl refl)
 
   -- ---- one move on: c is the cursor at its own index
 
@@ -101,13 +106,14 @@ module _ (n m : ℕ) (w : Disks n m) (pm : 0 < m) where
     unfolding moveZone
     held h =
         let r = room n m k w pm in
+        let zones : Z * (n + m) ≤ 268435456 * 32 = times {b = n + m} 268435456 32 (omega (arith, r .zone)) (omega (arith, w)) in
         record {
           lag = lag-high;
           base = rw base-is (mod-lt _ pn);
           from = rw from-is (mod-lt _ pn);
           to = to-high;
           stripe-low = omega (arith, stripe-is, to-low, lag-high);
-          stripe-high = omega (arith, stripe-is, to-high, times {a = Z} {b = n + m} 268435456 32 (omega (arith, r .zone)) (omega (arith, w)));
+          stripe-high = omega (arith, stripe-is, to-high, zones);
         }
 
     -- i rises: the stripe falls by one, the old disk by two
@@ -122,7 +128,9 @@ module _ (n m : ℕ) (w : Disks n m) (pm : 0 < m) where
           let b : x + (n - 2) ≡ c .to + Z * m + 2 * n - 2 * (c .lag + 1) + n = omega (arith, w .n-low) in
           ap (λ y. y % n) (a ∙ ap (λ y. y + (n - 2)) from-is) ∙ mod-add-mod x n (n - 2) ∙ ap (λ y. y % n) b ∙ add-mod-right _ n
 
-      pub next-lag : (f : ℕ) → f ≡ (c .from + n - 2) % n → record { index = k + 1; lag = c .lag + 1; base = c .base; stripe = c .stripe - 1; from = f; to = c .to } ≡ cursorAt n m (k + 1)
+      pub next-lag : (f : ℕ) → f ≡ (c .from + n - 2) % n →
+          record { index = k + 1; lag = c .lag + 1; base = c .base; stripe = c .stripe - 1; from = f; to = c .to }
+          ≡ cursorAt n m (k + 1)
       next-lag f ef =
           same _ _ (sym lag-on) refl base-is (omega (arith, stripe-is, to-low)) (ef ∙ from-on) refl
           ∙ sym (at-index Z (c .to) (c .lag + 1) to-low to-high h)
@@ -135,7 +143,8 @@ module _ (n m : ℕ) (w : Disks n m) (pm : 0 < m) where
           let a : c .to + Z * m + 1 ≡ c .to + 1 + Z * m = omega arith in
           eb ∙ ap (λ y. (y + 1) % n) (base-is ∙ base-rule Z (c .to)) ∙ mod-add-mod (c .to + Z * m) n 1 ∙ ap (λ y. y % n) a
 
-      pub next-to : c .to + 1 < n + m → record { index = k + 1; lag = 0; base = b; stripe = c .stripe + n; from = b; to = c .to + 1 } ≡ cursorAt n m (k + 1)
+      pub next-to : c .to + 1 < n + m →
+          record { index = k + 1; lag = 0; base = b; stripe = c .stripe + n; from = b; to = c .to + 1 } ≡ cursorAt n m (k + 1)
       next-to l =
           let q : Z * m + (c .to + 1 - n) ≡ Z * m + (c .to - n) + 1 = omega (arith, to-low) in
           let d : moveIndex n m Z (c .to + 1) 0 ≡ k + 1 = rw q (omega (arith, index-is, lag-high)) in
@@ -145,7 +154,8 @@ module _ (n m : ℕ) (w : Disks n m) (pm : 0 < m) where
           ∙ ap (cursorAt n m) d
 
       -- .. and behind the last new disk
-      pub next-zone : n + m ≤ c .to + 1 → record { index = k + 1; lag = 0; base = b; stripe = c .stripe + 2 * n; from = b; to = n } ≡ cursorAt n m (k + 1)
+      pub next-zone : n + m ≤ c .to + 1 →
+          record { index = k + 1; lag = 0; base = b; stripe = c .stripe + 2 * n; from = b; to = n } ≡ cursorAt n m (k + 1)
       next-zone l =
           let q : (Z + 1) * m + (n - n) ≡ Z * m + (c .to - n) + 1 = omega (arith, to-high) in
           let d : moveIndex n m (Z + 1) n 0 ≡ k + 1 = rw q (omega (arith, index-is, lag-high)) in

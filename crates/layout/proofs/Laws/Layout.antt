@@ -18,7 +18,8 @@ use Rattle.layout.specs.Home.{placeAt}
 use Rattle.layout.specs.Closed.{stripeOf, diskAt, source, taken}
 use Rattle.layout.specs.Blanks.{blanksBelow, blanks, newStripe, newDisk, newBlock}
 use Rattle.layout.specs.Runs.{settled}
-use Rattle.layout.specs.Layout.{disks, oldBlocks, openStripes, capacity, home, layout, carried, newPlace, grownPlace, newOwner, grownOwner, spotAt, found}
+use Rattle.layout.specs.Layout.{disks, oldBlocks, openStripes, capacity, home, layout, spotAt, found}
+use Rattle.layout.specs.Layout.{carried, newPlace, grownPlace, newOwner, grownOwner}
 use Rattle.layout.specs.Coded.{code, roleOf}
 use Rattle.layout.specs.Limits.{Good, TakenApart}
 use Rattle.layout.proofs.Laws.Basics.{times}
@@ -72,22 +73,30 @@ module _ (g : Geometry) (good : Good g) where
       pub spot-place : placeAt (y .stripe .number) (y .disk) ≡ layout g .place b
       spot-place = ap (λ x. placeAt (x .stripe .number) (x .disk)) ey
 
-      pub spot-found : (p : ℕ) → p ≡ layout g .parity (y .stripe .number) → record { place = placeAt (y .stripe .number) (y .disk); parity = p } ≡ found g b
+      pub spot-found : (p : ℕ) → p ≡ layout g .parity (y .stripe .number) →
+          record { place = placeAt (y .stripe .number) (y .disk); parity = p } ≡ found g b
       spot-found p ep =
           ap (λ x. record { place = placeAt (y .stripe .number) (y .disk); parity = x }) ep
           ∙ ap (λ (q : Place). record { place = q; parity = layout g .parity (q .stripe) }) spot-place
 
   -- x is the stripe of place q, taken apart, and e its disk
-  spotted : (q : Place) (x : Stripe) (e : ℕ) → x ≡ stripeOf (g .old) (g .new) (q .stripe) → e ≡ q .disk → record { stripe = x; disk = e } ≡ spotAt g q
-  spotted q x e ex ee = ap (λ y. record { stripe = y; disk = e }) ex ∙ ap (λ d. record { stripe = stripeOf (g .old) (g .new) (q .stripe); disk = d }) ee
+  spotted : (q : Place) (x : Stripe) (e : ℕ) → x ≡ stripeOf (g .old) (g .new) (q .stripe) → e ≡ q .disk →
+      record { stripe = x; disk = e } ≡ spotAt g q
+  spotted q x e ex ee =
+      ap (λ y. record { stripe = y; disk = e }) ex
+      ∙ ap (λ d. record { stripe = stripeOf (g .old) (g .new) (q .stripe); disk = d }) ee
 
   module _ (q : Place) (x : Stripe) where
-    pub none-carried : g .new ≡ 0 → x ≡ stripeOf (g .old) 0 (q .stripe) → record { stripe = x; disk = q .disk } ≡ spotAt g (carried g q)
+    pub none-carried : g .new ≡ 0 → x ≡ stripeOf (g .old) 0 (q .stripe) →
+        record { stripe = x; disk = q .disk } ≡ spotAt g (carried g q)
     none-carried z ex =
-        spotted (carried g q) x (q .disk) (ex ∙ ap (λ m. stripeOf (g .old) m (q .stripe)) (sym z)) (sym (disk-stays (g .old) (g .new) (g .moves) (q .stripe) (q .disk) (λ lo hi. omega arith)))
+        spotted (carried g q) x (q .disk) (ex ∙ ap (λ m. stripeOf (g .old) m (q .stripe)) (sym z))
+        (sym (disk-stays (g .old) (g .new) (g .moves) (q .stripe) (q .disk) (λ lo hi. omega arith)))
 
-    pub spot-carried : (e : ℕ) → x ≡ stripeOf (g .old) (g .new) (q .stripe) → e ≡ diskAt (g .old) (g .new) (g .moves) (x .number) (q .disk) → record { stripe = x; disk = e } ≡ spotAt g (carried g q)
-    spot-carried e ex ee = spotted (carried g q) x e ex (ee ∙ ap (λ y. diskAt (g .old) (g .new) (g .moves) (y .number) (q .disk)) ex)
+    pub spot-carried : (e : ℕ) → x ≡ stripeOf (g .old) (g .new) (q .stripe) → e ≡ diskAt (g .old) (g .new) (g .moves) (x .number) (q .disk) →
+        record { stripe = x; disk = e } ≡ spotAt g (carried g q)
+    spot-carried e ex ee =
+        spotted (carried g q) x e ex (ee ∙ ap (λ y. diskAt (g .old) (g .new) (g .moves) (y .number) (q .disk)) ex)
 
   pub new-room : (k : ℕ) → k < openStripes g * g .new → (0 < g .new) × (k / g .new < g .stripes) × (k / g .new < openStripes g)
   new-room k l =
@@ -100,7 +109,9 @@ module _ (g : Geometry) (good : Good g) where
   unfolding blanks
   open-blanks S l = sym (same-below (g .old) (g .new) pn S (g .moves) (open-settled g good S l) (disks g))
 
-  pub spot-new : (k : ℕ) → k < openStripes g * g .new → (x : Stripe) (e : ℕ) → x ≡ stripeOf (g .old) (g .new) (k / g .new) → e ≡ getD (blanks (g .old) (g .new) (settled (g .old) (g .new) (x .number)) (x .number)) (k % g .new) 0 → record { stripe = x; disk = e } ≡ spotAt g (newPlace g k)
+  pub spot-new : (k : ℕ) → k < openStripes g * g .new → (x : Stripe) (e : ℕ) → x ≡ stripeOf (g .old) (g .new) (k / g .new) →
+      e ≡ getD (blanks (g .old) (g .new) (settled (g .old) (g .new) (x .number)) (x .number)) (k % g .new) 0 →
+      record { stripe = x; disk = e } ≡ spotAt g (newPlace g k)
   unfolding newStripe newDisk
   spot-new k l x e ex ee =
       spotted (newPlace g k) x e ex

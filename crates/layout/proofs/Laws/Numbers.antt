@@ -40,7 +40,8 @@ module _ (g : Geometry) where
 
 -- ---- how far it is, told without a division
 
-pub measured : (g : Geometry) → Sized g → Measured g (record { done = g .moves * disks g; all = g .stripes * g .old * g .new; times = disks g })
+pub measured : (g : Geometry) → Sized g →
+    Measured g (record { done = g .moves * disks g; all = g .stripes * g .old * g .new; times = disks g })
 measured g w =
     let pn : 0 < g .old = omega (arith, w .disks .n-low) in
     record { times = omega arith; done = refl; all = sym (total-times (g .old) (g .new) (g .stripes) pn (w .groups)) }
