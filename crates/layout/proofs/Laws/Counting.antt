@@ -9,7 +9,7 @@ use Rattle.layout.specs.Moves.{ruleWithin, ruleFrom, moveIndex}
 use Rattle.layout.specs.Moves.{moveZone, moveTo, moveLag, moveWithin, moveStripe, moveFrom, moveOf, cursorAt}
 use Rattle.layout.specs.Limits.{Disks}
 use Rattle.layout.proofs.Laws.Basics.{times}
-use Rattle.layout.proofs.Laws.Lag.{lag-below, to-above, to-below, index, from-below}
+use Rattle.layout.proofs.Laws.Lag.{lag-below, to-above, to-below, index}
 use Rattle.layout.proofs.Laws.Order.{lag-of, zone-of, to-of}
 use Rattle.layout.proofs.Laws.Bounds.{room}
 
