@@ -95,13 +95,6 @@ fn carried_spot(g: Geometry, q: Place) -> Spot
     requires { ⌜ Good g × (q .stripe < g .stripes) × (q .disk < g .old) ⌝ }
     ensures { λ r. ⌜ r ≡ spotAt g (carried g q) ⌝ }
 {
-    if g.new == 0 {
-        let x = stripe_of(g.old, 0, q.stripe);
-        return Spot {
-            stripe: x,
-            disk: q.disk,
-        };
-    }
     let x = stripe_of(g.old, g.new, q.stripe);
     Spot {
         stripe: x,
@@ -135,11 +128,14 @@ fn spot_of(g: Geometry, b: u64) -> Spot
     }
 }
 
-// Where block b stands.
+// Where block b stands: with no new disk, where it stood before the growth.
 pub fn place_of(g: Geometry, b: u64) -> Place
     requires { ⌜ Good g × (b < capacity g) ⌝ }
     ensures { λ r. ⌜ r ≡ layout g .place b ⌝ }
 {
+    if g.new == 0 {
+        return home_place(g.old, b);
+    }
     let y = spot_of(g, b);
     Place {
         stripe: y.stripe.number,
@@ -168,6 +164,13 @@ pub fn find(g: Geometry, b: u64) -> Found
     requires { ⌜ Good g × (b < capacity g) ⌝ }
     ensures { λ r. ⌜ r ≡ found g b ⌝ }
 {
+    if g.new == 0 {
+        let q = home_place(g.old, b);
+        return Found {
+            place: q,
+            parity: q.stripe % g.old,
+        };
+    }
     let y = spot_of(g, b);
     let x = y.stripe;
     Found {

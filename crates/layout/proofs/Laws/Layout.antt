@@ -19,7 +19,7 @@ use Rattle.layout.specs.Closed.{stripeOf, diskAt, source, taken}
 use Rattle.layout.specs.Blanks.{blanksBelow, blanks, newStripe, newDisk, newBlock}
 use Rattle.layout.specs.Runs.{settled}
 use Rattle.layout.specs.Layout.{disks, oldBlocks, openStripes, capacity, home, layout, spotAt, found}
-use Rattle.layout.specs.Layout.{carried, newPlace, grownPlace, newOwner, grownOwner}
+use Rattle.layout.specs.Layout.{carried, newPlace, grownPlace, grownParity, newOwner, grownOwner}
 use Rattle.layout.specs.Coded.{code, roleOf}
 use Rattle.layout.specs.Limits.{Good, TakenApart}
 use Rattle.layout.proofs.Laws.Basics.{times}
@@ -65,6 +65,23 @@ module _ (g : Geometry) (good : Good g) where
       unfolding capacity
       new-in h = omega arith
 
+    -- with no new disk
+    module _ (z : g .new ≡ 0) where
+      stays-there : (S d : ℕ) → d ≡ diskAt (g .old) (g .new) (g .moves) S d
+      stays-there S d = sym (disk-stays (g .old) (g .new) (g .moves) S d (λ lo hi. omega arith))
+
+      pub home-place : b < capacity g → (p : Place) → p ≡ home g .place b → p ≡ layout g .place b
+      unfolding capacity
+      home-place l p ep =
+          let none : openStripes g * g .new ≡ 0 = ap (λ m. openStripes g * m) z ∙ omega arith in
+          ap (placeAt (p .stripe)) (stays-there (p .stripe) (p .disk)) ∙ find-old (omega (arith, l, none)) p ep
+
+      pub home-found : b < capacity g → (p : Place) → p ≡ home g .place b → record { place = p; parity = p .stripe % g .old } ≡ found g b
+      unfolding grownParity
+      home-found l p ep =
+          ap (λ d. record { place = p; parity = d }) (stays-there (p .stripe) (p .stripe % g .old))
+          ∙ ap (λ (q : Place). record { place = q; parity = layout g .parity (q .stripe) }) (home-place l p ep)
+
     -- y is its spot
     module _ (y : Spot) (ey : y ≡ spotAt g (layout g .place b)) where
       pub spot-apart : b < capacity g → TakenApart (g .old) (g .new) (y .stripe)
@@ -86,17 +103,10 @@ module _ (g : Geometry) (good : Good g) where
       ap (λ y. record { stripe = y; disk = e }) ex
       ∙ ap (λ d. record { stripe = stripeOf (g .old) (g .new) (q .stripe); disk = d }) ee
 
-  module _ (q : Place) (x : Stripe) where
-    pub none-carried : g .new ≡ 0 → x ≡ stripeOf (g .old) 0 (q .stripe) →
-        record { stripe = x; disk = q .disk } ≡ spotAt g (carried g q)
-    none-carried z ex =
-        spotted (carried g q) x (q .disk) (ex ∙ ap (λ m. stripeOf (g .old) m (q .stripe)) (sym z))
-        (sym (disk-stays (g .old) (g .new) (g .moves) (q .stripe) (q .disk) (λ lo hi. omega arith)))
-
-    pub spot-carried : (e : ℕ) → x ≡ stripeOf (g .old) (g .new) (q .stripe) → e ≡ diskAt (g .old) (g .new) (g .moves) (x .number) (q .disk) →
-        record { stripe = x; disk = e } ≡ spotAt g (carried g q)
-    spot-carried e ex ee =
-        spotted (carried g q) x e ex (ee ∙ ap (λ y. diskAt (g .old) (g .new) (g .moves) (y .number) (q .disk)) ex)
+  pub spot-carried : (q : Place) (x : Stripe) (e : ℕ) → x ≡ stripeOf (g .old) (g .new) (q .stripe) →
+      e ≡ diskAt (g .old) (g .new) (g .moves) (x .number) (q .disk) → record { stripe = x; disk = e } ≡ spotAt g (carried g q)
+  spot-carried q x e ex ee =
+      spotted (carried g q) x e ex (ee ∙ ap (λ y. diskAt (g .old) (g .new) (g .moves) (y .number) (q .disk)) ex)
 
   pub new-room : (k : ℕ) → k < openStripes g * g .new → (0 < g .new) × (k / g .new < g .stripes) × (k / g .new < openStripes g)
   new-room k l =
