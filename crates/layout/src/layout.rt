@@ -1,19 +1,19 @@
 // The layout of the whole array: its numbers, places and owners.
-ghost use Prim.Native.Nat.{_<_, _*_};
+ghost use Prim.Native.Nat.{_<_};
 ghost use mathlib.Core.Path.{_≡_};
 ghost use mathlib.Core.Bool.{false};
 ghost use lib.Dec.{leb, eqb};
 ghost use Rattle.layout.specs.Closed.{taken};
 ghost use Rattle.layout.specs.Layout.{disks, totalOf, oldBlocks, openStripes, capacity};
-ghost use Rattle.layout.specs.Layout.{carried, newPlace, newOwner, layout, spotAt, found};
+ghost use Rattle.layout.specs.Layout.{newOwner, layout, seatOf, seatDisk, found};
 ghost use Rattle.layout.specs.Coded.{code};
-ghost use Rattle.layout.specs.Limits.{TakenApart, Sized, Measured, Good};
+ghost use Rattle.layout.specs.Limits.{TakenApart, Seated, Sized, Measured, Good};
 use crate::Found;
 use crate::Geometry;
 use crate::Place;
 use crate::Progress;
 use crate::Role;
-use crate::Spot;
+use crate::Seat;
 use crate::Stripe;
 use crate::blanks::count_below;
 use crate::blanks::nth_blank;
@@ -90,41 +90,36 @@ pub fn capacity_of(g: Geometry) -> u64
     old_blocks(g) + open_stripes(g) * g.new
 }
 
-// Where what stood at place q of the old disks stands now.
-fn carried_spot(g: Geometry, q: Place) -> Spot
-    requires { ⌜ Good g × (q .stripe < g .stripes) × (q .disk < g .old) ⌝ }
-    ensures { λ r. ⌜ r ≡ spotAt g (carried g q) ⌝ }
-{
-    let x = stripe_of(g.old, g.new, q.stripe);
-    Spot {
-        stripe: x,
-        disk: disk_at(g.old, g.new, g.moves, x, q.disk),
-    }
-}
-
-// Where new block k stands, counted from 0.
-fn new_spot(g: Geometry, k: u64) -> Spot
-    requires { ⌜ Good g × (k < openStripes g * g .new) ⌝ }
-    ensures { λ r. ⌜ r ≡ spotAt g (newPlace g k) ⌝ }
-{
-    let m = g.new;
-    let x = stripe_of(g.old, m, k / m);
-    Spot {
-        stripe: x,
-        disk: nth_blank(g.old, m, x, k % m),
-    }
-}
-
-// Where block b stands, its stripe taken apart.
-fn spot_of(g: Geometry, b: u64) -> Spot
+// The seat of block b.
+fn seat_of(g: Geometry, b: u64) -> Seat
     requires { ⌜ Good g × (b < capacity g) ⌝ }
-    ensures { λ r. ⌜ r ≡ spotAt g (layout g .place b) ⌝ }
+    ensures { λ r. ⌜ r ≡ seatOf g b ⌝ }
 {
     let old = old_blocks(g);
     if b < old {
-        carried_spot(g, home_place(g.old, b))
+        let q = home_place(g.old, b);
+        return Seat {
+            stripe: q.stripe,
+            nth: q.disk,
+            new: false,
+        };
+    }
+    Seat {
+        stripe: (b - old) / g.new,
+        nth: (b - old) % g.new,
+        new: true,
+    }
+}
+
+// The disk of seat y, whose stripe is x.
+fn seat_disk(g: Geometry, x: Stripe, y: Seat) -> u64
+    requires { ⌜ TakenApart (g .old) (g .new) x × Seated g y ⌝ }
+    ensures { λ r. ⌜ r ≡ seatDisk g (x .number) y ⌝ }
+{
+    if y.new {
+        nth_blank(g.old, g.new, x, y.nth)
     } else {
-        new_spot(g, b - old)
+        disk_at(g.old, g.new, g.moves, x, y.nth)
     }
 }
 
@@ -136,10 +131,11 @@ pub fn place_of(g: Geometry, b: u64) -> Place
     if g.new == 0 {
         return home_place(g.old, b);
     }
-    let y = spot_of(g, b);
+    let y = seat_of(g, b);
+    let x = stripe_of(g.old, g.new, y.stripe);
     Place {
-        stripe: y.stripe.number,
-        disk: y.disk,
+        stripe: y.stripe,
+        disk: seat_disk(g, x, y),
     }
 }
 
@@ -171,12 +167,12 @@ pub fn find(g: Geometry, b: u64) -> Found
             parity: q.stripe % g.old,
         };
     }
-    let y = spot_of(g, b);
-    let x = y.stripe;
+    let y = seat_of(g, b);
+    let x = stripe_of(g.old, g.new, y.stripe);
     Found {
         place: Place {
-            stripe: x.number,
-            disk: y.disk,
+            stripe: y.stripe,
+            disk: seat_disk(g, x, y),
         },
         parity: parity_at(g, x),
     }

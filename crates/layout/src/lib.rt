@@ -84,10 +84,12 @@ pub struct Stripe {
     pub home: u64,
 }
 
-// Where a block stands, its stripe taken apart.
-pub struct Spot {
-    pub stripe: Stripe,
-    pub disk: u64,
+// A block's stripe, and what tells its disk there: for a block of before the growth the disk on which it stood, for a new one which of the
+// blanks it is.
+pub struct Seat {
+    pub stripe: u64,
+    pub nth: u64,
+    pub new: bool,
 }
 
 // The blanks of a stripe whose moves have all been made, run by run: the first disk of the first run and of the second, and the
