@@ -1,19 +1,16 @@
 -- The layout of an array: where each block stands, where each stripe's parity stands, and who owns each place.
-use Prim.Native.Nat.{ℕ, suc, _+_, _-_, _*_, _%_}
-use mathlib.Core.Bool.{true, false, cond}
+use Prim.Native.Nat.{ℕ, suc, _+_, _-_, _*_}
+use mathlib.Core.Bool.{cond}
 use lib.Dec.{ltb, eqb}
-use lib.ListN.{getD}
 use Rattle.layout.specs.declared.Found.{Found}
 use Rattle.layout.specs.declared.Geometry.{Geometry}
 use Rattle.layout.specs.declared.Place.{Place}
 use Rattle.layout.specs.declared.Role.the-variants.{Data, Blank}
 use Rattle.layout.specs.declared.Role.{Role}
-use Rattle.layout.specs.declared.Seat.{Seat}
-use Rattle.layout.specs.Home.{placeAt, homeStripe, homeDisk, homePlace, parityDisk, homeOwner}
+use Rattle.layout.specs.Home.{placeAt, homePlace, parityDisk, homeOwner}
 use Rattle.layout.specs.Moves.{total, moveStripe, moveFrom, moveTo}
 use Rattle.layout.specs.Closed.{diskAt, source, taken}
-use Rattle.layout.specs.Blanks.{blanks, newStripe, newDisk, newBlock}
-use Rattle.layout.specs.Runs.{settled}
+use Rattle.layout.specs.Blanks.{newStripe, newDisk, newBlock}
 
 pub record Layout : Type 0 where
   pub place : ℕ → Place
@@ -88,20 +85,6 @@ layout g = grown (home g) g
 -- the place of block b, and the parity disk of its stripe
 abbrev pub found : Geometry → ℕ → Found
 found g b = record { place = layout g .place b; parity = layout g .parity (layout g .place b .stripe) }
-
--- ---- how the code finds a block: its seat first, then, its stripe taken apart, the disk
-
-unfoldable pub seatOf : Geometry → ℕ → Seat
-seatOf g b =
-    let k = b - oldBlocks g in
-    cond (ltb b (oldBlocks g))
-    (record { stripe = homeStripe (g .old) b; nth = homeDisk (g .old) b; new = false })
-    (record { stripe = newStripe (g .new) k; nth = k % g .new; new = true })
-
-unfoldable pub seatDisk : Geometry → ℕ → Seat → ℕ
-seatDisk g S y =
-    cond (y .new) (getD (blanks (g .old) (g .new) (settled (g .old) (g .new) S) S) (y .nth) 0)
-    (diskAt (g .old) (g .new) (g .moves) S (y .nth))
 
 -- ---- its next move: the stripe, the disk that it leaves, the disk that it goes to, and the array with it done
 

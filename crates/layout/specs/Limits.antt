@@ -1,10 +1,8 @@
 -- The limits of document 01, Images and Record.
 use Prim.Native.Nat.{ℕ, _+_, _*_, _%_, _≤_, _<_}
 use mathlib.Core.Path.{_≡_}
-use mathlib.Core.Bool.{true, false}
 use Rattle.layout.specs.declared.Geometry.{Geometry}
 use Rattle.layout.specs.declared.Progress.{Progress}
-use Rattle.layout.specs.declared.Seat.{Seat}
 use Rattle.layout.specs.declared.Stripe.{Stripe}
 use Rattle.layout.specs.Home.{parityDisk}
 use Rattle.layout.specs.Moves.{zoneOf, withinZone}
@@ -49,8 +47,3 @@ pub record Measured (g : Geometry) (p : Progress) : Type 0 where
   pub times : 0 < p .times
   pub done : p .done ≡ g .moves * p .times
   pub all : p .all ≡ totalOf g * p .times
-
--- y is the seat of some block: an old disk, or one of the blanks
-pub record Seated (g : Geometry) (y : Seat) : Type 0 where
-  pub old : y .new ≡ false → y .nth < g .old
-  pub new : y .new ≡ true → y .nth < g .new

@@ -5,9 +5,10 @@ ghost use mathlib.Core.Bool.{false};
 ghost use lib.Dec.{leb, eqb};
 ghost use Rattle.layout.specs.Closed.{taken};
 ghost use Rattle.layout.specs.Layout.{disks, totalOf, oldBlocks, openStripes, capacity};
-ghost use Rattle.layout.specs.Layout.{newOwner, layout, seatOf, seatDisk, found};
+ghost use Rattle.layout.specs.Layout.{newOwner, layout, found};
+ghost use Rattle.layout.specs.Seats.{seatOf, seatDisk, Seated};
 ghost use Rattle.layout.specs.Coded.{code};
-ghost use Rattle.layout.specs.Limits.{TakenApart, Seated, Sized, Measured, Good};
+ghost use Rattle.layout.specs.Limits.{TakenApart, Sized, Measured, Good};
 use crate::Found;
 use crate::Geometry;
 use crate::Place;
@@ -58,13 +59,6 @@ pub fn moves_fit(g: Geometry) -> bool
     p.done <= p.all
 }
 
-fn old_blocks(g: Geometry) -> u64
-    requires { ⌜ Good g ⌝ }
-    ensures { λ r. ⌜ r ≡ oldBlocks g ⌝ }
-{
-    g.stripes * (g.old - 1)
-}
-
 // Are all moves of the growth made? (With no new disk there is none.)
 pub fn all_moved(g: Geometry) -> bool
     requires { ⌜ Good g ⌝ }
@@ -72,6 +66,14 @@ pub fn all_moved(g: Geometry) -> bool
 {
     let p = progress_of(g);
     p.done == p.all
+}
+
+// The blocks of before the growth.
+fn old_blocks(g: Geometry) -> u64
+    requires { ⌜ Good g ⌝ }
+    ensures { λ r. ⌜ r ≡ oldBlocks g ⌝ }
+{
+    g.stripes * (g.old - 1)
 }
 
 // The stripes whose blanks are new blocks.
@@ -155,7 +157,7 @@ pub fn parity_of(g: Geometry, s: u64) -> u64
     parity_at(g, stripe_of(g.old, g.new, s))
 }
 
-// Where block b stands, and the parity of its stripe.
+// Where block b stands, and the parity of its stripe, which is taken apart once for both.
 pub fn find(g: Geometry, b: u64) -> Found
     requires { ⌜ Good g × (b < capacity g) ⌝ }
     ensures { λ r. ⌜ r ≡ found g b ⌝ }

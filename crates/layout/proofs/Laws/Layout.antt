@@ -18,10 +18,11 @@ use Rattle.layout.specs.Home.{placeAt, homeStripe, homeDisk}
 use Rattle.layout.specs.Closed.{stripeOf, diskAt, source, taken}
 use Rattle.layout.specs.Blanks.{blanksBelow, blanks, newStripe, newDisk, newBlock}
 use Rattle.layout.specs.Runs.{settled}
-use Rattle.layout.specs.Layout.{disks, oldBlocks, openStripes, capacity, home, layout, seatOf, seatDisk, found}
+use Rattle.layout.specs.Layout.{disks, oldBlocks, openStripes, capacity, home, layout, found}
 use Rattle.layout.specs.Layout.{carried, newPlace, grownPlace, grownParity, newOwner, grownOwner}
+use Rattle.layout.specs.Seats.{seatOf, seatDisk, Seated}
 use Rattle.layout.specs.Coded.{code, roleOf}
-use Rattle.layout.specs.Limits.{Good, TakenApart, Seated}
+use Rattle.layout.specs.Limits.{Good, TakenApart}
 use Rattle.layout.proofs.Laws.Basics.{times, le-or-lt}
 use Rattle.layout.proofs.Laws.Closed.{disk-stays}
 use Rattle.layout.proofs.Laws.Source.{says-taken}
@@ -74,7 +75,7 @@ module _ (g : Geometry) (good : Good g) where
     unfolding grownPlace
     new-place l = simp (le-ltb b (oldBlocks g) l)
 
-    pub new-in : oldBlocks g ≤ b → b < capacity g → b - oldBlocks g < openStripes g * g .new
+    new-in : oldBlocks g ≤ b → b < capacity g → b - oldBlocks g < openStripes g * g .new
     unfolding capacity
     new-in l h = omega arith
 

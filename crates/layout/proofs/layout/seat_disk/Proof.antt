@@ -1,5 +1,5 @@
 -- `seat_disk` meets its contract. Assumes nothing.
-use Rattle.layout.specs.Layout.{seatDisk}
+use Rattle.layout.specs.Seats.{seatDisk}
 use Rattle.layout.proofs.layout.seat_disk.Statement.{statement}
 use Rattle.layout.proofs.layout.seat_disk.Tie as tie
 
