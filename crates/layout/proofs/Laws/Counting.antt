@@ -183,10 +183,10 @@ down-two n d h l =
 pub down-round : (n d : ℕ) → 2 ≤ n → d < 2 → d + n - 2 ≡ (d + n - 2) % n
 down-round n d h l = sym (mod-eq-of-lt (omega arith))
 
--- ---- a loop's cursor
+-- ---- a loop's cursor: c is at move k, and d one on, at move j
 
 pub own-index : (n m k : ℕ) (c : Cursor) → c ≡ cursorAt n m k → c ≡ cursorAt n m (c .index)
 own-index n m k c e = e ∙ sym (ap (λ x. cursorAt n m (x .index)) e)
 
-pub counted-on : (n m k : ℕ) (c d : Cursor) → c ≡ cursorAt n m k → d ≡ cursorAt n m (c .index + 1) → d ≡ cursorAt n m (k + 1)
-counted-on n m k c d e f = f ∙ ap (λ x. cursorAt n m (x .index + 1)) e
+pub counted-on : (n m k j : ℕ) (c d : Cursor) → c ≡ cursorAt n m k → k + 1 ≡ j → d ≡ cursorAt n m (c .index + 1) → d ≡ cursorAt n m j
+counted-on n m k j c d e q f = f ∙ ap (λ x. cursorAt n m (x .index + 1)) e ∙ ap (cursorAt n m) q

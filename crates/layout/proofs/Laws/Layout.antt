@@ -9,6 +9,7 @@ use native.Mathlib.Omega.{arith}
 use lib.Dec.{eqb}
 use lib.ListN.{length, getD}
 use borrow.Author.Tests.{lt-ltb, le-ltb, eq-eqb, ne-eqb}
+use Rattle.layout.specs.declared.Found.{Found}
 use Rattle.layout.specs.declared.Geometry.{Geometry}
 use Rattle.layout.specs.declared.Place.{Place}
 use Rattle.layout.specs.declared.Role.{Role}
@@ -34,6 +35,14 @@ use Rattle.layout.proofs.Laws.Lawful.Held.{a-block, the-parity, nothing
 use Rattle.layout.proofs.Laws.Lawful.{Lawful, Full, Held}
 use Rattle.layout.proofs.Laws.Home.{home-layout-full}
 use Rattle.layout.proofs.Laws.Grown.{low, owner-old, grown-lawful, positive}
+
+-- what a caller of find has
+module _ (g : Geometry) (b : ℕ) (f : Found) (e : f ≡ found g b) where
+  pub found-place : f .place ≡ layout g .place b
+  found-place = ap (λ (x : Found). x .place) e
+
+  pub found-parity : f .parity ≡ layout g .parity (f .place .stripe)
+  found-parity = ap (λ (x : Found). x .parity) e ∙ sym (ap (λ (x : Found). layout g .parity (x .place .stripe)) e)
 
 -- y is a seat in the array, and gives the place of block b
 record Fit (g : Geometry) (b : ℕ) (y : Seat) : Type 0 where
