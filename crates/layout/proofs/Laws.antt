@@ -2,6 +2,7 @@
 pub mod Basics
 pub mod Lag
 pub mod Order
+pub mod Counting
 pub mod Closed
 pub mod Source
 pub mod Apart

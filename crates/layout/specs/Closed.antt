@@ -36,7 +36,8 @@ source n m S e = cond (ltb e n) e (lag n S (e - withinZone n m S))
 unfoldable pub taken : ℕ → ℕ → ℕ → ℕ → ℕ → Bool
 taken n m t S e = eqb (diskAt n m t S (source n m S e)) e
 
--- ---- what the code needs of a stripe to answer all this: its number S, its zone Z, its place s in the zone, and its parity disk before growth
+-- ---- what the code needs of a stripe to answer all this
 
+-- its number S, its zone Z, its place s in the zone, and its parity disk before growth
 abbrev pub stripeOf : ℕ → ℕ → ℕ → Stripe
-stripeOf n m S = record { number = S; zone = zoneOf n m S; within = withinZone n m S; parity = parityDisk n S }
+stripeOf n m S = record { number = S; zone = zoneOf n m S; within = withinZone n m S; home = parityDisk n S }

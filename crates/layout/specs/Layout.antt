@@ -2,6 +2,7 @@
 use Prim.Native.Nat.{ℕ, suc, _+_, _-_, _*_}
 use mathlib.Core.Bool.{cond}
 use lib.Dec.{ltb, eqb}
+use Rattle.layout.specs.declared.Found.{Found}
 use Rattle.layout.specs.declared.Geometry.{Geometry}
 use Rattle.layout.specs.declared.Place.{Place}
 use Rattle.layout.specs.declared.Role.the-variants.{Data, Blank}
@@ -80,6 +81,10 @@ home g = homeLayout (g .old)
 -- now
 abbrev pub layout : Geometry → Layout
 layout g = grown (home g) g
+
+-- the place of block b, and the parity disk of its stripe
+abbrev pub found : Geometry → ℕ → Found
+found g b = record { place = layout g .place b; parity = layout g .parity (layout g .place b .stripe) }
 
 -- ---- its next move: the stripe, the disk that it leaves, the disk that it goes to, and the array with it done
 

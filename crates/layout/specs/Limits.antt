@@ -2,6 +2,7 @@
 use Prim.Native.Nat.{ℕ, _+_, _*_, _%_, _≤_, _<_}
 use mathlib.Core.Path.{_≡_}
 use Rattle.layout.specs.declared.Geometry.{Geometry}
+use Rattle.layout.specs.declared.Progress.{Progress}
 use Rattle.layout.specs.declared.Stripe.{Stripe}
 use Rattle.layout.specs.Home.{parityDisk}
 use Rattle.layout.specs.Moves.{zoneOf, withinZone}
@@ -19,16 +20,30 @@ pub record Sizes (n m S : ℕ) : Type 0 where
   pub stripe : S < 1048576
 
 -- x is stripe `x .number`, taken apart
-pub record Apart (n m : ℕ) (x : Stripe) : Type 0 where
+pub record TakenApart (n m : ℕ) (x : Stripe) : Type 0 where
   pub sizes : Sizes n m (x .number)
   pub zone : x .zone ≡ zoneOf n m (x .number)
   pub within : x .within ≡ withinZone n m (x .number)
-  pub parity : x .parity ≡ parityDisk n (x .number)
+  pub home : x .home ≡ parityDisk n (x .number)
 
--- an array: "n, the old disks, is 3 to 16; m, the new ones, 1 to 16" (0 before growth), "T, the stripes, is 1 to 1,048,576", "t is at most the total of moves" (with m = 0 that is 0), "and with m above 0 T is a multiple of n × (n + m)"
+-- an array: "n, the old disks, is 3 to 16; m, the new ones, 1 to 16" (0 before growth), "T, the stripes, is 1 to 1,048,576",
+-- "t is at most the total of moves" (with m = 0 that is 0), "and with m above 0 T is a multiple of n × (n + m)"
 pub record Good (g : Geometry) : Type 0 where
   pub disks : Disks (g .old) (g .new)
   pub stripes-low : 1 ≤ g .stripes
   pub stripes-high : g .stripes ≤ 1048576
   pub moves : g .moves ≤ totalOf g
   pub groups : 0 < g .new → g .stripes % (g .old * (g .old + g .new)) ≡ 0
+
+-- an array of which it is not known yet that t is at most the total
+pub record Sized (g : Geometry) : Type 0 where
+  pub disks : Disks (g .old) (g .new)
+  pub stripes-high : g .stripes ≤ 1048576
+  pub moves-high : g .moves < 4294967296
+  pub groups : 0 < g .new → g .stripes % (g .old * (g .old + g .new)) ≡ 0
+
+-- p says how far it is: t and the total, both times a number above 0
+pub record Measured (g : Geometry) (p : Progress) : Type 0 where
+  pub times : 0 < p .times
+  pub done : p .done ≡ g .moves * p .times
+  pub all : p .all ≡ totalOf g * p .times

@@ -2,6 +2,7 @@
 use Prim.Native.Nat.{ℕ, zero, suc, _+_, _-_, _*_, _/_, _%_}
 use mathlib.Core.Bool.{cond, _&&_}
 use lib.Dec.{eqb}
+use Rattle.layout.specs.declared.Cursor.{Cursor}
 use Rattle.layout.specs.declared.Move.{Move}
 
 -- ---- zones: "A zone is n + m stripes; Z = S div (n + m), s = S mod (n + m)"
@@ -50,7 +51,26 @@ moveFrom n m k = ruleFrom n m (moveZone n m k) (moveTo n m k) (moveLag n k)
 
 -- all of it
 abbrev pub moveOf : ℕ → ℕ → ℕ → Move
-moveOf n m k = record { zone = moveZone n m k; within = moveWithin n m k; stripe = moveStripe n m k; from = moveFrom n m k; to = moveTo n m k }
+moveOf n m k =
+    record {
+      zone = moveZone n m k;
+      within = moveWithin n m k;
+      stripe = moveStripe n m k;
+      from = moveFrom n m k;
+      to = moveTo n m k;
+    }
+
+-- what the code counts on by: the move, its index and lag, and the disk that the move with lag 0 to its new disk leaves
+abbrev pub cursorAt : ℕ → ℕ → ℕ → Cursor
+cursorAt n m k =
+    record {
+      index = k;
+      lag = moveLag n k;
+      base = ruleFrom n m (moveZone n m k) (moveTo n m k) 0;
+      stripe = moveStripe n m k;
+      from = moveFrom n m k;
+      to = moveTo n m k;
+    }
 
 -- the zones of T stripes; "A group is n zones"; and the moves of them all: "Total T × n × m / (n + m)"
 abbrev pub zones : ℕ → ℕ → ℕ → ℕ

@@ -9,7 +9,7 @@ ghost use lib.ListN.{length, getD};
 ghost use Rattle.layout.specs.Closed.{taken};
 ghost use Rattle.layout.specs.Blanks.{blanks, blanksBelow};
 ghost use Rattle.layout.specs.Runs.{settled, firstLag, endLag, runsOf};
-ghost use Rattle.layout.specs.Limits.{Apart};
+ghost use Rattle.layout.specs.Limits.{TakenApart};
 use crate::Runs;
 use crate::Stripe;
 use crate::choice::excess;
@@ -24,21 +24,21 @@ fn first_lag(n: u64, x: Stripe) -> u64
 
 // .. to below this one.
 fn end_lag(n: u64, m: u64, x: Stripe) -> u64
-    requires { ⌜ Apart n m x ⌝ }
+    requires { ⌜ TakenApart n m x ⌝ }
     ensures { λ r. ⌜ r ≡ endLag n m (x .within) ⌝ }
 {
     n - excess(x.within, m)
 }
 
 fn runs_of(n: u64, m: u64, x: Stripe) -> Runs
-    requires { ⌜ Apart n m x ⌝ }
-    ensures { λ r. ⌜ r ≡ runsOf n m (x .within) (x .parity) ⌝ }
+    requires { ⌜ TakenApart n m x ⌝ }
+    ensures { λ r. ⌜ r ≡ runsOf n m (x .within) (x .home) ⌝ }
 {
     let first = first_lag(n, x);
     let end = end_lag(n, m, x);
     let left = end - first;
     let early = left + excess(x.within, n);
-    let past = x.parity + 1;
+    let past = x.home + 1;
     let low = excess(past, end);
     Runs {
         low: low,
@@ -51,7 +51,7 @@ fn runs_of(n: u64, m: u64, x: Stripe) -> Runs
 
 // The disk of blank place j. All along a run it is above j by one number; that number is picked.
 pub(crate) fn nth_blank(n: u64, m: u64, x: Stripe, j: u64) -> u64
-    requires { ⌜ Apart n m x × (j < m) ⌝ }
+    requires { ⌜ TakenApart n m x × (j < m) ⌝ }
     ensures { λ r. ⌜ r ≡ getD (blanks n m (settled n m (x .number)) (x .number)) j 0 ⌝ }
 {
     let r = runs_of(n, m, x);
@@ -62,11 +62,12 @@ pub(crate) fn nth_blank(n: u64, m: u64, x: Stripe, j: u64) -> u64
 
 // The way back: the number of blank places below disk e, if that is one itself.
 pub(crate) fn count_below(n: u64, m: u64, x: Stripe, e: u64) -> u64
-    requires { ⌜ Apart n m x × (e < n + m) ⌝ }
-    ensures { λ r. ⌜ (r ≤ e) × (taken n m (settled n m (x .number)) (x .number) e ≡ false → r ≡ length (blanksBelow n m (settled n m (x .number)) (x .number) e)) ⌝ }
+    requires { ⌜ TakenApart n m x × (e < n + m) ⌝ }
+    ensures { λ r. ⌜ (r ≤ e) × (taken n m (settled n m (x .number)) (x .number) e ≡ false →
+        r ≡ length (blanksBelow n m (settled n m (x .number)) (x .number) e)) ⌝ }
 {
     let r = runs_of(n, m, x);
     let new = pick(e < x.within, n - r.left, x.within + n - r.early);
-    let old = pick(e <= x.parity, r.low, r.high - r.some);
+    let old = pick(e <= x.home, r.low, r.high - r.some);
     excess(e, pick(e < n, old, new))
 }

@@ -2,7 +2,7 @@
 ghost use Prim.Native.Nat.{_<_};
 ghost use mathlib.Core.Path.{_≡_};
 ghost use Rattle.layout.specs.Closed.{stripeOf, lag, diskAt, source};
-ghost use Rattle.layout.specs.Limits.{Sizes, Apart};
+ghost use Rattle.layout.specs.Limits.{Sizes, TakenApart};
 use crate::Stripe;
 use crate::choice::excess;
 use crate::choice::pick;
@@ -15,26 +15,22 @@ pub(crate) fn stripe_of(n: u64, m: u64, s: u64) -> Stripe
         number: s,
         zone: s / (n + m),
         within: s % (n + m),
-        parity: s % n,
+        home: s % n,
     }
 }
 
 // The lag of the one move that can carry what stood on disk d.
 fn lag_of(n: u64, m: u64, x: Stripe, d: u64) -> u64
-    requires { ⌜ Apart n m x × (d < n) ⌝ }
+    requires { ⌜ TakenApart n m x × (d < n) ⌝ }
     ensures { λ r. ⌜ r ≡ lag n (x .number) d ⌝ }
 {
-    let parity = x.parity;
-    if d <= parity {
-        parity - d
-    } else {
-        parity + n - d
-    }
+    let home = x.home;
+    if d <= home { home - d } else { home + n - d }
 }
 
 // The disk on which stands, after t moves, what stood on disk d.
 pub(crate) fn disk_at(n: u64, m: u64, t: u64, x: Stripe, d: u64) -> u64
-    requires { ⌜ Apart n m x × (d < n) ⌝ }
+    requires { ⌜ TakenApart n m x × (d < n) ⌝ }
     ensures { λ r. ⌜ r ≡ diskAt n m t (x .number) d ⌝ }
 {
     let i = lag_of(n, m, x, d);
@@ -46,7 +42,7 @@ pub(crate) fn disk_at(n: u64, m: u64, t: u64, x: Stripe, d: u64) -> u64
 
 // The only disk whose content can have come to stand on disk e.
 pub(crate) fn source_of(n: u64, m: u64, x: Stripe, e: u64) -> u64
-    requires { ⌜ Apart n m x ⌝ }
+    requires { ⌜ TakenApart n m x ⌝ }
     ensures { λ r. ⌜ r ≡ source n m (x .number) e ⌝ }
 {
     let i = excess(e, x.within);

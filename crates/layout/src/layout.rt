@@ -1,15 +1,20 @@
 // The layout of the whole array: its numbers, places and owners.
-ghost use Prim.Native.Nat.{_<_, _*_};
+ghost use Prim.Native.Nat.{_<_};
 ghost use mathlib.Core.Path.{_≡_};
 ghost use mathlib.Core.Bool.{false};
-ghost use lib.Dec.{eqb};
+ghost use lib.Dec.{leb, eqb};
 ghost use Rattle.layout.specs.Closed.{taken};
-ghost use Rattle.layout.specs.Layout.{disks, totalOf, oldBlocks, openStripes, capacity, carried, newPlace, newOwner, layout};
+ghost use Rattle.layout.specs.Layout.{disks, totalOf, oldBlocks, openStripes, capacity};
+ghost use Rattle.layout.specs.Layout.{newOwner, layout, found};
+ghost use Rattle.layout.specs.Seats.{seatOf, seatDisk, Seated};
 ghost use Rattle.layout.specs.Coded.{code};
-ghost use Rattle.layout.specs.Limits.{Apart, Good};
+ghost use Rattle.layout.specs.Limits.{TakenApart, Sized, Measured, Good};
+use crate::Found;
 use crate::Geometry;
 use crate::Place;
+use crate::Progress;
 use crate::Role;
+use crate::Seat;
 use crate::Stripe;
 use crate::blanks::count_below;
 use crate::blanks::nth_blank;
@@ -22,31 +27,53 @@ use crate::coded::role_of;
 use crate::home::home_code;
 use crate::home::home_place;
 
+// The moves done and the total, which is T * n * m / (n + m), both times n + m.
+fn progress_of(g: Geometry) -> Progress
+    requires { ⌜ Sized g ⌝ }
+    ensures { λ r. ⌜ Measured g r ⌝ }
+{
+    let n = g.old;
+    let m = g.new;
+    Progress {
+        done: g.moves * (n + m),
+        all: g.stripes * n * m,
+        times: n + m,
+    }
+}
+
 // The moves of the growth.
 pub fn total_of(g: Geometry) -> u64
     requires { ⌜ Good g ⌝ }
     ensures { λ r. ⌜ r ≡ totalOf g ⌝ }
 {
-    let n = g.old;
-    let m = g.new;
-    g.stripes * n * m / (n + m)
+    let p = progress_of(g);
+    p.all / p.times
 }
 
+// Is t at most the total?
+pub fn moves_fit(g: Geometry) -> bool
+    requires { ⌜ Sized g ⌝ }
+    ensures { λ x. ⌜ x ≡ leb (g .moves) (totalOf g) ⌝ }
+{
+    let p = progress_of(g);
+    p.done <= p.all
+}
+
+// Are all moves of the growth made? (With no new disk there is none.)
+pub fn all_moved(g: Geometry) -> bool
+    requires { ⌜ Good g ⌝ }
+    ensures { λ r. ⌜ r ≡ eqb (g .moves) (totalOf g) ⌝ }
+{
+    let p = progress_of(g);
+    p.done == p.all
+}
+
+// The blocks of before the growth.
 fn old_blocks(g: Geometry) -> u64
     requires { ⌜ Good g ⌝ }
     ensures { λ r. ⌜ r ≡ oldBlocks g ⌝ }
 {
     g.stripes * (g.old - 1)
-}
-
-// Are all moves of the growth made? (With no new disk there is none.) n + m divides T * n * m, so the code need not.
-pub fn all_moved(g: Geometry) -> bool
-    requires { ⌜ Good g ⌝ }
-    ensures { λ r. ⌜ r ≡ eqb (g .moves) (totalOf g) ⌝ }
-{
-    let n = g.old;
-    let m = g.new;
-    g.moves * (n + m) == g.stripes * n * m
 }
 
 // The stripes whose blanks are new blocks.
@@ -65,46 +92,61 @@ pub fn capacity_of(g: Geometry) -> u64
     old_blocks(g) + open_stripes(g) * g.new
 }
 
-// Where what stood at place q of the old disks stands now.
-fn carried_place(g: Geometry, q: Place) -> Place
-    requires { ⌜ Good g × (q .stripe < g .stripes) × (q .disk < g .old) ⌝ }
-    ensures { λ r. ⌜ r ≡ carried g q ⌝ }
+// The seat of block b.
+fn seat_of(g: Geometry, b: u64) -> Seat
+    requires { ⌜ Good g × (b < capacity g) ⌝ }
+    ensures { λ r. ⌜ r ≡ seatOf g b ⌝ }
 {
-    if g.new == 0 {
-        return q;
+    let old = old_blocks(g);
+    if b < old {
+        let q = home_place(g.old, b);
+        return Seat {
+            stripe: q.stripe,
+            nth: q.disk,
+            new: false,
+        };
     }
-    let x = stripe_of(g.old, g.new, q.stripe);
-    Place {
-        stripe: q.stripe,
-        disk: disk_at(g.old, g.new, g.moves, x, q.disk),
+    Seat {
+        stripe: (b - old) / g.new,
+        nth: (b - old) % g.new,
+        new: true,
     }
 }
 
-// Where new block k stands, counted from 0.
-fn new_place(g: Geometry, k: u64) -> Place
-    requires { ⌜ Good g × (k < openStripes g * g .new) ⌝ }
-    ensures { λ r. ⌜ r ≡ newPlace g k ⌝ }
+// The disk of seat y, whose stripe is x.
+fn seat_disk(g: Geometry, x: Stripe, y: Seat) -> u64
+    requires { ⌜ TakenApart (g .old) (g .new) x × Seated g y ⌝ }
+    ensures { λ r. ⌜ r ≡ seatDisk g (x .number) y ⌝ }
 {
-    let m = g.new;
-    let s = k / m;
-    let x = stripe_of(g.old, m, s);
-    Place {
-        stripe: s,
-        disk: nth_blank(g.old, m, x, k % m),
+    if y.new {
+        nth_blank(g.old, g.new, x, y.nth)
+    } else {
+        disk_at(g.old, g.new, g.moves, x, y.nth)
     }
 }
 
-// Where block b stands.
+// Where block b stands: with no new disk, where it stood before the growth.
 pub fn place_of(g: Geometry, b: u64) -> Place
     requires { ⌜ Good g × (b < capacity g) ⌝ }
     ensures { λ r. ⌜ r ≡ layout g .place b ⌝ }
 {
-    let old = old_blocks(g);
-    if b < old {
-        carried_place(g, home_place(g.old, b))
-    } else {
-        new_place(g, b - old)
+    if g.new == 0 {
+        return home_place(g.old, b);
     }
+    let y = seat_of(g, b);
+    let x = stripe_of(g.old, g.new, y.stripe);
+    Place {
+        stripe: y.stripe,
+        disk: seat_disk(g, x, y),
+    }
+}
+
+// The disk on which the parity of stripe x stands.
+fn parity_at(g: Geometry, x: Stripe) -> u64
+    requires { ⌜ TakenApart (g .old) (g .new) x ⌝ }
+    ensures { λ r. ⌜ r ≡ layout g .parity (x .number) ⌝ }
+{
+    disk_at(g.old, g.new, g.moves, x, x.home)
 }
 
 // The disk on which the parity of stripe s stands.
@@ -112,13 +154,35 @@ pub fn parity_of(g: Geometry, s: u64) -> u64
     requires { ⌜ Good g × (s < g .stripes) ⌝ }
     ensures { λ r. ⌜ r ≡ layout g .parity s ⌝ }
 {
-    let x = stripe_of(g.old, g.new, s);
-    disk_at(g.old, g.new, g.moves, x, x.parity)
+    parity_at(g, stripe_of(g.old, g.new, s))
+}
+
+// Where block b stands, and the parity of its stripe, which is taken apart once for both.
+pub fn find(g: Geometry, b: u64) -> Found
+    requires { ⌜ Good g × (b < capacity g) ⌝ }
+    ensures { λ r. ⌜ r ≡ found g b ⌝ }
+{
+    if g.new == 0 {
+        let q = home_place(g.old, b);
+        return Found {
+            place: q,
+            parity: q.stripe % g.old,
+        };
+    }
+    let y = seat_of(g, b);
+    let x = stripe_of(g.old, g.new, y.stripe);
+    Found {
+        place: Place {
+            stripe: y.stripe,
+            disk: seat_disk(g, x, y),
+        },
+        parity: parity_at(g, x),
+    }
 }
 
 // What disk e of stripe x holds, coded, if nothing of before the growth.
 fn new_code(g: Geometry, x: Stripe, e: u64) -> u64
-    requires { ⌜ Good g × Apart (g .old) (g .new) x × (x .number < g .stripes) × (e < disks g) ⌝ }
+    requires { ⌜ Good g × TakenApart (g .old) (g .new) x × (x .number < g .stripes) × (e < disks g) ⌝ }
     ensures { λ r. ⌜ (taken (g .old) (g .new) (g .moves) (x .number) e ≡ false → r ≡ code (newOwner g (x .number) e)) ⌝ }
 {
     let s = x.number;
@@ -137,7 +201,7 @@ pub fn owner_of(g: Geometry, s: u64, e: u64) -> Role
     let x = stripe_of(g.old, g.new, s);
     let d = source_of(g.old, g.new, x, e);
     let there = disk_at(g.old, g.new, g.moves, x, d);
-    let old = home_code(g.old, x.parity, s, d);
+    let old = home_code(g.old, x.home, s, d);
     let new = new_code(g, x, e);
     role_of(pick(there == e, old, new))
 }

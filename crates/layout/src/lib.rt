@@ -12,16 +12,26 @@ mod moves;
 pub use home::home_place;
 pub use layout::all_moved;
 pub use layout::capacity_of;
+pub use layout::find;
+pub use layout::moves_fit;
 pub use layout::owner_of;
 pub use layout::parity_of;
 pub use layout::place_of;
 pub use layout::total_of;
+pub use moves::cursor_of;
 pub use moves::move_of;
+pub use moves::next_move;
 
 // Block `stripe` of disk `disk`.
 pub struct Place {
     pub stripe: u64,
     pub disk: u64,
+}
+
+// Where a block stands, and the disk on which its stripe's parity stands.
+pub struct Found {
+    pub place: Place,
+    pub parity: u64,
 }
 
 // What a place holds: a block by its number, its stripe's parity, or nothing.
@@ -39,6 +49,13 @@ pub struct Geometry {
     pub moves: u64,
 }
 
+// How far an array is: t and the total of moves, both times the same number, so that they are compared with no division.
+pub struct Progress {
+    pub done: u64,
+    pub all: u64,
+    pub times: u64,
+}
+
 // A move: its zone, its stripe in the zone and in the array, the disk it leaves, the disk it goes to.
 pub struct Move {
     pub zone: u64,
@@ -48,12 +65,31 @@ pub struct Move {
     pub to: u64,
 }
 
-// A stripe taken apart once, so that no question about one of its disks divides again.
+// A move, with what it takes to count on to the next: its index, its lag i, and the disk that the move with lag 0 to its new disk leaves.
+pub struct Cursor {
+    pub index: u64,
+    pub lag: u64,
+    pub base: u64,
+    pub stripe: u64,
+    pub from: u64,
+    pub to: u64,
+}
+
+// A stripe taken apart once, so that no question about one of its disks divides again: its number, its zone, its place in the zone, and
+// the disk of its parity before the growth.
 pub struct Stripe {
     pub number: u64,
     pub zone: u64,
     pub within: u64,
-    pub parity: u64,
+    pub home: u64,
+}
+
+// A block's stripe, and what tells its disk there: for a block of before the growth the disk on which it stood, for a new one which of the
+// blanks it is.
+pub struct Seat {
+    pub stripe: u64,
+    pub nth: u64,
+    pub new: bool,
 }
 
 // The blanks of a stripe whose moves have all been made, run by run: the first disk of the first run and of the second, and the

@@ -5,6 +5,7 @@ ghost use Rattle.state.specs.Good.{geometry, within, oldGood, newGood, b
 use crate::Health;
 use crate::Record;
 use layout::Geometry;
+use layout::moves_fit;
 
 // The array that a record speaks of.
 pub fn geometry_of(r: Record) -> Geometry
@@ -60,22 +61,19 @@ pub fn stripes_are_good(stripes: u64) -> bool
     is_within(1, stripes, 1048576)
 }
 
-// Can the array have come this far? "t is at most the total of moves" is asked without the division of T * n * m by n + m.
+// Can the array have come this far?
 fn moves_are_good(r: Record) -> bool
     requires { ⌜ (3 ≤ r .old) × (r .old ≤ 16) × (r .stripes ≤ 1048576) ⌝ }
     ensures { λ x. ⌜ x ≡ movesGood (geometry r) ⌝ }
 {
-    let n = r.old as u64;
-    let m = r.new as u64;
-    let stripes = r.stripes as u64;
-    let moves = r.moves as u64;
-    if m == 0 {
-        return moves == 0;
+    let g = geometry_of(r);
+    if g.new == 0 {
+        return g.moves == 0;
     }
-    if !new_is_good(n, m, stripes) {
+    if !new_is_good(g.old, g.new, g.stripes) {
         return false;
     }
-    moves * (n + m) <= stripes * n * m
+    moves_fit(g)
 }
 
 // Is the disk that is out, if one is, a disk of the array?

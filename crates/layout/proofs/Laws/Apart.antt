@@ -9,21 +9,21 @@ use borrow.Author.Tests.{lt-ltb, le-ltb, le-leb, lt-leb}
 use Rattle.layout.specs.declared.Stripe.{Stripe}
 use Rattle.layout.specs.Moves.{withinZone}
 use Rattle.layout.specs.Closed.{stripeOf, lag, target, turn, diskAt, source}
-use Rattle.layout.specs.Limits.{Sizes, Apart}
+use Rattle.layout.specs.Limits.{Sizes, TakenApart}
 use Rattle.layout.proofs.Laws.Basics.{le-or-lt}
 use Rattle.layout.proofs.Laws.Lag.{lag-le, lag-gt, lag-clipped}
 use Rattle.layout.proofs.Laws.Closed.{disk-moved, disk-stays}
 
 -- what stripe_of makes
-pub apart : (n m S : ℕ) (x : Stripe) → Sizes n m S → x ≡ stripeOf n m S → Apart n m x
-apart n m S x w e = rw e (record { sizes = w; zone = refl; within = refl; parity = refl })
+pub apart : (n m S : ℕ) (x : Stripe) → Sizes n m S → x ≡ stripeOf n m S → TakenApart n m x
+apart n m S x w e = rw e (record { sizes = w; zone = refl; within = refl; home = refl })
 
-module _ (n m : ℕ) (x : Stripe) (w : Apart n m x) where
-  pub lag-below : (d : ℕ) → d < n → d ≤ x .parity → x .parity - d ≡ lag n (x .number) d
-  lag-below d h k = ap (λ p. p - d) (w .parity) ∙ sym (lag-le n (x .number) d h (omega (arith, w .parity)))
+module _ (n m : ℕ) (x : Stripe) (w : TakenApart n m x) where
+  pub lag-below : (d : ℕ) → d < n → d ≤ x .home → x .home - d ≡ lag n (x .number) d
+  lag-below d h k = ap (λ p. p - d) (w .home) ∙ sym (lag-le n (x .number) d h (omega (arith, w .home)))
 
-  pub lag-above : (d : ℕ) → d < n → x .parity < d → x .parity + n - d ≡ lag n (x .number) d
-  lag-above d h k = ap (λ p. p + n - d) (w .parity) ∙ sym (lag-gt n (x .number) d h (omega (arith, w .parity)))
+  pub lag-above : (d : ℕ) → d < n → x .home < d → x .home + n - d ≡ lag n (x .number) d
+  lag-above d h k = ap (λ p. p + n - d) (w .home) ∙ sym (lag-gt n (x .number) d h (omega (arith, w .home)))
 
   -- i is the lag of disk d
   module _ (t d i : ℕ) (e : i ≡ lag n (x .number) d) where

@@ -1,13 +1,14 @@
 -- The limits of the sizes keep every number of the layout far below a word. Assumes nothing.
 use Prim.Native.Nat.{ℕ, _+_, _-_, _*_, _/_, _%_, _≤_, _<_}
 use mathlib.Core.Path.{_≡_}
-use native.Mathlib.Nat.{div-le-self, div-mul-le-self, le-div-iff-mul-le, mod-lt}
+use native.Mathlib.Nat.{div-le-self, div-mul-le-self, mod-lt}
 use native.Mathlib.Omega.{arith}
 use Rattle.layout.specs.declared.Geometry.{Geometry}
 use Rattle.layout.specs.declared.Stripe.{Stripe}
 use Rattle.layout.specs.Moves.{total}
 use Rattle.layout.specs.Closed.{lag}
-use Rattle.layout.specs.Limits.{Disks, Sizes, Apart, Good}
+use Rattle.layout.specs.Layout.{totalOf}
+use Rattle.layout.specs.Limits.{Disks, Sizes, TakenApart, Good, Sized}
 use Rattle.layout.proofs.Laws.Basics.{times}
 use Rattle.layout.proofs.Laws.Lag.{lag-lt}
 
@@ -34,7 +35,7 @@ room n m k w pm =
 -- a stripe that was taken apart, and the turn of the move with lag i
 pub record Parts (n m : ℕ) (x : Stripe) : Type 0 where
   pub within : x .within < n + m
-  pub parity : x .parity < n
+  pub home : x .home < n
   pub zone-m : x .zone * m ≤ 16777216
 
 pub record Turns (n m : ℕ) (x : Stripe) (i : ℕ) : Type 0 where
@@ -43,14 +44,14 @@ pub record Turns (n m : ℕ) (x : Stripe) (i : ℕ) : Type 0 where
   pub lag : i < n
   pub index : (k : ℕ) → k ≡ x .within + i - n → (x .zone * m + k) * n ≤ 268435968
 
-module _ (n m : ℕ) (x : Stripe) (w : Apart n m x) where
+module _ (n m : ℕ) (x : Stripe) (w : TakenApart n m x) where
   p0 : 0 < n
   p0 = omega (arith, w .sizes .disks .n-low)
 
   pub parts : Parts n m x
   parts = record {
     within = omega (arith, w .within, p0, mod-lt (x .number) {m = n + m} (omega (arith, p0)));
-    parity = omega (arith, w .parity, mod-lt (x .number) {m = n} p0);
+    home = omega (arith, w .home, mod-lt (x .number) {m = n} p0);
     zone-m = times {a = x .zone} {b = m} 1048576 16 (omega (arith, w .zone, div-le-self (x .number) (n + m), w .sizes .stripe)) (w .sizes .disks .m-high);
   }
 
@@ -62,25 +63,50 @@ module _ (n m : ℕ) (x : Stripe) (w : Apart n m x) where
     index = λ k h. times {a = x .zone * m + k} {b = n} 16777248 16 (omega (arith, parts, w .sizes .disks, lag-lt n (x .number) d p0)) (w .sizes .disks .n-high);
   }
 
--- the products of a whole array's sizes
-pub record Products (g : Geometry) : Type 0 where
+-- ---- a whole array
+
+by-old : (g : Geometry) → Disks (g .old) (g .new) → g .stripes ≤ 1048576 → g .stripes * g .old ≤ 16777216
+by-old g w h = times 1048576 16 h (w .n-high)
+
+by-moves : (g : Geometry) → Disks (g .old) (g .new) → g .stripes ≤ 1048576 → g .stripes * g .old * g .new ≤ 268435456
+by-moves g w h = times 16777216 16 (by-old g w h) (w .m-high)
+
+-- no array has more moves
+pub total-high : (g : Geometry) → Good g → totalOf g ≤ 268435456
+unfolding total
+total-high g w = omega (arith, div-le-self (g .stripes * g .old * g .new) (g .old + g .new), by-moves g (w .disks) (w .stripes-high))
+
+pub sized : (g : Geometry) → Good g → Sized g
+sized g w = record {
+  disks = w .disks;
+  stripes-high = w .stripes-high;
+  moves-high = omega (arith, w .moves, total-high g w);
+  groups = w .groups;
+}
+
+-- what the code compares, t and the total by the same number
+pub record Sides (g : Geometry) : Type 0 where
+  pub moves-by : g .moves * (g .old + g .new) ≤ 137438953472
   pub by-old : g .stripes * g .old ≤ 16777216
   pub by-moves : g .stripes * g .old * g .new ≤ 268435456
-  pub moves-by : g .moves * (g .old + g .new) ≤ 268435456
+
+pub sides : (g : Geometry) → Sized g → Sides g
+sides g w = record {
+  moves-by = times {b = g .old + g .new} 4294967296 32 (omega (arith, w .moves-high)) (omega (arith, w .disks));
+  by-old = by-old g (w .disks) (w .stripes-high);
+  by-moves = by-moves g (w .disks) (w .stripes-high);
+}
+
+-- the products of its sizes
+pub record Products (g : Geometry) : Type 0 where
+  pub by-moves : g .stripes * g .old * g .new ≤ 268435456
   pub by-data : g .stripes * (g .old - 1) ≤ 16777216
 
 pub products : (g : Geometry) → Good g → Products g
-unfolding total
-products g w =
-    let a : g .stripes * g .old ≤ 16777216 = times 1048576 16 (w .stripes-high) (w .disks .n-high) in
-    let b : g .stripes * g .old * g .new ≤ 268435456 = times 16777216 16 a (w .disks .m-high) in
-    let d : 0 < g .old + g .new = omega (arith, w .disks .n-low) in
-    record {
-      by-old = a;
-      by-moves = b;
-      moves-by = omega (arith, le-div-iff-mul-le d .0 (w .moves));
-      by-data = times {b = g .old - 1} 1048576 16 (w .stripes-high) (omega (arith, w .disks .n-high));
-    }
+products g w = record {
+  by-moves = by-moves g (w .disks) (w .stripes-high);
+  by-data = times {b = g .old - 1} 1048576 16 (w .stripes-high) (omega (arith, w .disks .n-high));
+}
 
 -- a stripe of an array
 pub sizes-of : (g : Geometry) → Good g → (S : ℕ) → S < g .stripes → Sizes (g .old) (g .new) S

@@ -1,33 +1,54 @@
 -- The layout of the array is lawful; what a program finds that looks for a block, and for an owner. Assumes nothing.
-use Prim.Native.Nat.{ℕ, _+_, _-_, _*_, _/_, _≤_, _<_}
+use Prim.Native.Nat.{ℕ, _+_, _-_, _*_, _/_, _%_, _≤_, _<_}
 use mathlib.Core.Path.{_≡_, refl, sym, ap, _∙_}
-use mathlib.Core.Bool.{false, cond}
-use mathlib.Core.Logic.{_≢_}
+use mathlib.Core.Bool.{true, false, cond, false≢true}
+use mathlib.Core.Logic.{_≢_, inl, inr}
 use native.Mathlib.Decide.{ℕ-discrete}
-use native.Mathlib.Nat.{div-lt-iff-lt-mul}
+use native.Mathlib.Nat.{div-lt-iff-lt-mul, mod-lt}
 use native.Mathlib.Omega.{arith}
 use lib.Dec.{eqb}
-use lib.ListN.{length}
+use lib.ListN.{length, getD}
 use borrow.Author.Tests.{lt-ltb, le-ltb, eq-eqb, ne-eqb}
+use Rattle.layout.specs.declared.Found.{Found}
 use Rattle.layout.specs.declared.Geometry.{Geometry}
 use Rattle.layout.specs.declared.Place.{Place}
 use Rattle.layout.specs.declared.Role.{Role}
+use Rattle.layout.specs.declared.Seat.{Seat}
 use Rattle.layout.specs.declared.Stripe.{Stripe}
+use Rattle.layout.specs.Home.{placeAt, homeStripe, homeDisk}
 use Rattle.layout.specs.Closed.{stripeOf, diskAt, source, taken}
-use Rattle.layout.specs.Blanks.{blanksBelow, blanks, newBlock}
+use Rattle.layout.specs.Blanks.{blanksBelow, blanks, newStripe, newDisk, newBlock}
 use Rattle.layout.specs.Runs.{settled}
-use Rattle.layout.specs.Layout.{disks, oldBlocks, openStripes, capacity, home, layout, carried, newPlace, grownPlace, newOwner, grownOwner}
+use Rattle.layout.specs.Layout.{disks, oldBlocks, openStripes, capacity, home, layout, found}
+use Rattle.layout.specs.Layout.{carried, newPlace, grownPlace, grownParity, newOwner, grownOwner}
+use Rattle.layout.specs.Seats.{seatOf, seatDisk, Seated}
 use Rattle.layout.specs.Coded.{code, roleOf}
-use Rattle.layout.specs.Limits.{Good}
-use Rattle.layout.proofs.Laws.Basics.{times}
+use Rattle.layout.specs.Limits.{Good, TakenApart}
+use Rattle.layout.proofs.Laws.Basics.{times, le-or-lt}
+use Rattle.layout.proofs.Laws.Closed.{disk-stays}
 use Rattle.layout.proofs.Laws.Source.{says-taken}
+use Rattle.layout.proofs.Laws.Apart.{apart}
 use Rattle.layout.proofs.Laws.Settled.{same-taken, same-below}
 use Rattle.layout.proofs.Laws.Numbers.{open-le, open-settled}
-use Rattle.layout.proofs.Laws.Bounds.{products}
+use Rattle.layout.proofs.Laws.Bounds.{products, sizes-of}
 use Rattle.layout.proofs.Laws.Lawful.Held.{a-block, the-parity, nothing}
 use Rattle.layout.proofs.Laws.Lawful.{Lawful, Full, Held}
 use Rattle.layout.proofs.Laws.Home.{home-layout-full}
 use Rattle.layout.proofs.Laws.Grown.{low, owner-old, grown-lawful, positive}
+
+-- what a caller of find has
+module _ (g : Geometry) (b : ℕ) (f : Found) (e : f ≡ found g b) where
+  pub found-place : f .place ≡ layout g .place b
+  found-place = ap (λ (x : Found). x .place) e
+
+  pub found-parity : f .parity ≡ layout g .parity (f .place .stripe)
+  found-parity = ap (λ (x : Found). x .parity) e ∙ sym (ap (λ (x : Found). layout g .parity (x .place .stripe)) e)
+
+-- y is a seat in the array, and gives the place of block b
+record Fit (g : Geometry) (b : ℕ) (y : Seat) : Type 0 where
+  stripe-lt : y .stripe < g .stripes
+  seated : Seated g y
+  place : placeAt (y .stripe) (seatDisk g (y .stripe) y) ≡ layout g .place b
 
 module _ (g : Geometry) (good : Good g) where
   pn : 2 ≤ g .old
@@ -42,24 +63,6 @@ module _ (g : Geometry) (good : Good g) where
   pub open-room : openStripes g * g .new ≤ 16777216
   open-room = times 1048576 16 (omega (arith, open-le g, good .stripes-high)) (good .disks .m-high)
 
-  -- ---- what a program finds that looks for block b
-
-  module _ (b : ℕ) where
-    pub find-old : b < oldBlocks g → (p q : Place) → p ≡ home g .place b → q ≡ carried g p → q ≡ layout g .place b
-    find-old l p q ep eq = eq ∙ ap (carried g) ep ∙ sym (low (home g) g b l)
-
-    pub home-in : b < oldBlocks g → (p : Place) → p ≡ home g .place b → (p .stripe < g .stripes) × (p .disk < g .old)
-    home-in l p e = rw e (home-full .lawful .stripe-lt b l, home-full .lawful .disk-lt b l)
-
-    module _ (old : ℕ) (e : old ≡ oldBlocks g) (l : old ≤ b) where
-      pub find-new : (q : Place) → q ≡ newPlace g (b - old) → q ≡ layout g .place b
-      unfolding grownPlace
-      find-new q eq = simp (le-ltb b (oldBlocks g) (omega arith)) (eq ∙ ap (λ x. newPlace g (b - x)) e)
-
-      pub new-in : b < capacity g → b - old < openStripes g * g .new
-      unfolding capacity
-      new-in h = omega arith
-
   pub new-room : (k : ℕ) → k < openStripes g * g .new → (0 < g .new) × (k / g .new < g .stripes) × (k / g .new < openStripes g)
   new-room k l =
       let pm : 0 < g .new = positive (openStripes g) (g .new) k l in
@@ -70,6 +73,107 @@ module _ (g : Geometry) (good : Good g) where
   pub open-blanks : (S : ℕ) → S < openStripes g → blanks (g .old) (g .new) (settled (g .old) (g .new) S) S ≡ blanks (g .old) (g .new) (g .moves) S
   unfolding blanks
   open-blanks S l = sym (same-below (g .old) (g .new) pn S (g .moves) (open-settled g good S l) (disks g))
+
+  -- ---- what a program finds that looks for block b
+
+  module _ (b : ℕ) where
+    old-place : b < oldBlocks g → carried g (home g .place b) ≡ layout g .place b
+    old-place l = sym (low (home g) g b l)
+
+    new-place : oldBlocks g ≤ b → newPlace g (b - oldBlocks g) ≡ layout g .place b
+    unfolding grownPlace
+    new-place l = simp (le-ltb b (oldBlocks g) l)
+
+    new-in : oldBlocks g ≤ b → b < capacity g → b - oldBlocks g < openStripes g * g .new
+    unfolding capacity
+    new-in l h = omega arith
+
+    -- with no new disk
+    module _ (z : g .new ≡ 0) where
+      stays-there : (S d : ℕ) → d ≡ diskAt (g .old) (g .new) (g .moves) S d
+      stays-there S d = sym (disk-stays (g .old) (g .new) (g .moves) S d (λ lo hi. omega arith))
+
+      pub home-place : b < capacity g → (p : Place) → p ≡ home g .place b → p ≡ layout g .place b
+      unfolding capacity
+      home-place l p ep =
+          let none : openStripes g * g .new ≡ 0 = ap (λ m. openStripes g * m) z ∙ omega arith in
+          ap (placeAt (p .stripe)) (stays-there (p .stripe) (p .disk)) ∙ ap (carried g) ep ∙ old-place (omega (arith, l, none))
+
+      pub home-found : b < capacity g → (p : Place) → p ≡ home g .place b → record { place = p; parity = p .stripe % g .old } ≡ found g b
+      unfolding grownParity
+      home-found l p ep =
+          ap (λ d. record { place = p; parity = d }) (stays-there (p .stripe) (p .stripe % g .old))
+          ∙ ap (λ (q : Place). record { place = q; parity = layout g .parity (q .stripe) }) (home-place l p ep)
+
+    -- its seat
+    old-seat : b < oldBlocks g → seatOf g b ≡ record { stripe = homeStripe (g .old) b; nth = homeDisk (g .old) b; new = false }
+    unfolding seatOf
+    old-seat l = simp (lt-ltb _ _ l)
+
+    new-seat : oldBlocks g ≤ b → let k = b - oldBlocks g in seatOf g b ≡ record { stripe = newStripe (g .new) k; nth = k % g .new; new = true }
+    unfolding seatOf
+    new-seat l = simp (le-ltb b (oldBlocks g) l)
+
+    module _ (old : ℕ) (e : old ≡ oldBlocks g) where
+      pub seat-old : b < old → (p : Place) → p ≡ home g .place b → record { stripe = p .stripe; nth = p .disk; new = false } ≡ seatOf g b
+      seat-old l p ep = ap (λ (q : Place). record { stripe = q .stripe; nth = q .disk; new = false }) ep ∙ sym (old-seat (omega arith))
+
+      pub seat-new : old ≤ b → record { stripe = (b - old) / g .new; nth = (b - old) % g .new; new = true } ≡ seatOf g b
+      unfolding newStripe
+      seat-new l = ap (λ x. record { stripe = (b - x) / g .new; nth = (b - x) % g .new; new = true }) e ∙ sym (new-seat (omega arith))
+
+      pub seat-divides : old ≤ b → b < capacity g → 0 < g .new
+      seat-divides l h = positive (openStripes g) (g .new) (b - oldBlocks g) (new-in (omega arith) h)
+
+    module _ (h : b < capacity g) where
+      fit-old : b < oldBlocks g → Fit g b (seatOf g b)
+      unfolding seatDisk
+      fit-old l =
+          rw (old-seat l)
+          (record {
+            stripe-lt = home-full .lawful .stripe-lt b l;
+            seated = record { old = λ z. home-full .lawful .disk-lt b l; new = λ z. absurd (false≢true z) };
+            place = old-place l;
+          })
+
+      fit-new : oldBlocks g ≤ b → Fit g b (seatOf g b)
+      unfolding seatDisk newStripe newDisk
+      fit-new l =
+          let k : ℕ = b - oldBlocks g in
+          let r = new-room k (new-in l h) in
+          rw (new-seat l)
+          (record {
+            stripe-lt = r .1;
+            seated = record { old = λ z. absurd (false≢true (sym z)); new = λ z. mod-lt k (r .0) };
+            place = ap (λ x. placeAt (k / g .new) (getD x (k % g .new) 0)) (open-blanks (k / g .new) (r .2)) ∙ new-place l;
+          })
+
+      fit : Fit g b (seatOf g b)
+      fit = elim (le-or-lt (oldBlocks g) b) [ inl l ↦ fit-new l | inr l ↦ fit-old l ]
+
+      -- y is that seat, x its stripe taken apart
+      module _ (y : Seat) (ey : y ≡ seatOf g b) where
+        fits : Fit g b y
+        fits = rw ey fit
+
+        pub seat-in : (y .stripe < g .stripes) × Seated g y
+        seat-in = (fits .stripe-lt, fits .seated)
+
+        module _ (x : Stripe) (ex : x ≡ stripeOf (g .old) (g .new) (y .stripe)) where
+          pub seat-apart : TakenApart (g .old) (g .new) x
+          seat-apart = apart _ _ _ _ (sizes-of g good _ (fits .stripe-lt)) ex
+
+          number-is : x .number ≡ y .stripe
+          number-is = ap (λ (z : Stripe). z .number) ex
+
+          pub seat-place : (d : ℕ) → d ≡ seatDisk g (x .number) y → placeAt (y .stripe) d ≡ layout g .place b
+          seat-place d ed = ap (placeAt (y .stripe)) (ed ∙ ap (λ S. seatDisk g S y) number-is) ∙ fits .place
+
+          pub seat-found : (d : ℕ) → d ≡ seatDisk g (x .number) y → (p : ℕ) → p ≡ layout g .parity (x .number) →
+              record { place = placeAt (y .stripe) d; parity = p } ≡ found g b
+          seat-found d ed p ep =
+              ap (λ z. record { place = placeAt (y .stripe) d; parity = z }) (ep ∙ ap (layout g .parity) number-is)
+              ∙ ap (λ (q : Place). record { place = q; parity = layout g .parity (q .stripe) }) (seat-place d ed)
 
   -- ---- and for the owner of place (S, e)
 

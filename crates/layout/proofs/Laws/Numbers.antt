@@ -1,19 +1,20 @@
 -- The numbers of an array: its zones and their moves, its open stripes, its capacity. Assumes nothing.
 use Prim.Native.Nat.{ℕ, _+_, _-_, _*_, _/_, _≤_, _<_}
-use mathlib.Core.Path.{_≡_, sym, ap, _∙_}
+use mathlib.Core.Path.{_≡_, refl, sym, ap, _∙_}
 use mathlib.Core.Logic.{inl, inr, _≢_}
 use native.Mathlib.Decide.{ℕ-discrete}
 use native.Mathlib.Nat.{le-refl, mul-le-mul, mul-div-cancel, div-lt-iff-lt-mul}
 use native.Mathlib.Omega.{arith}
-use lib.Dec.{eqb}
+use lib.Dec.{leb, eqb}
 use borrow.Author.Tests.{eq-eqb, ne-eqb}
 use Rattle.layout.specs.declared.Geometry.{Geometry}
-use Rattle.layout.specs.Moves.{zoneOf, total, zones, groups, moveIndex, moveZone, moveStripe}
+use Rattle.layout.specs.declared.Progress.{Progress}
+use Rattle.layout.specs.Moves.{zoneOf, zones, groups, moveIndex, moveZone, moveStripe}
 use Rattle.layout.specs.Runs.{settled}
 use Rattle.layout.specs.Layout.{totalOf, disks, oldBlocks, openStripes, capacity}
-use Rattle.layout.specs.Limits.{Good}
-use Rattle.layout.proofs.Laws.Basics.{le-or-lt}
-use Rattle.layout.proofs.Laws.Zones.{zone-in, stripe-in, index-in, zones-all, groups-all, total-zones, total-none}
+use Rattle.layout.specs.Limits.{Good, Sized, Measured}
+use Rattle.layout.proofs.Laws.Basics.{le-or-lt, leb-times, eqb-times}
+use Rattle.layout.proofs.Laws.Zones.{zone-in, stripe-in, index-in, zones-all, groups-all, total-zones, total-none, total-times}
 
 module _ (g : Geometry) where
   pub open-all : g .moves ≡ totalOf g → g .stripes ≡ openStripes g
@@ -37,6 +38,24 @@ module _ (g : Geometry) where
       let e : g .old - 1 + g .new ≡ g .old + g .new - 1 = omega arith in
       rw (← open-all q, ← e) (omega arith)
 
+-- ---- how far it is, told without a division
+
+pub measured : (g : Geometry) → Sized g →
+    Measured g (record { done = g .moves * disks g; all = g .stripes * g .old * g .new; times = disks g })
+measured g w =
+    let pn : 0 < g .old = omega (arith, w .disks .n-low) in
+    record { times = omega arith; done = refl; all = sym (total-times (g .old) (g .new) (g .stripes) pn (w .groups)) }
+
+module _ (g : Geometry) (p : Progress) (w : Measured g p) where
+  pub total-found : p .all / p .times ≡ totalOf g
+  total-found = ap (λ x. x / p .times) (w .all) ∙ mul-div-cancel (totalOf g) (w .times)
+
+  pub fits : leb (p .done) (p .all) ≡ leb (g .moves) (totalOf g)
+  fits = rw (w .done, w .all) (leb-times (g .moves) (totalOf g) (p .times) (w .times))
+
+  pub reached : eqb (p .done) (p .all) ≡ eqb (g .moves) (totalOf g)
+  reached = rw (w .done, w .all) (eqb-times (g .moves) (totalOf g) (p .times) (w .times))
+
 module _ (g : Geometry) (good : Good g) where
   pub whole-zones : 0 < g .new → zones (g .old) (g .new) (g .stripes) * disks g ≡ g .stripes
   whole-zones pm = zones-all (g .old) (g .new) (g .stripes) (omega (arith, good .disks .n-low)) (good .groups pm)
@@ -52,26 +71,6 @@ module _ (g : Geometry) (good : Good g) where
     where
       none : g .new ≡ 0 → totalOf g ≡ zones (g .old) (g .new) (g .stripes) * g .new * g .old
       none z = total-none (g .old) (g .new) (g .stripes) z ∙ sym (ap (λ x. zones (g .old) (g .new) (g .stripes) * x * g .old) z ∙ omega arith)
-
-  -- the total without a division, and whether it is reached
-  pub total-times : totalOf g * disks g ≡ g .stripes * g .old * g .new
-  total-times = elim (le-or-lt (g .new) 0) [
-    | inr pm ↦ rw total-is (omega (arith, ap (λ x. x * g .old * g .new) (whole-zones pm)))
-    | inl z ↦ none (omega arith)
-  ]
-    where
-      none : g .new ≡ 0 → totalOf g * disks g ≡ g .stripes * g .old * g .new
-      none z = ap (λ x. x * disks g) (total-none (g .old) (g .new) (g .stripes) z) ∙ sym (ap (λ x. g .stripes * g .old * x) z ∙ omega arith)
-
-  reached-back : g .moves * disks g ≡ g .stripes * g .old * g .new → g .moves ≡ totalOf g
-  unfolding total
-  reached-back z = sym (mul-div-cancel (g .moves) (omega (arith, good .disks .n-low))) ∙ ap (λ x. x / disks g) z
-
-  pub reached : eqb (g .moves * disks g) (g .stripes * g .old * g .new) ≡ eqb (g .moves) (totalOf g)
-  reached = elim (ℕ-discrete (g .moves) (totalOf g)) [
-    | yes q ↦ eq-eqb _ _ (ap (λ x. x * disks g) q ∙ total-times) ∙ sym (eq-eqb _ _ q)
-    | no q ↦ ne-eqb _ _ (λ z. q (reached-back z)) ∙ sym (ne-eqb _ _ q)
-  ]
 
   -- a growth with moves has new disks
   pub has-new : (k : ℕ) → k < totalOf g → 0 < g .new

@@ -14,7 +14,7 @@ use Rattle.layout.specs.Moves.{withinZone}
 use Rattle.layout.specs.Closed.{target, taken}
 use Rattle.layout.specs.Blanks.{blanksBelow, blanks}
 use Rattle.layout.specs.Runs.{settled, firstLag, endLag, runsOf}
-use Rattle.layout.specs.Limits.{Apart}
+use Rattle.layout.specs.Limits.{TakenApart}
 use Rattle.layout.proofs.Laws.Basics.{le-or-lt, picked-le}
 use Rattle.layout.proofs.Laws.Lag.{lag-le, lag-gt}
 use Rattle.layout.proofs.Laws.Source.{source-early, source-late}
@@ -129,7 +129,7 @@ module _ (n m s P first end : ℕ) (l : Lags n m s first end) where
 
 -- ---- what a program finds that has the runs of stripe x
 
-module _ (n m : ℕ) (x : Stripe) (w : Apart n m x) (r : Runs) (er : r ≡ runsOf n m (x .within) (x .parity)) where
+module _ (n m : ℕ) (x : Stripe) (w : TakenApart n m x) (r : Runs) (er : r ≡ runsOf n m (x .within) (x .home)) where
   pn : 2 ≤ n
   pn = omega (arith, w .sizes .disks .n-low)
 
@@ -148,16 +148,16 @@ module _ (n m : ℕ) (x : Stripe) (w : Apart n m x) (r : Runs) (er : r ≡ runsO
   the-lags : Lags n m (x .within) first end
   the-lags = lags n m (x .within) (parts n m x w .within)
 
-  pub runs : Cut n m (x .within) (x .parity) (r .low) (low-end r) (r .high) (high-end r)
+  pub runs : Cut n m (x .within) (x .home) (r .low) (low-end r) (r .high) (high-end r)
   runs =
-      let c = cut n m (x .within) (x .parity) first end (parts n m x w .parity) the-lags in
-      rw er (rw (low-ends n m (x .within) (x .parity) first end the-lags, high-ends n m (x .within) (x .parity) first end the-lags) at c)
+      let c = cut n m (x .within) (x .home) first end (parts n m x w .home) the-lags in
+      rw er (rw (low-ends n m (x .within) (x .home) first end the-lags, high-ends n m (x .within) (x .home) first end the-lags) at c)
 
   pub counted : Counted n m (x .within) r
   counted = rw er (record {
-    upward = part-le _ _ first end (parted n m (x .within) (x .parity) first end the-lags);
+    upward = part-le _ _ first end (parted n m (x .within) (x .home) first end the-lags);
     early-is = refl;
-    all = early-all n m (x .within) (x .parity) first end the-lags;
+    all = early-all n m (x .within) (x .home) first end the-lags;
   })
 
   -- so many old disks are left that no shift to a run is below 0
@@ -166,20 +166,20 @@ module _ (n m : ℕ) (x : Stripe) (w : Apart n m x) (r : Runs) (er : r ≡ runsO
 
   -- ---- disk by disk
 
-  low-target : (e : ℕ) → e ≤ x .parity → e < n → target n m S e ≡ x .within + (x .parity - e)
+  low-target : (e : ℕ) → e ≤ x .home → e < n → target n m S e ≡ x .within + (x .home - e)
   unfolding target
-  low-target e l h = rw (w .within, w .parity) (ap (λ i. withinZone n m S + i) (lag-le n S e h (omega (arith, w .parity))))
+  low-target e l h = rw (w .within, w .home) (ap (λ i. withinZone n m S + i) (lag-le n S e h (omega (arith, w .home))))
 
-  high-target : (e : ℕ) → x .parity < e → e < n → target n m S e ≡ x .within + (x .parity + n - e)
+  high-target : (e : ℕ) → x .home < e → e < n → target n m S e ≡ x .within + (x .home + n - e)
   unfolding target
-  high-target e l h = rw (w .within, w .parity) (ap (λ i. withinZone n m S + i) (lag-gt n S e h (omega (arith, w .parity))))
+  high-target e l h = rw (w .within, w .home) (ap (λ i. withinZone n m S + i) (lag-gt n S e h (omega (arith, w .home))))
 
   low-left : (e : ℕ) → r .low ≤ e → e < low-end r → taken n m t S e ≡ false
   low-left e lo hi =
       let h : e < n = omega (arith, runs) in
       is-left n m pn S e h (rw (low-target e (omega (arith, runs)) h) (runs .low-in e lo hi))
 
-  low-kept : (e : ℕ) → e ≤ x .parity → (r .low ≤ e → low-end r ≤ e) → taken n m t S e ≡ true
+  low-kept : (e : ℕ) → e ≤ x .home → (r .low ≤ e → low-end r ≤ e) → taken n m t S e ≡ true
   low-kept e l out =
       let h : e < n = omega (arith, runs) in
       is-kept n m pn S e h (rw (low-target e l h) (λ lo. elim (le-or-lt (r .low) e) [ inr b ↦ runs .low-before e b | inl b ↦ absurd (omega (arith, runs .low-behind e (out b) l)) ]))
@@ -189,7 +189,7 @@ module _ (n m : ℕ) (x : Stripe) (w : Apart n m x) (r : Runs) (er : r ≡ runsO
       let h : e < n = omega (arith, runs) in
       is-left n m pn S e h (rw (high-target e (omega (arith, runs)) h) (runs .high-in e lo hi))
 
-  high-kept : (e : ℕ) → x .parity < e → e < n → (r .high ≤ e → high-end r ≤ e) → taken n m t S e ≡ true
+  high-kept : (e : ℕ) → x .home < e → e < n → (r .high ≤ e → high-end r ≤ e) → taken n m t S e ≡ true
   high-kept e l h out =
       is-kept n m pn S e h (rw (high-target e l h) (λ lo. elim (le-or-lt (r .high) e) [ inr b ↦ runs .high-before e l b | inl b ↦ absurd (omega (arith, runs .high-behind e (out b) h)) ]))
 
@@ -217,7 +217,7 @@ module _ (n m : ℕ) (x : Stripe) (w : Apart n m x) (r : Runs) (er : r ≡ runsO
   up-to-high : below (r .high) ≡ r .some
   up-to-high =
       span-taken n m t S (low-end r) (r .high) (omega (arith, runs))
-      (λ e lo hi. elim (le-or-lt e (x .parity)) [ inl h ↦ low-kept e h (λ z. lo) | inr h ↦ high-kept e h (omega (arith, runs)) (λ z. omega arith) ])
+      (λ e lo hi. elim (le-or-lt e (x .home)) [ inl h ↦ low-kept e h (λ z. lo) | inr h ↦ high-kept e h (omega (arith, runs)) (λ z. omega arith) ])
       ∙ sym (in-low (low-end r) (runs .low-run) (omega arith))
       ∙ omega arith
 
@@ -288,13 +288,13 @@ module _ (n m : ℕ) (x : Stripe) (w : Apart n m x) (r : Runs) (er : r ≡ runsO
     kept-not : taken n m t S e ≡ true → ⊥
     kept-not q = true≢false (sym q ∙ free)
 
-    low-in-run : e ≤ x .parity → (r .low ≤ e) × (e ≤ low-end r)
+    low-in-run : e ≤ x .home → (r .low ≤ e) × (e ≤ low-end r)
     low-in-run l = (
       elim (le-or-lt (r .low) e) [ inl h ↦ h | inr h ↦ absurd (kept-not (low-kept e l (λ z. omega arith))) ],
       elim (le-or-lt (low-end r) e) [ inr h ↦ omega arith | inl h ↦ absurd (kept-not (low-kept e l (λ z. h))) ],
     )
 
-    high-in-run : x .parity < e → e < n → (r .high ≤ e) × (e ≤ high-end r)
+    high-in-run : x .home < e → e < n → (r .high ≤ e) × (e ≤ high-end r)
     high-in-run k l = (
       elim (le-or-lt (r .high) e) [ inl h ↦ h | inr h ↦ absurd (kept-not (high-kept e k l (λ z. omega arith))) ],
       elim (le-or-lt (high-end r) e) [ inr h ↦ omega arith | inl h ↦ absurd (kept-not (high-kept e k l (λ z. h))) ],
@@ -303,10 +303,10 @@ module _ (n m : ℕ) (x : Stripe) (w : Apart n m x) (r : Runs) (er : r ≡ runsO
     late-in-run : n ≤ e → e < n + m → x .within ≤ e → x .within + n ≤ e
     late-in-run k l lo = elim (le-or-lt (x .within + n) e) [ inl h ↦ h | inr h ↦ absurd (kept-not (met e k l lo h)) ]
 
-    below-low : e ≤ x .parity → e - r .low ≡ below e
+    below-low : e ≤ x .home → e - r .low ≡ below e
     below-low l = let i = low-in-run l in in-low e (i .0) (i .1)
 
-    below-high : x .parity < e → e < n → r .some + (e - r .high) ≡ below e
+    below-high : x .home < e → e < n → r .some + (e - r .high) ≡ below e
     below-high k l = let i = high-in-run k l in in-high e (i .0) (i .1)
 
     below-early : n ≤ e → e < x .within → r .left + (e - n) ≡ below e
@@ -316,8 +316,8 @@ module _ (n m : ℕ) (x : Stripe) (w : Apart n m x) (r : Runs) (er : r ≡ runsO
     below-late k l lo = in-late e (late-in-run k l lo) (omega arith)
 
   -- the way back, how far e is above their number: what the code picks for an old disk, for a new one, and of the two
-  pub below-picked : (e new old up k : ℕ) → new ≡ cond (ltb e (x .within)) (n - r .left) (x .within + n - r .early) → old ≡ cond (leb e (x .parity)) (r .low) (r .high - r .some) → up ≡ cond (ltb e n) old new → k ≡ e - up → e < n + m → taken n m t S e ≡ false → k ≡ below e
+  pub below-picked : (e new old up k : ℕ) → new ≡ cond (ltb e (x .within)) (n - r .left) (x .within + n - r .early) → old ≡ cond (leb e (x .home)) (r .low) (r .high - r .some) → up ≡ cond (ltb e n) old new → k ≡ e - up → e < n + m → taken n m t S e ≡ false → k ≡ below e
   below-picked e new old up k ew eo eu ek h f = rw (ek, eu, eo, ew) (elim (le-or-lt n e) [
-    | inr a ↦ elim (le-or-lt e (x .parity)) [ inl b ↦ simp (lt-ltb _ _ a, le-leb _ _ b) (below-low e f b) | inr b ↦ simp (lt-ltb _ _ a, lt-leb _ _ b) (omega (arith, runs, high-in-run e f b a) ∙ below-high e f b a) ]
+    | inr a ↦ elim (le-or-lt e (x .home)) [ inl b ↦ simp (lt-ltb _ _ a, le-leb _ _ b) (below-low e f b) | inr b ↦ simp (lt-ltb _ _ a, lt-leb _ _ b) (omega (arith, runs, high-in-run e f b a) ∙ below-high e f b a) ]
     | inl a ↦ elim (le-or-lt (x .within) e) [ inr b ↦ simp (le-ltb _ _ a, lt-ltb _ _ b) (omega (arith, left-le) ∙ below-early e f a b) | inl b ↦ simp (le-ltb _ _ a, le-ltb _ _ b) (omega (arith, counted, left-le, late-in-run e f a h b) ∙ below-late e f a h b) ]
   ])

@@ -2,11 +2,9 @@
 use Prim.Native.Nat.{ℕ, _+_, _-_, _*_, _/_, _%_, _<_}
 use mathlib.Core.Path.{_≡_, sym, ap, _∙_}
 use mathlib.Core.Logic.{inl, inr}
-use native.Mathlib.Nat.{div-add-mod', zero-div, div-lt-iff-lt-mul, le-div-iff-mul-le, mul-div-cancel}
+use native.Mathlib.Nat.{div-add-mod', zero-div, div-lt-iff-lt-mul, mul-div-cancel}
 use native.Mathlib.Omega.{arith}
 use lib.Arith.{digits-lt}
-use lib.Dec.{leb}
-use borrow.Author.Tests.{le-leb, lt-leb}
 use Rattle.layout.specs.Moves.{moveIndex, moveZone, moveWithin, moveStripe, zones, groups, total}
 use Rattle.layout.proofs.Laws.Basics.{le-or-lt}
 use Rattle.layout.proofs.Laws.Lag.{to-above, to-below, lag-below}
@@ -53,10 +51,12 @@ pub total-none : (n m T : ℕ) → m ≡ 0 → total n m T ≡ 0
 unfolding total
 total-none n m T z = ap (λ x. x / (n + m)) (ap (λ x. T * n * x) z ∙ omega arith) ∙ zero-div (n + m)
 
--- at most the total, without a division
-pub total-le : (n m T t : ℕ) → 0 < n + m → leb (t * (n + m)) (T * n * m) ≡ leb t (total n m T)
-unfolding total
-total-le n m T t p = elim (le-or-lt t (T * n * m / (n + m))) [
-  | inl h ↦ le-leb _ _ (le-div-iff-mul-le p .0 h) ∙ sym (le-leb _ _ h)
-  | inr h ↦ lt-leb _ _ (div-lt-iff-lt-mul p .0 h) ∙ sym (lt-leb _ _ h)
+-- the total without a division
+pub total-times : (n m T : ℕ) → 0 < n → (0 < m → T % (n * (n + m)) ≡ 0) → total n m T * (n + m) ≡ T * n * m
+total-times n m T pn whole = elim (le-or-lt m 0) [
+  | inr pm ↦ rw (total-zones n m T pn (whole pm)) (omega (arith, ap (λ x. x * n * m) (zones-all n m T pn (whole pm))))
+  | inl z ↦ none (omega arith)
 ]
+  where
+    none : m ≡ 0 → total n m T * (n + m) ≡ T * n * m
+    none z = ap (λ x. x * (n + m)) (total-none n m T z) ∙ sym (ap (λ x. T * n * x) z ∙ omega arith)

@@ -2,6 +2,7 @@
 use Prim.Native.Nat.{ℕ, _+_, _*_, _%_, _≤_, _<_}
 use mathlib.Core.Path.{_≡_, refl, _∙_}
 use mathlib.Core.Bool.{Bool, true, false, cond, _&&_}
+use mathlib.Core.Logic.{_≢_}
 use native.Mathlib.Decide.{ℕ-discrete}
 use native.Mathlib.Nat.{mul-le-mul, mul-pos}
 use native.Mathlib.Omega.{arith}
@@ -9,6 +10,7 @@ use lib.Dec.{leb, eqb}
 use borrow.Author.Tests.{ltb-true, leb-true, eqb-true, lt-ltb, le-leb, eq-eqb, ne-eqb}
 use Rattle.layout.specs.declared.Geometry.{Geometry}
 use Rattle.layout.specs.Layout.{totalOf}
+use Rattle.layout.specs.Limits.{Sized}
 use Rattle.layout.proofs.Laws.Zones.{total-none}
 use Rattle.state.specs.declared.Health.the-variants.{Whole, Out, Lost}
 use Rattle.state.specs.declared.Health.{Health}
@@ -51,18 +53,6 @@ divisor n m low high e =
 
 -- ---- moves
 
--- the two sides that the code compares fit in a word
-pub record Sides (n m T t : ℕ) : Type 0 where
-  pub moves-by : t * (n + m) ≤ 1168231104512
-  pub by-old : T * n ≤ 16777216
-  pub by-moves : T * n * m ≤ 4294967296
-
-pub sides : (n m T t : ℕ) → n ≤ 16 → m ≤ 256 → T ≤ 1048576 → t ≤ 4294967296 → Sides n m T t
-sides n m T t hn hm hT ht =
-    let s : n + m ≤ 272 = omega arith in
-    let a : T * n ≤ 16777216 = mul-le-mul hT hn in
-    record { moves-by = mul-le-mul ht s; by-old = a; by-moves = mul-le-mul a hm }
-
 record Moves (g : Geometry) : Type 0 where
   new-high : g .new ≤ 16
   moves-high : g .moves ≤ totalOf g
@@ -89,6 +79,26 @@ module _ (g : Geometry) where
     | yes z ↦ simp (eq-eqb _ _ z, eq-eqb (g .moves) 0 (omega (arith, total-none (g .old) (g .new) (g .stripes) z)))
     | no z ↦ simp (ne-eqb _ _ z, good-new (g .old) (g .new) (g .stripes) (omega arith) (v .new-high) (v .groups (omega arith)), le-leb _ _ (v .moves-high))
   ]
+
+  -- what a program says that asks for new disks, for good ones, and then for the count
+
+  pub none-asked : g .new ≡ 0 → eqb (g .moves) 0 ≡ movesGood g
+  unfolding movesGood
+  none-asked z = rw (eq-eqb _ _ z) refl
+
+  pub new-refused : g .new ≢ 0 → newGood (g .old) (g .new) (g .stripes) ≡ false → false ≡ movesGood g
+  unfolding movesGood
+  new-refused z e = simp (ne-eqb _ _ z, e)
+
+  module _ (z : g .new ≢ 0) (e : newGood (g .old) (g .new) (g .stripes) ≡ true) where
+    pub count-asked : leb (g .moves) (totalOf g) ≡ movesGood g
+    unfolding movesGood
+    count-asked = simp (ne-eqb _ _ z, e)
+
+    pub sized : 3 ≤ g .old → g .old ≤ 16 → g .stripes ≤ 1048576 → g .moves < 4294967296 → Sized g
+    sized low high T t =
+        let n = new-good _ _ _ e in
+        record { disks = record { n-low = low; n-high = high; m-high = n .1 }; stripes-high = T; moves-high = t; groups = λ h. n .2 }
 
 -- ---- health
 

@@ -25,7 +25,7 @@ home-code-requires c κs =
     let k = c .before .before .before in
     let a = k .args in
     let w = sizes-of _ (k .pre .0) (a .s) (omega arith) in
-    (record { disks = search needs; stripe = w .stripe }, omega (arith, c .before .source-of .ensures, source-lt (a .g .old) (a .g .new) (omega arith) (c .before .before .stripe-of .result .number) (a .e)), ap (λ x. x .parity) (c .before .before .stripe-of .ensures))
+    (record { disks = search needs; stripe = w .stripe }, omega (arith, c .before .source-of .ensures, source-lt (a .g .old) (a .g .new) (omega arith) (c .before .before .stripe-of .result .number) (a .e)), ap (λ x. x .home) (c .before .before .stripe-of .ensures))
 
 new-code-requires : tie.Need-new-code-requires
 new-code-requires c κs =

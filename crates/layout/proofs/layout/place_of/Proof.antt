@@ -1,35 +1,47 @@
 -- `place_of` meets its contract. Assumes nothing.
-use native.Mathlib.Omega.{arith}
 use borrow.Author.Needs.{needs}
-use Rattle.layout.proofs.Laws.Layout.{home-in, new-in, find-old, find-new}
+use Rattle.layout.proofs.Laws.Bounds.{sizes-of}
+use Rattle.layout.proofs.Laws.Layout.{home-place, seat-in, seat-apart, seat-place}
 use Rattle.layout.proofs.layout.place_of.Statement.{statement}
 use Rattle.layout.proofs.layout.place_of.Tie as tie
-
-old-blocks-requires : tie.Need-old-blocks-requires
-old-blocks-requires c κs = search needs
 
 home-place-requires : tie.Need-home-place-requires
 home-place-requires c κs = search needs
 
-carried-place-requires : tie.Need-carried-place-requires
-carried-place-requires c κs = let p = c .before .before .before .pre .0 in let h = home-in _ p _ (omega arith) _ (c .home-place .ensures) in (p, h .0, h .1)
-
-new-place-requires : tie.Need-new-place-requires
-new-place-requires c κs = (c .before .before .pre .0, new-in _ (c .before .before .pre .0) _ _ (c .before .old-blocks .ensures) (c .if1 .left) (c .before .before .pre .1))
-
 returns : tie.Need-returns
-returns c = find-old _ (c .before .before .before .before .pre .0) _ (omega arith) _ _ (c .before .home-place .ensures) (c .carried-place .ensures)
+returns c =
+    let e = c .before in
+    let s = e .before .before in
+    home-place _ (s .pre .0) _ (e .if1 .taken) (s .pre .1) _ (c .home-place .ensures)
+
+seat-of-requires : tie.Need-seat-of-requires
+seat-of-requires c κs = search needs
+
+stripe-of-requires : tie.Need-stripe-of-requires
+stripe-of-requires c κs =
+    let s = c .before .before .before in
+    sizes-of _ (s .pre .0) _ (seat-in _ (s .pre .0) _ (s .pre .1) _ (c .seat-of .ensures) .0)
+
+seat-disk-requires : tie.Need-seat-disk-requires
+seat-disk-requires c κs =
+    let y = c .before in
+    let s = y .before .before .before in
+    (seat-apart _ (s .pre .0) _ (s .pre .1) _ (y .seat-of .ensures) _ (c .stripe-of .ensures), seat-in _ (s .pre .0) _ (s .pre .1) _ (y .seat-of .ensures) .1)
 
 returns-2 : tie.Need-returns-2
-returns-2 c = find-new _ (c .before .before .before .pre .0) _ _ (c .before .before .old-blocks .ensures) (c .before .if1 .left) _ (c .new-place .ensures)
+returns-2 c =
+    let x = c .before in
+    let y = x .before in
+    let s = y .before .before .before in
+    seat-place _ (s .pre .0) _ (s .pre .1) _ (y .seat-of .ensures) _ (x .stripe-of .ensures) _ (c .seat-disk .ensures)
 
 pub place-of-spec : {M : Type 1} → statement M
 place-of-spec =
     tie.close
     (tie.spec
-    old-blocks-requires
     home-place-requires
-    carried-place-requires
-    new-place-requires
     returns
+    seat-of-requires
+    stripe-of-requires
+    seat-disk-requires
     returns-2)

@@ -1,27 +1,18 @@
 -- `total_of` meets its contract. Assumes nothing.
-use mathlib.Core.Path.{refl}
-use native.Mathlib.Omega.{arith}
 use borrow.Author.Needs.{needs}
-use Rattle.layout.specs.Moves.{total}
-use Rattle.layout.proofs.Laws.Bounds.{products}
+use Rattle.layout.proofs.Laws.Bounds.{sized}
+use Rattle.layout.proofs.Laws.Numbers.{total-found}
 use Rattle.layout.proofs.layout.total_of.Statement.{statement}
 use Rattle.layout.proofs.layout.total_of.Tie as tie
 
-mul-result : tie.Need-mul-result
-mul-result c = omega (arith, products _ (c .before .pre))
-
-mul-result-2 : tie.Need-mul-result-2
-mul-result-2 c = omega (arith, products _ (c .before .pre))
-
-add-result : tie.Need-add-result
-add-result c = search needs
+progress-of-requires : tie.Need-progress-of-requires
+progress-of-requires c κs = sized _ (c .pre)
 
 div-result : tie.Need-div-result
 div-result c = search needs
 
 returns : tie.Need-returns
-unfolding total
-returns c = refl
+returns c = total-found _ _ (c .before .progress-of .ensures)
 
 pub total-of-spec : {M : Type 1} → statement M
-total-of-spec = tie.close (tie.spec mul-result mul-result-2 add-result div-result returns)
+total-of-spec = tie.close (tie.spec progress-of-requires div-result returns)

@@ -5,7 +5,7 @@ use Rattle.layout.specs.Moves.{moveZone, moveTo, moveLag, moveWithin, mo
 use Rattle.layout.specs.Closed.{lag, target, turn, isMoved, diskAt, source, taken}
 use Rattle.layout.specs.Blanks.{blanksBelow, blanks, newStripe, newDisk, newBlock}
 use Rattle.layout.specs.Layout.{openStripes, capacity, grownPlace, grownParity, newOwner, grownOwner}
-use Rattle.layout.specs.Paper.{moves, row, places, parities, Paper}
+use Rattle.layout.specs.Cases.Paper.{moves, row, places, parities, Paper}
 
 pub paper : Paper
 unfolding dataDisk homeStripe homeDisk rankOf homeBlock homeOwner moveZone moveTo moveLag moveWithin moveStripe moveFrom total lag target turn isMoved diskAt source taken blanksBelow blanks newStripe newDisk newBlock openStripes capacity grownPlace grownParity newOwner grownOwner moves row places parities

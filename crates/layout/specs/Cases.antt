@@ -1,0 +1,2 @@
+-- Worked cases over the definitions.
+pub mod Paper
