@@ -2,11 +2,11 @@
 // makes none."
 ghost use mathlib.Core.Path.{_≡_};
 ghost use mathlib.Core.Bool.{false};
-ghost use mathlib.Core.Logic.{_≢_};
 ghost use mathlib.Core.List.{[]};
 ghost use Prim.Native.Nat.{_+_, _≤_, min};
 ghost use lib.ListN.{length};
 ghost use Rattle.layout.specs.Layout.{totalOf};
+ghost use Rattle.layout.specs.Moves.{cursorAt};
 ghost use Rattle.state.specs.Good.{geometry, Limits};
 ghost use Rattle.array.specs.Answers.{advancedAnswer, advancedRecord};
 ghost use Rattle.calls.specs.Call.{advance, on};
@@ -17,31 +17,36 @@ use crate::Advanced;
 use crate::places::place_at;
 use crate::refusal::of_advance;
 use blocks::move_block;
-use layout::move_of;
+use layout::Cursor;
+use layout::cursor_of;
+use layout::next_move;
 use layout::total_of;
 use state::Record;
 use state::geometry_of;
 use state::with_moves;
 
-// The next move: the block to its new place, zeroes where it stood.
-fn make_move(r: Record, images: &mut [u8])
-    requires { ⌜ Limits r × (idle (geometry r) ≡ false) × (length (now images) ≡ size r) ⌝ }
+// The next move, which is the one at the cursor: the block to its new place, zeroes where it stood.
+fn make_move(r: Record, at: Cursor, images: &mut [u8])
+    requires { ⌜ Limits r × (idle (geometry r) ≡ false) × (at ≡ cursorAt (r .old) (r .new) (r .moves)) × (length (now images) ≡ size r) ⌝ }
     ensures images { λ _. ⌜ now (images .exit) ≡ storedIn r (moveStores r (now (images .entry))) (now (images .entry)) ⌝ }
 {
-    let x = move_of(r.old as u64, r.new as u64, r.moves as u64);
-    let from = place_at(r, x.stripe, x.from);
-    let to = place_at(r, x.stripe, x.to);
+    let from = place_at(r, at.stripe, at.from);
+    let to = place_at(r, at.stripe, at.to);
     move_block(images, from, to, r.block as usize);
 }
 
-// The next `count` moves, of which there are so many.
+// The next `count` moves, of which there are so many. Divides for the first; the rest are counted on.
 fn make_moves(r: Record, images: &mut [u8], count: u32)
-    requires { ⌜ Limits r × (r .new ≢ 0) × (r .moves + count ≤ totalOf (geometry r)) × (length (now images) ≡ size r) ⌝ }
+    requires { ⌜ Limits r × (idle (geometry r) ≡ false) × (r .moves + count ≤ totalOf (geometry r)) × (length (now images) ≡ size r) ⌝ }
     ensures images { λ _. ⌜ now (images .exit) ≡ storedIn r (advanceStores count r (now (images .entry))) (now (images .entry)) ⌝ }
 {
+    let n = r.old as u64;
+    let m = r.new as u64;
+    let mut at = cursor_of(n, m, r.moves as u64);
     let mut made = 0;
     while made < count {
-        make_move(with_moves(r, r.moves + made), images);
+        make_move(with_moves(r, r.moves + made), at, images);
+        at = next_move(n, m, at);
         made += 1;
     }
 }

@@ -1,15 +1,12 @@
 -- What is proved of the record: `round-trip`, `good-is` and `updates`. Assumes nothing.
-use Prim.Native.Nat.{ℕ, _+_, _*_, _≤_}
+use Prim.Native.Nat.{ℕ, _+_}
 use mathlib.Core.Path.{_≡_, refl, subst}
 use mathlib.Core.Bool.{true}
 use mathlib.Core.Logic.{_↔_}
 use mathlib.Core.List.{List}
-use native.Mathlib.Nat.{div-le-self}
 use native.Mathlib.Omega.{arith}
 use lib.ListN.{length}
-use Rattle.layout.specs.Layout.{totalOf}
-use Rattle.layout.specs.Moves.{total}
-use Rattle.layout.proofs.Laws.Bounds.{products}
+use Rattle.layout.proofs.Laws.Bounds.{total-high}
 use Rattle.state.specs.declared.Health.the-variants.{Whole, Out, Lost}
 use Rattle.state.specs.declared.Health.{Health}
 use Rattle.state.specs.declared.Record.{Record}
@@ -33,10 +30,6 @@ round-trip =
 
 -- a good record's fields fit their bytes
 module _ (r : Record) (l : Limits r) where
-  total-small : totalOf (geometry r) ≤ 268435456
-  unfolding total
-  total-small = omega (arith, div-le-self (r .stripes * r .old * r .new) (r .old + r .new), products (geometry r) (l .array) .by-moves)
-
   disk-small : (h : Health) → OutBelow (r .old + r .new) h → OutBelow 256 h
   disk-small Whole o = tt
   disk-small (Out d) o = omega (arith, o, l .array .disks)
@@ -50,7 +43,7 @@ module _ (r : Record) (l : Limits r) where
         disk-fits = disk-small (r .health) (l .out);
         block-fits = omega (arith, l .block-high);
         stripes-fits = omega (arith, l .array .stripes-high);
-        moves-fits = omega (arith, l .array .moves, total-small);
+        moves-fits = omega (arith, l .array .moves, total-high (geometry r) (l .array));
       }
 
 -- good bytes are those of a good record

@@ -5,15 +5,15 @@ use mathlib.Core.Bool.{Bool, true, false}
 use mathlib.Core.Logic.{_≢_}
 use mathlib.Core.List.{List, [], _++_, append-nil}
 use native.Mathlib.Decide.{decLt}
-use native.Mathlib.Nat.{div-le-self}
 use native.Mathlib.Omega.{arith}
 use lib.ListN.{length}
 use Rattle.layout.specs.declared.Geometry.{Geometry}
-use Rattle.layout.specs.declared.Move.{Move}
-use Rattle.layout.specs.Moves.{moveOf, total}
+use Rattle.layout.specs.declared.Cursor.{Cursor}
+use Rattle.layout.specs.Moves.{cursorAt}
 use Rattle.layout.specs.Layout.{totalOf, capacity, nextStripe, nextFrom, nextTo, after}
-use Rattle.layout.specs.Limits.{Good}
-use Rattle.layout.proofs.Laws.Bounds.{products}
+use Rattle.layout.specs.Limits.{Disks, Good}
+use Rattle.layout.proofs.Laws.Counting.{own-index, counted-on}
+use Rattle.layout.proofs.Laws.Bounds.{total-high}
 use Rattle.layout.proofs.Laws.Standing.{standing, Carries, carries}
 use Rattle.blocks.specs.Block.{blockAt, store, zeros}
 use Rattle.blocks.specs.Stripe.{offset}
@@ -31,15 +31,10 @@ use Rattle.calls.proofs.Laws.Passed.{passed, in-limits, Moves, moves}
 use Rattle.array.proofs.Calls.Called.{called-done}
 use Rattle.calls.proofs.Laws.Advance.{advanced, carried, idle-none, advance-split}
 
--- no array has more moves
-pub total-high : (g : Geometry) → Good g → totalOf g ≤ 268435456
-unfolding total
-total-high g good = omega (arith, div-le-self (g .stripes * g .old * g .new) (g .old + g .new), products g good .by-moves)
-
 -- ---- one move
 
 -- its places lie in the images
-pub record Step (r : Record) (x : Move) : Type 0 where
+pub record Step (r : Record) (x : Cursor) : Type 0 where
   pub stripe-lt : x .stripe < r .stripes
   pub from-lt : x .from < disksOf r
   pub to-lt : x .to < disksOf r
@@ -47,14 +42,14 @@ pub record Step (r : Record) (x : Move) : Type 0 where
   pub to-in : offset (r .block) (r .stripes) (x .stripe) (x .to) + r .block ≤ size r
 
 module _ (r : Record) where
-  abbrev next : Move
-  next = moveOf (r .old) (r .new) (r .moves)
+  abbrev next : Cursor
+  next = cursorAt (r .old) (r .new) (r .moves)
 
-  pub step : Limits r → idle (geometry r) ≡ false → (x : Move) → x ≡ next → Step r x
+  pub step : Limits r → idle (geometry r) ≡ false → (x : Cursor) → x ≡ next → Step r x
   step l busy x e =
       let g : Geometry = geometry r in
       let c : Carries (disksOf r) (r .stripes) (standing g) (standing (after g)) (nextStripe g) (nextFrom g) (nextTo g) = carries g (l .array) (some-left g (l .array) busy) in
-      subst (λ (y : Move). Step r y) (sym e) record {
+      subst (λ (y : Cursor). Step r y) (sym e) record {
         stripe-lt = c .stripe-lt;
         from-lt = c .from-lt;
         to-lt = c .to-lt;
@@ -63,13 +58,13 @@ module _ (r : Record) where
       }
 
   -- what its two stores leave
-  pub stepped : (img : List ℕ) (x : Move) → x ≡ next → {from to : ℕ} → from ≡ offset (r .block) (r .stripes) (x .stripe) (x .from) → to ≡ offset (r .block) (r .stripes) (x .stripe) (x .to)
+  pub stepped : (img : List ℕ) (x : Cursor) → x ≡ next → {from to : ℕ} → from ≡ offset (r .block) (r .stripes) (x .stripe) (x .from) → to ≡ offset (r .block) (r .stripes) (x .stripe) (x .to)
       → {J : List ℕ} → J ≡ store (store img to (blockAt img from (r .block))) from (zeros (r .block)) → J ≡ stored (r .block) (r .stripes) (moveStores r img) img
   unfolding moveStores stored
   stepped img x e ef et j =
       j
       ∙ ap₂ (λ (f t : ℕ). store (store img t (blockAt img f (r .block))) f (zeros (r .block)))
-      (ef ∙ ap (λ (y : Move). offset (r .block) (r .stripes) (y .stripe) (y .from)) e) (et ∙ ap (λ (y : Move). offset (r .block) (r .stripes) (y .stripe) (y .to)) e)
+      (ef ∙ ap (λ (y : Cursor). offset (r .block) (r .stripes) (y .stripe) (y .from)) e) (et ∙ ap (λ (y : Cursor). offset (r .block) (r .stripes) (y .stripe) (y .to)) e)
 
 -- ---- so many moves
 
@@ -117,17 +112,28 @@ module _ (r : Record) (l : Limits r) (nz : r .new ≢ 0) (img : List ℕ) where
           ap (λ (x : ℕ). advanceStores x r img) (let e : k ≡ left + (k - left) = omega arith in e) ∙ none-behind (k - left)
           ∙ ap (λ (x : ℕ). advanceStores x r img) (let e : left ≡ min k left = omega arith in e)
 
--- behind `done` moves of count
-pub record Made (r : Record) (img : List ℕ) (count : ℕ) (J : List ℕ) (done : ℕ) : Type 0 where
+-- behind `done` moves of count, with the cursor at the next
+pub record Made (r : Record) (img : List ℕ) (count : ℕ) (J : List ℕ) (at : Cursor) (done : ℕ) : Type 0 where
   pub most : done ≤ count
+  pub next : at ≡ cursorAt (r .old) (r .new) (r .moves + done)
   pub images : J ≡ stored (r .block) (r .stripes) (advanceStores done r img) img
   pub long : length J ≡ length img
 
-pub made-none : (r : Record) (img : List ℕ) (count : ℕ) → Made r img count img 0
+pub made-none : (r : Record) (img : List ℕ) (count : ℕ) (at : Cursor) → at ≡ cursorAt (r .old) (r .new) (r .moves) → Made r img count img at 0
 unfolding advanceStores stored
-made-none r img count = record { most = omega arith; images = refl; long = refl }
+made-none r img count at e =
+    record {
+      most = omega arith;
+      next = e ∙ ap (cursorAt (r .old) (r .new)) (let z : r .moves ≡ r .moves + 0 = omega arith in z);
+      images = refl;
+      long = refl;
+    }
 
-module _ (r : Record) (img : List ℕ) (count : ℕ) (l : Limits r) (nz : r .new ≢ 0) (some : r .moves + count ≤ totalOf (geometry r)) (lent : length img ≡ size r) {J : List ℕ} {done : ℕ} (h : done < count) (f : Made r img count J done) where
+module _ (r : Record) (img : List ℕ) (count : ℕ) (l : Limits r) (busy : idle (geometry r) ≡ false) (some : r .moves + count ≤ totalOf (geometry r)) (lent : length img ≡ size r)
+    {J : List ℕ} {at : Cursor} {done : ℕ} (h : done < count) (f : Made r img count J at done) where
+  nz : r .new ≢ 0
+  nz = some-new (geometry r) busy
+
   abbrev now : Record
   now = withMoves r (r .moves + done)
 
@@ -135,7 +141,7 @@ module _ (r : Record) (img : List ℕ) (count : ℕ) (l : Limits r) (nz : r .new
   still = busy-of (geometry now) nz (let e : r .moves + done < totalOf (geometry r) = omega arith in e)
 
   -- what the next move asks for
-  pub made-next : (x : Record) → x ≡ now → Limits x × (idle (geometry x) ≡ false) × (length J ≡ size x)
+  pub made-next : (x : Record) → x ≡ now → Limits x × (idle (geometry x) ≡ false) × (at ≡ cursorAt (x .old) (x .new) (x .moves)) × (length J ≡ size x)
   made-next x e =
       let a = l .array in
       let left : r .moves + done ≤ totalOf (geometry r) = omega arith in
@@ -145,11 +151,19 @@ module _ (r : Record) (img : List ℕ) (count : ℕ) (l : Limits r) (nz : r .new
         block-high = l .block-high;
         out = l .out;
       } in
-      subst (λ (y : Record). Limits y × (idle (geometry y) ≡ false) × (length J ≡ size y)) (sym e) (lim, still, f .long ∙ lent)
+      subst (λ (y : Record). Limits y × (idle (geometry y) ≡ false) × (at ≡ cursorAt (y .old) (y .new) (y .moves)) × (length J ≡ size y)) (sym e)
+      (lim, still, f .next, f .long ∙ lent)
+
+  -- what counting on asks for
+  pub made-index : Disks (r .old) (r .new) × (0 < r .new) × (at .index < 268435456) × (at ≡ cursorAt (r .old) (r .new) (at .index))
+  made-index =
+      let i : at .index ≡ r .moves + done = ap (λ (x : Cursor). x .index) (f .next) in
+      (l .array .disks, omega (arith, nz), omega (arith, i, total-high (geometry r) (l .array)), own-index (r .old) (r .new) (r .moves + done) at (f .next))
 
   -- and what it leaves
-  pub made-more : {x : Record} {K : List ℕ} → x ≡ now → K ≡ stored (x .block) (x .stripes) (moveStores x J) J → Made r img count K (done + 1)
-  made-more {x} {K} e q =
+  pub made-more : {x : Record} {K : List ℕ} {at′ : Cursor} → x ≡ now → K ≡ stored (x .block) (x .stripes) (moveStores x J) J
+      → at′ ≡ cursorAt (r .old) (r .new) (at .index + 1) → Made r img count K at′ (done + 1)
+  made-more {x} {K} {at′} e q a =
       let ps : List Store = advanceStores done r img in
       let B : ℕ = r .block in
       let T : ℕ = r .stripes in
@@ -161,7 +175,12 @@ module _ (r : Record) (img : List ℕ) (count : ℕ) (l : Limits r) (nz : r .new
       ∙ ap (λ (y : Record). stored B T (advanceStores 1 y S) S) (sym (state-within r l nz img done (omega arith)))
       ∙ sym (stored-append B T ps (advanceStores 1 (recorded ps r) S) img)
       ∙ ap (λ (y : List Store). stored B T y img) (sym (advance-split done 1 r img)) in
-      record { most = omega arith; images = q′; long = ap length q′ ∙ length-stored B T (advanceStores (done + 1) r img) img }
+      record {
+        most = omega arith;
+        next = counted-on (r .old) (r .new) (r .moves + done) (r .moves + (done + 1)) at at′ (f .next) (omega arith) a;
+        images = q′;
+        long = ap length q′ ∙ length-stored B T (advanceStores (done + 1) r img) img;
+      }
 
 -- ---- the call
 
@@ -173,8 +192,9 @@ module _ (img : List ℕ) (r : Record) (k : ℕ) (z : refusalOf r (feed (advance
   advance-limits = in-limits r (capacity (geometry r)) (feed (advance k) (length img) 0) refl z
 
   -- what making moves asks for, of which there are so many
-  pub advance-passed : (count : ℕ) → r .moves + count ≤ totalOf (geometry r) → Limits r × (r .new ≢ 0) × (r .moves + count ≤ totalOf (geometry r)) × (length img ≡ size r)
-  advance-passed count some = (advance-limits, some-new (geometry r) (lets .busy), some, lets .long)
+  pub advance-passed : (count : ℕ) → r .moves + count ≤ totalOf (geometry r)
+      → Limits r × (idle (geometry r) ≡ false) × (r .moves + count ≤ totalOf (geometry r)) × (length img ≡ size r)
+  advance-passed count some = (advance-limits, lets .busy, some, lets .long)
 
   abbrev leaves : ℕ → Record → List Store → Left Record
   leaves n x ps = record { answer = made n; state = x; images = stored (r .block) (r .stripes) ps img; room = [] }

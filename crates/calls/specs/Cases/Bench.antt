@@ -6,7 +6,7 @@ use mathlib.Core.List.{[], _∷_}
 use Rattle.layout.specs.declared.Role.the-variants.{Data, Parity, Blank}
 use Rattle.layout.specs.Home.{placeAt}
 use Rattle.layout.specs.Moves.{moveOf, total}
-use Rattle.layout.specs.Paper.{move}
+use Rattle.layout.specs.Cases.Paper.{move}
 use Rattle.blocks.specs.Block.{zeros}
 use Rattle.state.specs.declared.Health.the-variants.{Whole, Out, Lost}
 use Rattle.state.specs.declared.Record.{Record}

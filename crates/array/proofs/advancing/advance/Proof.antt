@@ -6,10 +6,11 @@ use borrow.Author.Needs.{needs}
 use native.Mathlib.Omega.{arith}
 use Rattle.layout.specs.declared.Geometry.{Geometry}
 use Rattle.layout.specs.Layout.{totalOf}
+use Rattle.layout.proofs.Laws.Bounds.{total-high}
 use Rattle.state.specs.Good.{geometry, Limits}
 use Rattle.calls.specs.Call.{advance, on}
 use Rattle.array.proofs.Calls.Called.{called-refused}
-use Rattle.array.proofs.Calls.Moving.{total-high, advance-limits, advance-passed, advance-done}
+use Rattle.array.proofs.Calls.Moving.{advance-limits, advance-passed, advance-done}
 use Rattle.array.proofs.advancing.advance.Statement.{statement}
 use Rattle.array.proofs.advancing.advance.Tie as tie
 
