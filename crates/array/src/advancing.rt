@@ -7,7 +7,7 @@ ghost use Prim.Native.Nat.{_+_, _≤_, min};
 ghost use lib.ListN.{length};
 ghost use Rattle.layout.specs.Layout.{totalOf};
 ghost use Rattle.layout.specs.Moves.{cursorAt};
-ghost use Rattle.state.specs.Good.{geometry, Limits};
+ghost use Rattle.state.specs.Good.{geometry, GoodRecord};
 ghost use Rattle.array.specs.Answers.{advancedAnswer, advancedRecord};
 ghost use Rattle.calls.specs.Call.{advance, on};
 ghost use Rattle.calls.specs.Images.{size, storedIn};
@@ -27,7 +27,7 @@ use state::with_moves;
 
 // The next move, which is the one at the cursor: the block to its new place, zeroes where it stood.
 fn make_move(r: Record, at: Cursor, images: &mut [u8])
-    requires { ⌜ Limits r × (idle (geometry r) ≡ false) × (at ≡ cursorAt (r .old) (r .new) (r .moves)) × (length (now images) ≡ size r) ⌝ }
+    requires { ⌜ GoodRecord r × (idle (geometry r) ≡ false) × (at ≡ cursorAt (r .old) (r .new) (r .moves)) × (length (now images) ≡ size r) ⌝ }
     ensures images { λ _. ⌜ now (images .exit) ≡ storedIn r (moveStores r (now (images .entry))) (now (images .entry)) ⌝ }
 {
     let from = place_at(r, at.stripe, at.from);
@@ -37,7 +37,7 @@ fn make_move(r: Record, at: Cursor, images: &mut [u8])
 
 // The next `count` moves, of which there are so many. Divides for the first; the rest are counted on.
 fn make_moves(r: Record, images: &mut [u8], count: u32)
-    requires { ⌜ Limits r × (idle (geometry r) ≡ false) × (r .moves + count ≤ totalOf (geometry r)) × (length (now images) ≡ size r) ⌝ }
+    requires { ⌜ GoodRecord r × (idle (geometry r) ≡ false) × (r .moves + count ≤ totalOf (geometry r)) × (length (now images) ≡ size r) ⌝ }
     ensures images { λ _. ⌜ now (images .exit) ≡ storedIn r (advanceStores count r (now (images .entry))) (now (images .entry)) ⌝ }
 {
     let n = r.old as u64;

@@ -3,7 +3,7 @@ ghost use mathlib.Core.Path.{_≡_};
 ghost use Prim.Native.Nat.{_<_};
 ghost use lib.ListN.{length};
 ghost use Rattle.blocks.specs.Stripe.{offset};
-ghost use Rattle.state.specs.Good.{Limits};
+ghost use Rattle.state.specs.Good.{GoodRecord};
 ghost use Rattle.calls.specs.Images.{disksOf, size, othersIn};
 use crate::refusal::disks_of;
 use blocks::offset_of;
@@ -12,7 +12,7 @@ use state::Record;
 
 // The byte at which place (s, d) begins.
 pub(crate) fn place_at(r: Record, s: u64, d: u64) -> usize
-    requires { ⌜ Limits r × (s < r .stripes) × (d < disksOf r) ⌝ }
+    requires { ⌜ GoodRecord r × (s < r .stripes) × (d < disksOf r) ⌝ }
     ensures start { λ x. ⌜ x ≡ offset (r .block) (r .stripes) s d ⌝ }
 {
     offset_of(r.stripes as usize, r.block as usize, s as usize, d as usize)
@@ -20,7 +20,7 @@ pub(crate) fn place_at(r: Record, s: u64, d: u64) -> usize
 
 // Sets block to the xor of the other places of its stripe.
 pub(crate) fn sum_others(r: Record, images: &[u8], s: u64, d: u64, block: &mut [u8])
-    requires { ⌜ Limits r × (s < r .stripes) × (length (now images) ≡ size r) × (length (now block) ≡ r .block) ⌝ }
+    requires { ⌜ GoodRecord r × (s < r .stripes) × (length (now images) ≡ size r) × (length (now block) ≡ r .block) ⌝ }
     ensures block { λ _. ⌜ now (block .exit) ≡ othersIn r (now (images .entry)) s d ⌝ }
 {
     let disks = disks_of(r) as usize;

@@ -3,7 +3,7 @@ ghost use mathlib.Core.Path.{_≡_};
 ghost use mathlib.Core.List.{[]};
 ghost use Prim.Native.Nat.{_+_, _≤_, _<_};
 ghost use lib.ListN.{length};
-ghost use Rattle.state.specs.Good.{Limits};
+ghost use Rattle.state.specs.Good.{GoodRecord};
 ghost use Rattle.array.specs.Answers.{changedAnswer, changedRecord};
 ghost use Rattle.calls.specs.Call.{rebuild, on};
 ghost use Rattle.calls.specs.Images.{disksOf, size, othersIn, storedIn, fillDisk};
@@ -19,7 +19,7 @@ use state::with_health;
 // Disk d of `count` stripes from `first` on, each summed into `block` and then stored: two slices are told apart once and for all, two
 // parts of the images are not.
 fn fill_disk(r: Record, images: &mut [u8], d: u64, first: usize, count: usize, block: &mut [u8])
-    requires { ⌜ Limits r × (d < disksOf r) × (first + count ≤ r .stripes)
+    requires { ⌜ GoodRecord r × (d < disksOf r) × (first + count ≤ r .stripes)
         × (length (now images) ≡ size r) × (length (now block) ≡ r .block) ⌝ }
     ensures images { λ _. ⌜ now (images .exit) ≡
         storedIn r (fillDisk first count d (λ S. othersIn r (now (images .entry)) S d)) (now (images .entry)) ⌝ }
@@ -35,7 +35,7 @@ fn fill_disk(r: Record, images: &mut [u8], d: u64, first: usize, count: usize, b
 
 // The same, with a block of its own to sum into.
 fn fill_disk_alone(r: Record, images: &mut [u8], d: u64, first: usize, count: usize)
-    requires { ⌜ Limits r × (d < disksOf r) × (first + count ≤ r .stripes) × (length (now images) ≡ size r) ⌝ }
+    requires { ⌜ GoodRecord r × (d < disksOf r) × (first + count ≤ r .stripes) × (length (now images) ≡ size r) ⌝ }
     ensures images { λ _. ⌜ now (images .exit) ≡
         storedIn r (fillDisk first count d (λ S. othersIn r (now (images .entry)) S d)) (now (images .entry)) ⌝ }
 {

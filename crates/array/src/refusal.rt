@@ -3,7 +3,7 @@
 ghost use mathlib.Core.Path.{_≡_};
 ghost use Prim.Native.Nat.{_≤_};
 ghost use Rattle.layout.specs.Layout.{capacity};
-ghost use Rattle.state.specs.Good.{geometry, Limits};
+ghost use Rattle.state.specs.Good.{geometry, GoodRecord};
 ghost use Rattle.calls.specs.Call.{format, read, grow, advance, out, rebuild, status, locate, owner, feed};
 ghost use Rattle.calls.specs.Images.{disksOf, sizeWith};
 ghost use Rattle.calls.specs.Table.{idle, formable, word, kept, keptWhole, keptLent, refusalOf};
@@ -50,7 +50,7 @@ pub fn disks_of(r: Record) -> u64
 
 // The length of the images of its old disks and m new ones.
 fn size_with(r: Record, m: u64) -> u64
-    requires { ⌜ Limits r × (m ≤ 16) ⌝ }
+    requires { ⌜ GoodRecord r × (m ≤ 16) ⌝ }
     ensures length { λ x. ⌜ x ≡ sizeWith r m ⌝ }
 {
     (r.old as u64 + m) * (r.stripes as u64 * r.block as u64)
@@ -58,7 +58,7 @@ fn size_with(r: Record, m: u64) -> u64
 
 // The number of its blocks.
 fn blocks_of(r: Record) -> u64
-    requires { ⌜ Limits r ⌝ }
+    requires { ⌜ GoodRecord r ⌝ }
     ensures count { λ x. ⌜ x ≡ capacity (geometry r) ⌝ }
 {
     capacity_of(geometry_of(r))
@@ -66,7 +66,7 @@ fn blocks_of(r: Record) -> u64
 
 // Is there no move to make?
 fn is_idle(r: Record) -> bool
-    requires { ⌜ Limits r ⌝ }
+    requires { ⌜ GoodRecord r ⌝ }
     ensures answer { λ x. ⌜ x ≡ idle (geometry r) ⌝ }
 {
     all_moved(geometry_of(r))

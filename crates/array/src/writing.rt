@@ -14,8 +14,7 @@ use crate::refusal::of_reach;
 use blocks::copy_in;
 use blocks::fold_others;
 use blocks::fold_parity;
-use layout::parity_of;
-use layout::place_of;
+use layout::find;
 use state::Record;
 use state::geometry_of;
 
@@ -24,9 +23,9 @@ fn put(r: Record, images: &mut [u8], b: u64, bytes: &[u8])
     requires { ⌜ refusalOf r (feed (write b (now bytes)) (length (now images)) 0) ≡ 0 ⌝ }
     ensures images { λ _. ⌜ now (images .exit) ≡ storedIn r (writeStores r (now (images .entry)) b (now (bytes .entry))) (now (images .entry)) ⌝ }
 {
-    let g = geometry_of(r);
-    let q = place_of(g, b);
-    let p = parity_of(g, q.stripe);
+    let f = find(geometry_of(r), b);
+    let q = f.place;
+    let p = f.parity;
     let health = r.health;
     if is_absent(health, q.stripe, q.disk) {
         fold_others(

@@ -20,7 +20,7 @@ use Rattle.blocks.proofs.Laws.Xor.{getD-zeros}
 use Rattle.state.specs.declared.Health.the-variants.{Whole, Out, Lost}
 use Rattle.state.specs.declared.Health.{Health}
 use Rattle.state.specs.declared.Record.{Record}
-use Rattle.state.specs.Good.{geometry, good, Limits}
+use Rattle.state.specs.Good.{geometry, good, GoodRecord}
 use Rattle.state.specs.Update.{formatted, grownBy, withMoves, withHealth}
 use Rattle.calls.specs.Call.{Call, format, read, view, write, grow, advance, out, rebuild, status, locate, owner}
 use Rattle.calls.specs.Call.{Event, Answer, bytes, made}
@@ -120,7 +120,7 @@ module _ (r : Record) (e : Event) where
     t : Reaches r (capacity (geometry r)) (length img) b (length v)
     t = writing r e b v z
 
-    g : Limits r
+    g : GoodRecord r
     g = bounds r e (write b v) refl z
 
     in-stripes : Sb < r .stripes

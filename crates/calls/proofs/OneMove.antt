@@ -10,7 +10,7 @@ use lib.ListN.{length, getD, length-replicate}
 use lib.Seq.{ext-getD}
 use Rattle.layout.specs.declared.Geometry.{Geometry}
 use Rattle.layout.specs.Layout.{nextStripe, nextFrom, nextTo, after as next}
-use Rattle.layout.specs.Limits.{Good}
+use Rattle.layout.specs.Limits.{GoodArray}
 use Rattle.layout.proofs.Laws.Standing.{standing, Carries}
 use Rattle.blocks.specs.Block.{zeros}
 use Rattle.blocks.proofs.Laws.Grid.{Grid, storeAt, storeAt-same, storeAt-row, storeAt-far}
@@ -55,7 +55,7 @@ module _ (r : Record) (img : List ℕ) (gd : good r ≡ true) (busy : idle (geom
   abbrev g : Geometry
   g = geometry r
 
-  array : Good g
+  array : GoodArray g
   array = limits r gd .array
 
   abbrev after : List ℕ

@@ -13,7 +13,7 @@ use Rattle.layout.specs.Moves.{stands}
 use Rattle.layout.specs.Closed.{diskAt, source, taken}
 use Rattle.layout.specs.Blanks.{blanksBelow, newBlock}
 use Rattle.layout.specs.Layout.{disks, totalOf, oldBlocks, capacity, home, layout, grownParity}
-use Rattle.layout.specs.Limits.{Good}
+use Rattle.layout.specs.Limits.{GoodArray}
 use Rattle.layout.specs.Theorem.{Ranks, Order, Replay, Numbers, Placed, Blanked, NextMove, Laid, Demand2, blank}
 use Rattle.layout.proofs.Laws.Basics.{le-or-lt}
 use Rattle.layout.proofs.Laws.Lag as moves
@@ -74,7 +74,7 @@ module _ (n m : ℕ) (pn : 0 < n) (pm : 0 < m) where
 
 -- ---- on an array
 
-module _ (g : Geometry) (good : Good g) where
+module _ (g : Geometry) (good : GoodArray g) where
   pn : 2 ≤ g .old
   pn = omega (arith, good .disks .n-low)
 

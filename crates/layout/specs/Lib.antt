@@ -6,7 +6,7 @@ pub mod Closed
 pub mod Blanks
 pub mod Runs
 pub mod Layout
-pub mod Seats
+pub mod Slots
 pub mod Limits
 pub mod Coded
 pub mod Theorem

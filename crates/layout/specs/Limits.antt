@@ -28,7 +28,7 @@ pub record TakenApart (n m : ℕ) (x : Stripe) : Type 0 where
 
 -- an array: "n, the old disks, is 3 to 16; m, the new ones, 1 to 16" (0 before growth), "T, the stripes, is 1 to 1,048,576",
 -- "t is at most the total of moves" (with m = 0 that is 0), "and with m above 0 T is a multiple of n × (n + m)"
-pub record Good (g : Geometry) : Type 0 where
+pub record GoodArray (g : Geometry) : Type 0 where
   pub disks : Disks (g .old) (g .new)
   pub stripes-low : 1 ≤ g .stripes
   pub stripes-high : g .stripes ≤ 1048576

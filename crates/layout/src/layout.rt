@@ -6,15 +6,15 @@ ghost use lib.Dec.{leb, eqb};
 ghost use Rattle.layout.specs.Closed.{taken};
 ghost use Rattle.layout.specs.Layout.{disks, totalOf, oldBlocks, openStripes, capacity};
 ghost use Rattle.layout.specs.Layout.{newOwner, layout, found};
-ghost use Rattle.layout.specs.Seats.{seatOf, seatDisk, Seated};
+ghost use Rattle.layout.specs.Slots.{slotOf, slotDisk, InSlot};
 ghost use Rattle.layout.specs.Coded.{code};
-ghost use Rattle.layout.specs.Limits.{TakenApart, Sized, Measured, Good};
+ghost use Rattle.layout.specs.Limits.{TakenApart, Sized, Measured, GoodArray};
 use crate::Found;
 use crate::Geometry;
 use crate::Place;
 use crate::Progress;
 use crate::Role;
-use crate::Seat;
+use crate::Slot;
 use crate::Stripe;
 use crate::blanks::count_below;
 use crate::blanks::nth_blank;
@@ -43,7 +43,7 @@ fn progress_of(g: Geometry) -> Progress
 
 // The moves of the growth.
 pub fn total_of(g: Geometry) -> u64
-    requires { ⌜ Good g ⌝ }
+    requires { ⌜ GoodArray g ⌝ }
     ensures { λ r. ⌜ r ≡ totalOf g ⌝ }
 {
     let p = progress_of(g);
@@ -61,7 +61,7 @@ pub fn moves_fit(g: Geometry) -> bool
 
 // Are all moves of the growth made? (With no new disk there is none.)
 pub fn all_moved(g: Geometry) -> bool
-    requires { ⌜ Good g ⌝ }
+    requires { ⌜ GoodArray g ⌝ }
     ensures { λ r. ⌜ r ≡ eqb (g .moves) (totalOf g) ⌝ }
 {
     let p = progress_of(g);
@@ -70,7 +70,7 @@ pub fn all_moved(g: Geometry) -> bool
 
 // The blocks of before the growth.
 fn old_blocks(g: Geometry) -> u64
-    requires { ⌜ Good g ⌝ }
+    requires { ⌜ GoodArray g ⌝ }
     ensures { λ r. ⌜ r ≡ oldBlocks g ⌝ }
 {
     g.stripes * (g.old - 1)
@@ -78,7 +78,7 @@ fn old_blocks(g: Geometry) -> u64
 
 // The stripes whose blanks are new blocks.
 fn open_stripes(g: Geometry) -> u64
-    requires { ⌜ Good g ⌝ }
+    requires { ⌜ GoodArray g ⌝ }
     ensures { λ r. ⌜ r ≡ openStripes g ⌝ }
 {
     if all_moved(g) { g.stripes } else { 0 }
@@ -86,37 +86,37 @@ fn open_stripes(g: Geometry) -> u64
 
 // The number of blocks.
 pub fn capacity_of(g: Geometry) -> u64
-    requires { ⌜ Good g ⌝ }
+    requires { ⌜ GoodArray g ⌝ }
     ensures { λ r. ⌜ r ≡ capacity g ⌝ }
 {
     old_blocks(g) + open_stripes(g) * g.new
 }
 
-// The seat of block b.
-fn seat_of(g: Geometry, b: u64) -> Seat
-    requires { ⌜ Good g × (b < capacity g) ⌝ }
-    ensures { λ r. ⌜ r ≡ seatOf g b ⌝ }
+// The slot of block b.
+fn slot_of(g: Geometry, b: u64) -> Slot
+    requires { ⌜ GoodArray g × (b < capacity g) ⌝ }
+    ensures { λ r. ⌜ r ≡ slotOf g b ⌝ }
 {
     let old = old_blocks(g);
     if b < old {
         let q = home_place(g.old, b);
-        return Seat {
+        return Slot {
             stripe: q.stripe,
             nth: q.disk,
             new: false,
         };
     }
-    Seat {
+    Slot {
         stripe: (b - old) / g.new,
         nth: (b - old) % g.new,
         new: true,
     }
 }
 
-// The disk of seat y, whose stripe is x.
-fn seat_disk(g: Geometry, x: Stripe, y: Seat) -> u64
-    requires { ⌜ TakenApart (g .old) (g .new) x × Seated g y ⌝ }
-    ensures { λ r. ⌜ r ≡ seatDisk g (x .number) y ⌝ }
+// The disk of slot y, whose stripe is x.
+fn slot_disk(g: Geometry, x: Stripe, y: Slot) -> u64
+    requires { ⌜ TakenApart (g .old) (g .new) x × InSlot g y ⌝ }
+    ensures { λ r. ⌜ r ≡ slotDisk g (x .number) y ⌝ }
 {
     if y.new {
         nth_blank(g.old, g.new, x, y.nth)
@@ -127,17 +127,17 @@ fn seat_disk(g: Geometry, x: Stripe, y: Seat) -> u64
 
 // Where block b stands: with no new disk, where it stood before the growth.
 pub fn place_of(g: Geometry, b: u64) -> Place
-    requires { ⌜ Good g × (b < capacity g) ⌝ }
+    requires { ⌜ GoodArray g × (b < capacity g) ⌝ }
     ensures { λ r. ⌜ r ≡ layout g .place b ⌝ }
 {
     if g.new == 0 {
         return home_place(g.old, b);
     }
-    let y = seat_of(g, b);
+    let y = slot_of(g, b);
     let x = stripe_of(g.old, g.new, y.stripe);
     Place {
         stripe: y.stripe,
-        disk: seat_disk(g, x, y),
+        disk: slot_disk(g, x, y),
     }
 }
 
@@ -149,17 +149,9 @@ fn parity_at(g: Geometry, x: Stripe) -> u64
     disk_at(g.old, g.new, g.moves, x, x.home)
 }
 
-// The disk on which the parity of stripe s stands.
-pub fn parity_of(g: Geometry, s: u64) -> u64
-    requires { ⌜ Good g × (s < g .stripes) ⌝ }
-    ensures { λ r. ⌜ r ≡ layout g .parity s ⌝ }
-{
-    parity_at(g, stripe_of(g.old, g.new, s))
-}
-
 // Where block b stands, and the parity of its stripe, which is taken apart once for both.
 pub fn find(g: Geometry, b: u64) -> Found
-    requires { ⌜ Good g × (b < capacity g) ⌝ }
+    requires { ⌜ GoodArray g × (b < capacity g) ⌝ }
     ensures { λ r. ⌜ r ≡ found g b ⌝ }
 {
     if g.new == 0 {
@@ -169,12 +161,12 @@ pub fn find(g: Geometry, b: u64) -> Found
             parity: q.stripe % g.old,
         };
     }
-    let y = seat_of(g, b);
+    let y = slot_of(g, b);
     let x = stripe_of(g.old, g.new, y.stripe);
     Found {
         place: Place {
             stripe: y.stripe,
-            disk: seat_disk(g, x, y),
+            disk: slot_disk(g, x, y),
         },
         parity: parity_at(g, x),
     }
@@ -182,7 +174,7 @@ pub fn find(g: Geometry, b: u64) -> Found
 
 // What disk e of stripe x holds, coded, if nothing of before the growth.
 fn new_code(g: Geometry, x: Stripe, e: u64) -> u64
-    requires { ⌜ Good g × TakenApart (g .old) (g .new) x × (x .number < g .stripes) × (e < disks g) ⌝ }
+    requires { ⌜ GoodArray g × TakenApart (g .old) (g .new) x × (x .number < g .stripes) × (e < disks g) ⌝ }
     ensures { λ r. ⌜ (taken (g .old) (g .new) (g .moves) (x .number) e ≡ false → r ≡ code (newOwner g (x .number) e)) ⌝ }
 {
     let s = x.number;
@@ -195,7 +187,7 @@ fn new_code(g: Geometry, x: Stripe, e: u64) -> u64
 
 // What disk e of stripe s holds: what came to stand there, or a new block, or nothing.
 pub fn owner_of(g: Geometry, s: u64, e: u64) -> Role
-    requires { ⌜ Good g × (s < g .stripes) × (e < disks g) ⌝ }
+    requires { ⌜ GoodArray g × (s < g .stripes) × (e < disks g) ⌝ }
     ensures { λ r. ⌜ r ≡ layout g .owner s e ⌝ }
 {
     let x = stripe_of(g.old, g.new, s);

@@ -15,7 +15,6 @@ pub use layout::capacity_of;
 pub use layout::find;
 pub use layout::moves_fit;
 pub use layout::owner_of;
-pub use layout::parity_of;
 pub use layout::place_of;
 pub use layout::total_of;
 pub use moves::cursor_of;
@@ -86,7 +85,7 @@ pub struct Stripe {
 
 // A block's stripe, and what tells its disk there: for a block of before the growth the disk on which it stood, for a new one which of the
 // blanks it is.
-pub struct Seat {
+pub struct Slot {
     pub stripe: u64,
     pub nth: u64,
     pub new: bool,

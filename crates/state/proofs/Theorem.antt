@@ -10,7 +10,7 @@ use Rattle.layout.proofs.Laws.Bounds.{total-high}
 use Rattle.state.specs.declared.Health.the-variants.{Whole, Out, Lost}
 use Rattle.state.specs.declared.Health.{Health}
 use Rattle.state.specs.declared.Record.{Record}
-use Rattle.state.specs.Good.{geometry, good, OutBelow, Limits}
+use Rattle.state.specs.Good.{geometry, good, OutBelow, GoodRecord}
 use Rattle.state.specs.Bytes.{recordLength, decode, plain, goodBytes, encode, AreBytes}
 use Rattle.state.specs.Theorem.{RoundTrip, GoodIs, Updates}
 use Rattle.conditions.proofs.Tests.{both}
@@ -29,7 +29,7 @@ round-trip =
     }
 
 -- a good record's fields fit their bytes
-module _ (r : Record) (l : Limits r) where
+module _ (r : Record) (l : GoodRecord r) where
   disk-small : (h : Health) → OutBelow (r .old + r .new) h → OutBelow 256 h
   disk-small Whole o = tt
   disk-small (Out d) o = omega (arith, o, l .array .disks)

@@ -6,7 +6,7 @@ use mathlib.Core.Bool.{Bool, true, cond, _&&_}
 use lib.Dec.{leb, ltb, eqb}
 use Rattle.layout.specs.declared.Geometry.{Geometry}
 use Rattle.layout.specs.Layout.{totalOf}
-use Rattle.layout.specs.Limits.{Good}
+use Rattle.layout.specs.Limits.{GoodArray}
 use Rattle.state.specs.declared.Health.the-variants.{Whole, Out, Lost}
 use Rattle.state.specs.declared.Health.{Health}
 use Rattle.state.specs.declared.Record.{Record}
@@ -58,8 +58,8 @@ OutBelow N Whole = Unit
 OutBelow N (Out d) = d < N
 OutBelow N Lost = Unit
 
-pub record Limits (r : Record) : Type 0 where
-  pub array : Good (geometry r)
+pub record GoodRecord (r : Record) : Type 0 where
+  pub array : GoodArray (geometry r)
   pub block-low : 1 ≤ r .block
   pub block-high : r .block ≤ 4096
   pub out : OutBelow (r .old + r .new) (r .health)

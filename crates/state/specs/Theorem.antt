@@ -9,7 +9,7 @@ use lib.ListN.{length}
 use Rattle.state.specs.declared.Health.the-variants.{Whole, Out, Lost}
 use Rattle.state.specs.declared.Health.{Health}
 use Rattle.state.specs.declared.Record.{Record}
-use Rattle.state.specs.Good.{good, Limits}
+use Rattle.state.specs.Good.{good, GoodRecord}
 use Rattle.state.specs.Bytes.{recordLength, decode, plain, goodBytes, healthByte, diskByte, encode, AreBytes}
 use Rattle.state.specs.Update.{formatted, grownBy, withMoves, withHealth}
 
@@ -26,9 +26,9 @@ pub record RoundTrip : Type 0 where
 
 -- "A record is good exactly if each field is in its limits .."
 pub record GoodIs : Type 0 where
-  pub exactly : (r : Record) → (good r ≡ true) ↔ Limits r
+  pub exactly : (r : Record) → (good r ≡ true) ↔ GoodRecord r
   -- its bytes are bytes
-  pub fits : (r : Record) → Limits r → AreBytes (encode r)
+  pub fits : (r : Record) → GoodRecord r → AreBytes (encode r)
   -- and so many bytes are good exactly if they are those of a good record: "bytes 6–7 zero included"
   pub bytes : (b : List ℕ) → AreBytes b → length b ≡ recordLength
       → (goodBytes b ≡ true) ↔ ((r : Record) × (good r ≡ true) × (encode r ≡ b))

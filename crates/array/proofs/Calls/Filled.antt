@@ -14,7 +14,7 @@ use Rattle.blocks.proofs.Laws.Stripe.{length-others, others-store}
 use Rattle.state.specs.declared.Health.the-variants.{Whole}
 use Rattle.state.specs.declared.Health.{Health}
 use Rattle.state.specs.declared.Record.{Record}
-use Rattle.state.specs.Good.{geometry, OutBelow, Limits}
+use Rattle.state.specs.Good.{geometry, OutBelow, GoodRecord}
 use Rattle.state.specs.Update.{withHealth}
 use Rattle.calls.specs.Call.{rebuild, feed, on, done}
 use Rattle.calls.specs.Images.{disksOf, size, othersIn, block, stored, fillDisk}
@@ -78,9 +78,9 @@ module _ (img : List ℕ) (r : Record) (d : ℕ) (z : refusalOf r (feed (rebuild
   at-once = rebuilds r (capacity (geometry r)) (length img) 0 d (passed r (capacity (geometry r)) (feed (rebuild d) (length img) 0) z)
 
   -- what filling a disk asks for
-  pub rebuild-passed : Limits r × (d < disksOf r) × (0 + r .stripes ≤ r .stripes) × (length img ≡ size r)
+  pub rebuild-passed : GoodRecord r × (d < disksOf r) × (0 + r .stripes ≤ r .stripes) × (length img ≡ size r)
   rebuild-passed =
-      let l : Limits r = in-limits r (capacity (geometry r)) (feed (rebuild d) (length img) 0) refl z in
+      let l : GoodRecord r = in-limits r (capacity (geometry r)) (feed (rebuild d) (length img) 0) refl z in
       (l, subst (λ (h : Health). OutBelow (disksOf r) h) (at-once .is-out) (l .out), omega arith, at-once .long)
 
   pub rebuild-done : called (on (rebuild d) img []) r

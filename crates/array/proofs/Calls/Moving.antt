@@ -11,7 +11,7 @@ use Rattle.layout.specs.declared.Geometry.{Geometry}
 use Rattle.layout.specs.declared.Cursor.{Cursor}
 use Rattle.layout.specs.Moves.{cursorAt}
 use Rattle.layout.specs.Layout.{totalOf, capacity, nextStripe, nextFrom, nextTo, after}
-use Rattle.layout.specs.Limits.{Disks, Good}
+use Rattle.layout.specs.Limits.{Disks, GoodArray}
 use Rattle.layout.proofs.Laws.Counting.{own-index, counted-on}
 use Rattle.layout.proofs.Laws.Bounds.{total-high}
 use Rattle.layout.proofs.Laws.Standing.{standing, Carries, carries}
@@ -19,7 +19,7 @@ use Rattle.blocks.specs.Block.{blockAt, store, zeros}
 use Rattle.blocks.specs.Stripe.{offset}
 use Rattle.blocks.proofs.Laws.Stripe.{place-in}
 use Rattle.state.specs.declared.Record.{Record}
-use Rattle.state.specs.Good.{geometry, Limits}
+use Rattle.state.specs.Good.{geometry, GoodRecord}
 use Rattle.state.specs.Update.{withMoves}
 use Rattle.calls.specs.Call.{advance, feed, on, made}
 use Rattle.calls.specs.Images.{disksOf, size, Store, stored, recorded}
@@ -45,7 +45,7 @@ module _ (r : Record) where
   abbrev next : Cursor
   next = cursorAt (r .old) (r .new) (r .moves)
 
-  pub step : Limits r → idle (geometry r) ≡ false → (x : Cursor) → x ≡ next → Step r x
+  pub step : GoodRecord r → idle (geometry r) ≡ false → (x : Cursor) → x ≡ next → Step r x
   step l busy x e =
       let g : Geometry = geometry r in
       let c : Carries (disksOf r) (r .stripes) (standing g) (standing (after g)) (nextStripe g) (nextFrom g) (nextTo g) = carries g (l .array) (some-left g (l .array) busy) in
@@ -82,10 +82,10 @@ one-move B T r img q =
     (sym q) (stored-append B T (moveStores r img) [] img)
 
 -- the record behind k moves
-state-of : (k : ℕ) (r : Record) (img : List ℕ) → Good (geometry r) → r .new ≢ 0 → recorded (advanceStores k r img) r ≡ advanced k r
+state-of : (k : ℕ) (r : Record) (img : List ℕ) → GoodArray (geometry r) → r .new ≢ 0 → recorded (advanceStores k r img) r ≡ advanced k r
 state-of k r img gd nz = carried (λ x l. Unit) (λ x l g b u. tt) k r img gd nz tt .state
 
-module _ (r : Record) (l : Limits r) (nz : r .new ≢ 0) (img : List ℕ) where
+module _ (r : Record) (l : GoodRecord r) (nz : r .new ≢ 0) (img : List ℕ) where
   abbrev left : ℕ
   left = totalOf (geometry r) - r .moves
 
@@ -129,7 +129,7 @@ made-none r img count at e =
       long = refl;
     }
 
-module _ (r : Record) (img : List ℕ) (count : ℕ) (l : Limits r) (busy : idle (geometry r) ≡ false) (some : r .moves + count ≤ totalOf (geometry r)) (lent : length img ≡ size r)
+module _ (r : Record) (img : List ℕ) (count : ℕ) (l : GoodRecord r) (busy : idle (geometry r) ≡ false) (some : r .moves + count ≤ totalOf (geometry r)) (lent : length img ≡ size r)
     {J : List ℕ} {at : Cursor} {done : ℕ} (h : done < count) (f : Made r img count J at done) where
   nz : r .new ≢ 0
   nz = some-new (geometry r) busy
@@ -141,17 +141,17 @@ module _ (r : Record) (img : List ℕ) (count : ℕ) (l : Limits r) (busy : idle
   still = busy-of (geometry now) nz (let e : r .moves + done < totalOf (geometry r) = omega arith in e)
 
   -- what the next move asks for
-  pub made-next : (x : Record) → x ≡ now → Limits x × (idle (geometry x) ≡ false) × (at ≡ cursorAt (x .old) (x .new) (x .moves)) × (length J ≡ size x)
+  pub made-next : (x : Record) → x ≡ now → GoodRecord x × (idle (geometry x) ≡ false) × (at ≡ cursorAt (x .old) (x .new) (x .moves)) × (length J ≡ size x)
   made-next x e =
       let a = l .array in
       let left : r .moves + done ≤ totalOf (geometry r) = omega arith in
-      let lim : Limits now = record {
+      let lim : GoodRecord now = record {
         array = record { disks = a .disks; stripes-low = a .stripes-low; stripes-high = a .stripes-high; moves = left; groups = a .groups };
         block-low = l .block-low;
         block-high = l .block-high;
         out = l .out;
       } in
-      subst (λ (y : Record). Limits y × (idle (geometry y) ≡ false) × (at ≡ cursorAt (y .old) (y .new) (y .moves)) × (length J ≡ size y)) (sym e)
+      subst (λ (y : Record). GoodRecord y × (idle (geometry y) ≡ false) × (at ≡ cursorAt (y .old) (y .new) (y .moves)) × (length J ≡ size y)) (sym e)
       (lim, still, f .next, f .long ∙ lent)
 
   -- what counting on asks for
@@ -188,12 +188,12 @@ module _ (img : List ℕ) (r : Record) (k : ℕ) (z : refusalOf r (feed (advance
   lets : Moves r (length img)
   lets = moves r (capacity (geometry r)) (length img) 0 k (passed r (capacity (geometry r)) (feed (advance k) (length img) 0) z)
 
-  pub advance-limits : Limits r
+  pub advance-limits : GoodRecord r
   advance-limits = in-limits r (capacity (geometry r)) (feed (advance k) (length img) 0) refl z
 
   -- what making moves asks for, of which there are so many
   pub advance-passed : (count : ℕ) → r .moves + count ≤ totalOf (geometry r)
-      → Limits r × (idle (geometry r) ≡ false) × (r .moves + count ≤ totalOf (geometry r)) × (length img ≡ size r)
+      → GoodRecord r × (idle (geometry r) ≡ false) × (r .moves + count ≤ totalOf (geometry r)) × (length img ≡ size r)
   advance-passed count some = (advance-limits, lets .busy, some, lets .long)
 
   abbrev leaves : ℕ → Record → List Store → Left Record

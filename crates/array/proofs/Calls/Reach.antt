@@ -9,12 +9,12 @@ use lib.ListN.{length}
 use Rattle.layout.specs.declared.Geometry.{Geometry}
 use Rattle.layout.specs.declared.Place.{Place}
 use Rattle.layout.specs.Layout.{capacity, layout}
-use Rattle.layout.specs.Limits.{Good}
+use Rattle.layout.specs.Limits.{GoodArray}
 use Rattle.blocks.specs.Block.{blockAt}
 use Rattle.blocks.specs.Stripe.{offset}
 use Rattle.blocks.proofs.Laws.Stripe.{place-in}
 use Rattle.state.specs.declared.Record.{Record}
-use Rattle.state.specs.Good.{geometry, Limits}
+use Rattle.state.specs.Good.{geometry, GoodRecord}
 use Rattle.array.specs.declared.Choice.the-variants.{Part, Scratch}
 use Rattle.array.specs.Answers.{choiceOf}
 use Rattle.calls.specs.Call.{read, feed}
@@ -27,7 +27,7 @@ use Rattle.calls.proofs.Laws.Write.{lS, ld, lp, parity-apart}
 use Rattle.array.proofs.Calls.Bounds.{bounded}
 
 -- a place of the images begins below 2^64
-pub place-fits : (r : Record) (s d : ℕ) → Limits r → s < r .stripes → d < disksOf r → offset (r .block) (r .stripes) s d < 18446744073709551616
+pub place-fits : (r : Record) (s d : ℕ) → GoodRecord r → s < r .stripes → d < disksOf r → offset (r .block) (r .stripes) s d < 18446744073709551616
 place-fits r s d l ls ld =
     let a = l .array in
     let n : disksOf r ≤ 32 = omega (arith, a .disks .n-high, a .disks .m-high) in
@@ -35,7 +35,7 @@ place-fits r s d l ls ld =
 
 -- block b stands at q, inside the images, and the parity of its stripe on another disk
 pub record Reached (r : Record) (len b room : ℕ) (q : Place) : Type 0 where
-  pub limits : Limits r
+  pub limits : GoodRecord r
   pub here : isLost (r .health) ≡ false
   pub long : len ≡ size r
   pub whole : room ≡ r .block
@@ -49,11 +49,11 @@ module _ (r : Record) (len b room : ℕ) (z : refusalOf r (feed (read b) len roo
   lets : Reaches r (capacity (geometry r)) len b room
   lets = reads r (capacity (geometry r)) len room b (passed r (capacity (geometry r)) (feed (read b) len room) z)
 
-  bounds : Limits r
+  bounds : GoodRecord r
   bounds = in-limits r (capacity (geometry r)) (feed (read b) len room) refl z
 
-  pub asked : Good g × (b < capacity g)
-  asked = subst (λ (x : Geometry). Good x × (b < capacity x)) (sym e) (bounds .array, lets .block-lt)
+  pub asked : GoodArray g × (b < capacity g)
+  asked = subst (λ (x : Geometry). GoodArray x × (b < capacity x)) (sym e) (bounds .array, lets .block-lt)
 
   pub reached : (q : Place) → q ≡ layout g .place b → Reached r len b room q
   reached q f =
@@ -83,9 +83,6 @@ module _ {r : Record} {len b room : ℕ} {q : Place} (x : Reached r len b room q
 
   pub summed : {N : ℕ} → N ≡ disksOf r → (1 ≤ room) × (q .stripe < r .stripes) × (N * (r .stripes * room) ≤ len)
   summed e = rw (e, x .whole, x .long) (x .limits .block-low, x .stripe-lt, omega arith)
-
-  pub parity-asked : {g : Geometry} → g ≡ geometry r → Good g × (q .stripe < g .stripes)
-  parity-asked e = subst (λ (y : Geometry). Good y × (q .stripe < y .stripes)) (sym e) (x .limits .array, x .stripe-lt)
 
   -- what is seen there, by whether its disk is absent
   pub block-out : (img : List ℕ) → absent (r .health) (q .stripe) (q .disk) ≡ true → othersIn r img (q .stripe) (q .disk) ≡ blockOf r img b

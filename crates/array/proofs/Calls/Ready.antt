@@ -5,7 +5,7 @@ use mathlib.Core.Bool.{not}
 use mathlib.Core.List.{List, [], _∷_}
 use borrow.Author.Tests.{not-false}
 use Rattle.state.specs.declared.Record.{Record}
-use Rattle.state.specs.Good.{good, Limits}
+use Rattle.state.specs.Good.{good, GoodRecord}
 use Rattle.state.proofs.Laws.Good.{limits}
 use Rattle.calls.specs.Images.{size}
 use Rattle.calls.specs.Table.{Row, badRecord, lost, degraded, images, word, kept, keptWhole, keptLent}
@@ -13,14 +13,14 @@ use Rattle.calls.proofs.Laws.Table.{passes}
 
 -- k is the number of these rows
 module _ (r : Record) {k : ℕ} where
-  ready : (rows : List Row) → k ≡ word (badRecord (not (good r)) ∷ rows) → k ≡ 0 → Limits r
+  ready : (rows : List Row) → k ≡ word (badRecord (not (good r)) ∷ rows) → k ≡ 0 → GoodRecord r
   ready rows e z = limits r (not-false _ (passes (not (good r)) 0 (word rows) (sym e ∙ z) .0))
 
-  pub ready-kept : k ≡ word (kept r) → k ≡ 0 → Limits r
+  pub ready-kept : k ≡ word (kept r) → k ≡ 0 → GoodRecord r
   ready-kept e z = ready (lost r ∷ []) e z
 
-  pub ready-whole : k ≡ word (keptWhole r) → k ≡ 0 → Limits r
+  pub ready-whole : k ≡ word (keptWhole r) → k ≡ 0 → GoodRecord r
   ready-whole e z = ready (lost r ∷ degraded r ∷ []) e z
 
-  pub ready-lent : (len : ℕ) → k ≡ word (keptLent r len) → k ≡ 0 → Limits r
+  pub ready-lent : (len : ℕ) → k ≡ word (keptLent r len) → k ≡ 0 → GoodRecord r
   ready-lent len e z = ready (lost r ∷ images (size r) len ∷ []) e z

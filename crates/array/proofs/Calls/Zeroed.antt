@@ -8,7 +8,7 @@ use lib.ListN.{length}
 use Rattle.blocks.specs.Block.{store, zeros}
 use Rattle.layout.specs.Layout.{capacity}
 use Rattle.state.specs.declared.Record.{Record}
-use Rattle.state.specs.Good.{geometry, Limits}
+use Rattle.state.specs.Good.{geometry, GoodRecord}
 use Rattle.state.specs.Update.{formatted, grownBy}
 use Rattle.state.proofs.Laws.Good.{new-good}
 use Rattle.calls.specs.Call.{format, grow, feed, on, done}
@@ -48,7 +48,7 @@ module _ (img : List ℕ) (r : Record) where
   pub grow-sizes : (m : ℕ) → refusalOf r (feed (grow m) (length img) 0) ≡ 0 → Sizes r (length img) m
   grow-sizes m z =
       let p : Grows r (length img) m = grow-passed m z in
-      let l : Limits r = in-limits r (capacity (geometry r)) (feed (grow m) (length img) 0) refl z in
+      let l : GoodRecord r = in-limits r (capacity (geometry r)) (feed (grow m) (length img) 0) refl z in
       let b : Bounded (r .old) (r .stripes) (r .block) = bounded (r .old) (r .stripes) (r .block) (omega (arith, l .array .disks .n-high)) (l .array .stripes-high) (l .block-high) in
       record { small = new-good _ _ _ (p .fits) .1; sizes = b; within = omega (arith, p .long) }
 

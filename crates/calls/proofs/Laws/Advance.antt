@@ -10,7 +10,7 @@ use lib.ListN.{length, getD, length-map, length-replicate}
 use lib.Seq.{ext-getD}
 use Rattle.layout.specs.declared.Geometry.{Geometry}
 use Rattle.layout.specs.Layout.{capacity, disks, totalOf, oldBlocks, openStripes, layout, nextStripe, nextFrom, nextTo, after}
-use Rattle.layout.specs.Limits.{Good}
+use Rattle.layout.specs.Limits.{GoodArray}
 use Rattle.layout.proofs.Laws.Layout.{lawful}
 use Rattle.layout.proofs.Laws.Numbers.{capacity-before, open-none}
 use Rattle.layout.proofs.Laws.Standing.{standing, Carries, carries, unopened, parity-standing, standing-parity}
@@ -43,7 +43,7 @@ moved r = withMoves r (suc (r .moves))
 abbrev pub advanced : ℕ → Record → Record
 advanced k r = withMoves r (r .moves + min k (totalOf (geometry r) - r .moves))
 
-pub good-moved : (r : Record) → Good (geometry r) → idle (geometry r) ≡ false → Good (geometry (moved r))
+pub good-moved : (r : Record) → GoodArray (geometry r) → idle (geometry r) ≡ false → GoodArray (geometry (moved r))
 good-moved r good busy =
     record {
       disks = good .disks;
@@ -58,11 +58,11 @@ good-moved r good busy =
 module _ (P : Record → List ℕ → Type 0) where
   pub record Carried (k : ℕ) (r : Record) (ps : List Store) (img : List ℕ) : Type 0 where
     pub state : recorded ps r ≡ advanced k r
-    pub good : Good (geometry (recorded ps r))
+    pub good : GoodArray (geometry (recorded ps r))
     pub kept : P (recorded ps r) (stored (r .block) (r .stripes) ps img)
 
-  pub carried : ((r : Record) (img : List ℕ) → Good (geometry r) → idle (geometry r) ≡ false → P r img → P (moved r) (stored (r .block) (r .stripes) (moveStores r img) img))
-      → (k : ℕ) (r : Record) (img : List ℕ) → Good (geometry r) → r .new ≢ 0 → P r img → Carried k r (advanceStores k r img) img
+  pub carried : ((r : Record) (img : List ℕ) → GoodArray (geometry r) → idle (geometry r) ≡ false → P r img → P (moved r) (stored (r .block) (r .stripes) (moveStores r img) img))
+      → (k : ℕ) (r : Record) (img : List ℕ) → GoodArray (geometry r) → r .new ≢ 0 → P r img → Carried k r (advanceStores k r img) img
   unfolding advanceStores stored recorded moveStores
   carried step zero r img gd nz p =
       record { state = ap {B = Record} (λ (x : ℕ). withMoves r x) (let e : r .moves ≡ r .moves + min 0 (totalOf (geometry r) - r .moves) = omega arith in e); good = gd; kept = p }
@@ -84,7 +84,7 @@ module _ (P : Record → List ℕ → Type 0) where
           let hs : recorded (moveStores r img ++ qs) r ≡ recorded qs (moved r) = recorded-append (moveStores r img) qs r in
           record {
             state = hs ∙ ih .state ∙ ap {B = Record} (λ (x : ℕ). withMoves r x) z;
-            good = subst (λ (x : Record). Good (geometry x)) (sym hs) (ih .good);
+            good = subst (λ (x : Record). GoodArray (geometry x)) (sym hs) (ih .good);
             kept = rw (hs, stored-append (r .block) (r .stripes) (moveStores r img) qs img) (ih .kept);
           }
       go true q f =
@@ -129,7 +129,7 @@ advance-split (suc i) k r img = ap (λ (x : ℕ). advanceStores x r img) (suc-ad
 
 -- ---- one move
 
-module _ (r : Record) (img : List ℕ) (good : Good (geometry r)) (busy : idle (geometry r) ≡ false) (long : length img ≡ size r) where
+module _ (r : Record) (img : List ℕ) (good : GoodArray (geometry r)) (busy : idle (geometry r) ≡ false) (long : length img ≡ size r) where
   abbrev g : Geometry
   g = geometry r
 
@@ -162,7 +162,7 @@ module _ (r : Record) (img : List ℕ) (good : Good (geometry r)) (busy : idle (
   parity-move S lS =
       let p : ℕ = layout g .parity S in
       let p′ : ℕ = layout (after g) .parity S in
-      let good′ : Good (after g) = good-moved r good busy in
+      let good′ : GoodArray (after g) = good-moved r good busy in
       let lp : p < disksOf r = lawful g good .parity-lt S lS in
       let lp′ : p′ < disksOf r = lawful (after g) good′ .parity-lt S lS in
       let len : length (placeIn r img S p) ≡ r .block = length-place (r .block) (r .stripes) img S p (disksOf r) lS lp (rw long (omega arith)) in
@@ -181,7 +181,7 @@ unfoldable Standing : List (List ℕ) → Record → List ℕ → Type 0
 Standing bs r img =
     (length img ≡ size r) × ((j : ℕ) → j < r .block → Stored (disksOf r) (r .stripes) (standing (geometry r)) (λ S d. false) (cellIn r img j) (bytesAt j bs))
 
-standing-move : (bs : List (List ℕ)) (r : Record) (img : List ℕ) → Good (geometry r) → idle (geometry r) ≡ false → Standing bs r img
+standing-move : (bs : List (List ℕ)) (r : Record) (img : List ℕ) → GoodArray (geometry r) → idle (geometry r) ≡ false → Standing bs r img
     → Standing bs (moved r) (stored (r .block) (r .stripes) (moveStores r img) img)
 unfolding Standing Agree
 standing-move bs r img good busy p =
@@ -199,7 +199,7 @@ standing-move bs r img good busy p =
 unfoldable Parities : (ℕ → List ℕ) → Record → List ℕ → Type 0
 Parities f r img = (length img ≡ size r) × ((S : ℕ) → S < r .stripes → placeIn r img S (layout (geometry r) .parity S) ≡ f S)
 
-pub parity-kept : (k : ℕ) (r : Record) (img : List ℕ) → Good (geometry r) → r .new ≢ 0 → length img ≡ size r → (S : ℕ) → S < r .stripes
+pub parity-kept : (k : ℕ) (r : Record) (img : List ℕ) → GoodArray (geometry r) → r .new ≢ 0 → length img ≡ size r → (S : ℕ) → S < r .stripes
     → parityAfter k r img S ≡ placeIn r img S (layout (geometry r) .parity S)
 unfolding Parities parityAfter
 parity-kept k r img good nz long S lS =
@@ -244,7 +244,7 @@ module _ (r : Record) (img room : List ℕ) (bs : List (List ℕ)) (lends : leng
       let r′ : Record = advanced k r in
       let J : List ℕ = stored (r .block) (r .stripes) (advanceStores k r img) img in
       let p : Standing bs r′ J = subst (λ (x : Record). Standing bs x J) (c .state) (c .kept) in
-      let good : Good (geometry r′) = subst (λ (x : Record). Good (geometry x)) (c .state) (c .good) in
+      let good : GoodArray (geometry r′) = subst (λ (x : Record). GoodArray (geometry x)) (c .state) (c .good) in
       record {
         answer = ap made (ap (λ (x : Record). x .moves - r .moves) (c .state) ∙ omega arith);
         state = c .state;

@@ -14,7 +14,7 @@ use Rattle.blocks.proofs.Laws.Grid.{Grid}
 use Rattle.blocks.proofs.Laws.Rows.{sum-zero}
 use Rattle.blocks.proofs.Laws.Xor.{getD-zeros}
 use Rattle.state.specs.declared.Record.{Record}
-use Rattle.state.specs.Good.{geometry, oldGood, blockGood, stripesGood, Limits}
+use Rattle.state.specs.Good.{geometry, oldGood, blockGood, stripesGood, GoodRecord}
 use Rattle.state.specs.Update.{formatted}
 use Rattle.state.proofs.Laws.Good.{within-true}
 use Rattle.conditions.proofs.Tests.{both}
@@ -47,7 +47,7 @@ module _ (n B T : ℕ) where
   abbrev r : Record
   r = formatted n B T
 
-  pub limits : formable n B T ≡ true → Limits r
+  pub limits : formable n B T ≡ true → GoodRecord r
   unfolding formable
   limits f =
       let (fn, f₁) = both (oldGood n) (blockGood B && stripesGood T) f in

@@ -12,7 +12,7 @@ use Rattle.layout.specs.declared.Geometry.{Geometry}
 use Rattle.layout.specs.declared.Role.the-variants.{Blank}
 use Rattle.layout.specs.declared.Role.{Role}
 use Rattle.layout.specs.Layout.{totalOf, oldBlocks, openStripes, capacity, layout}
-use Rattle.layout.specs.Limits.{Good}
+use Rattle.layout.specs.Limits.{GoodArray}
 use Rattle.layout.proofs.Laws.Standing.{standing, starts, starts-owned, starts-blank}
 use Rattle.layout.proofs.Laws.Zones.{total-none}
 use Rattle.blocks.proofs.Laws.Grid.{Grid}
@@ -73,7 +73,7 @@ module _ (r : Record) (left img room : List ℕ) (bs : List (List ℕ)) (h : Hol
   abbrev g′ : Geometry
   g′ = geometry (grownBy r m)
 
-  good′ : newGood (r .old) m (r .stripes) ≡ true → Good g′
+  good′ : newGood (r .old) m (r .stripes) ≡ true → GoodArray g′
   good′ e =
       let (lo, hi, whole) = new-good (r .old) m (r .stripes) e in
       record {
@@ -102,7 +102,7 @@ module _ (r : Record) (left img room : List ℕ) (bs : List (List ℕ)) (h : Hol
       let tz : r .moves ≡ 0 = none-done mz in
       let long : length img ≡ sizeWith r m = q .long in
       let N-is : disksOf r ≡ r .old = omega arith in
-      let good : Good g′ = good′ (q .fits) in
+      let good : GoodArray g′ = good′ (q .fits) in
       let x : Record = grownBy r m in
       let ps : List Store = zeroDisks (r .block) (r .stripes) (r .old) m in
       let w : Within (r .old + m) (r .block) (r .stripes) ps = within-zero (r .block) (r .stripes) (r .old) (r .old + m) m (omega arith) in

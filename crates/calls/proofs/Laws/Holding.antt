@@ -15,7 +15,7 @@ use Rattle.blocks.proofs.Laws.Stripe.{cell, length-place, getD-place, length-ot
 use Rattle.state.specs.declared.Health.the-variants.{Whole, Out, Lost}
 use Rattle.state.specs.declared.Health.{Health}
 use Rattle.state.specs.declared.Record.{Record}
-use Rattle.state.specs.Good.{geometry, Limits}
+use Rattle.state.specs.Good.{geometry, GoodRecord}
 use Rattle.calls.specs.Call.{Answer}
 use Rattle.calls.specs.Health.{isLost, absent}
 use Rattle.calls.specs.Images.{disksOf, size, placeIn, othersIn, seen}
@@ -31,7 +31,7 @@ cellIn r img j = cell (r .block) (r .stripes) img j
 
 -- the images of r hold the blocks bs: unless lost, for each byte there is a grid of sound stripes, with the blocks where the layout has them and zeroes on the blanks, that the images are but for the disk that is out
 pub record Holding (r : Record) (img : List ℕ) (bs : List (List ℕ)) : Type 0 where
-  pub limits : Limits r
+  pub limits : GoodRecord r
   pub long : length img ≡ size r
   pub count : length bs ≡ capacity (geometry r)
   pub whole : (b : ℕ) → b < length bs → length (getD bs b []) ≡ r .block

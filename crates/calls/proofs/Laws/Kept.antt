@@ -8,7 +8,7 @@ use native.Mathlib.Decide.{ℕ-discrete}
 use native.Mathlib.Omega.{arith}
 use lib.ListN.{length}
 use lib.Seq.{ext-getD}
-use Rattle.layout.specs.Limits.{Good}
+use Rattle.layout.specs.Limits.{GoodArray}
 use Rattle.blocks.specs.Stripe.{place}
 use Rattle.blocks.proofs.Laws.Grid.{Grid, storeAt, storeAt-row, storeAt-far}
 use Rattle.blocks.proofs.Laws.Stripe.{cell, place-in, length-place, getD-place}
@@ -61,7 +61,7 @@ module _ (a : Mask) (I : Grid) (S d v : ℕ) (s e : ℕ) where
 
 -- ---- the moves of an advance, each on what the ones before left
 
-pub within-advance : (k : ℕ) (r : Record) (img : List ℕ) → Good (geometry r) → length img ≡ size r → Within (disksOf r) (r .block) (r .stripes) (advanceStores k r img)
+pub within-advance : (k : ℕ) (r : Record) (img : List ℕ) → GoodArray (geometry r) → length img ≡ size r → Within (disksOf r) (r .block) (r .stripes) (advanceStores k r img)
 unfolding advanceStores stored recorded moveStores Within
 within-advance zero r img good long = tt
 within-advance (suc k) r img good long = go (idle (geometry r)) refl (λ q. within-advance k (moved r) J (good-moved r good q) (long-move r img good q long))

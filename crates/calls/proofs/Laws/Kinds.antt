@@ -12,7 +12,7 @@ use Rattle.blocks.proofs.Laws.Stripe.{length-others}
 use Rattle.state.specs.declared.Health.the-variants.{Whole}
 use Rattle.state.specs.declared.Health.{Health}
 use Rattle.state.specs.declared.Record.{Record}
-use Rattle.state.specs.Good.{geometry, OutBelow, Limits}
+use Rattle.state.specs.Good.{geometry, OutBelow, GoodRecord}
 use Rattle.calls.specs.Call.{Call, format, read, view, write, grow, advance, out, rebuild, status, locate, owner}
 use Rattle.calls.specs.Call.{Event, Fed, feed, Answer, accepted, number, done}
 use Rattle.state.specs.Update.{formatted, grownBy, withHealth}
@@ -52,7 +52,7 @@ module _ (r : Record) (e : Event) where
   abbrev pub Passed : Call → Type 0
   Passed c = refusalOf r (feed c (length (e .images)) (length (e .room))) ≡ 0
 
-  pub bounds : (c : Call) → looks c ≡ true → Passed c → Limits r
+  pub bounds : (c : Call) → looks c ≡ true → Passed c → GoodRecord r
   bounds c l z = in-limits r cap (asked c) l z
 
   pub formatting : (n B T : ℕ) → Passed (format n B T) → Formats n B T (length img)

@@ -10,7 +10,7 @@ use Rattle.layout.specs.declared.Geometry.{Geometry}
 use Rattle.layout.specs.declared.Role.the-variants.{Data, Parity, Blank}
 use Rattle.layout.specs.declared.Role.{Role}
 use Rattle.layout.specs.Layout.{disks, oldBlocks, capacity, layout}
-use Rattle.layout.specs.Limits.{Good}
+use Rattle.layout.specs.Limits.{GoodArray}
 use Rattle.layout.proofs.Laws.Standing.Opened.{kept, new}
 use Rattle.layout.proofs.Laws.Standing.{standing, Opened, opened, standing-old}
 use Rattle.blocks.specs.Block.{zeros}
@@ -77,7 +77,7 @@ fits-opened bs old c e {o = Blank} x kept h f = f
 fits-opened bs old c e x (new b l) h f = f ∙ sym (zero-behind bs c b (rw e l))
 
 -- new blocks, however many, stand on blanks, and are zero
-pub stored-with-new : (g : Geometry) → Good g → (a : Mask) (I : Grid) (bs : List ℕ) (c : ℕ) → length bs ≡ oldBlocks g → Stored (disks g) (g .stripes) (standing g) a I bs
+pub stored-with-new : (g : Geometry) → GoodArray g → (a : Mask) (I : Grid) (bs : List ℕ) (c : ℕ) → length bs ≡ oldBlocks g → Stored (disks g) (g .stripes) (standing g) a I bs
     → Stored (disks g) (g .stripes) (layout g .owner) a I (bs ++ zeros c)
 stored-with-new g good a I bs c e s =
     reowned (disks g) (g .stripes) (standing g) (layout g .owner) a I bs (bs ++ zeros c) s

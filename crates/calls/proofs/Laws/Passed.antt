@@ -11,7 +11,7 @@ use Rattle.state.specs.declared.Health.the-variants.{Whole, Out, Lost}
 use Rattle.state.specs.declared.Health.{Health}
 use Rattle.state.specs.declared.Record.{Record}
 use Rattle.layout.specs.Layout.{capacity}
-use Rattle.state.specs.Good.{geometry, newGood, good, Limits}
+use Rattle.state.specs.Good.{geometry, newGood, good, GoodRecord}
 use Rattle.state.specs.Bytes.{recordLength, decode, goodBytes}
 use Rattle.state.proofs.Laws.Good.{limits}
 use Rattle.calls.specs.Call.{Call, Fed, format, read, view, write, grow, advance, out, rebuild, locate, owner}
@@ -92,7 +92,7 @@ was-good r c e l z =
     let p = passes (cond (looks (e .call)) (false || not (good r)) false) 0 (word (laterRows (e .call) r c (e .images) (e .room))) z .0 in
     not-false _ (rw l at p)
 
-pub in-limits : (r : Record) (c : ℕ) (e : Fed) → looks (e .call) ≡ true → refusal r c e ≡ 0 → Limits r
+pub in-limits : (r : Record) (c : ℕ) (e : Fed) → looks (e .call) ≡ true → refusal r c e ≡ 0 → GoodRecord r
 in-limits r c e l z = limits r (was-good r c e l z)
 
 -- ---- the rows behind it

@@ -11,7 +11,7 @@ use borrow.Author.Tests.{eqb-true, eqb-false, eq-eqb}
 use Rattle.conditions.proofs.Tests.{neither}
 use Rattle.layout.specs.declared.Geometry.{Geometry}
 use Rattle.layout.specs.Layout.{totalOf}
-use Rattle.layout.specs.Limits.{Good}
+use Rattle.layout.specs.Limits.{GoodArray}
 use lib.ListN.{length}
 use Rattle.state.specs.declared.Health.the-variants.{Lost}
 use Rattle.state.specs.declared.Record.{Record}
@@ -150,7 +150,7 @@ module _ (g : Geometry) where
   unfolding idle
   some-new e = eqb-false (g .new) 0 (neither (eqb (g .new) 0) (eqb (g .moves) (totalOf g)) e .0)
 
-  pub some-left : Good g → idle g ≡ false → g .moves < totalOf g
+  pub some-left : GoodArray g → idle g ≡ false → g .moves < totalOf g
   unfolding idle
   some-left good e =
       let ne : g .moves ≢ totalOf g = eqb-false (g .moves) (totalOf g) (neither (eqb (g .new) 0) (eqb (g .moves) (totalOf g)) e .1) in

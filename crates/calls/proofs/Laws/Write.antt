@@ -12,14 +12,14 @@ use Rattle.layout.specs.declared.Geometry.{Geometry}
 use Rattle.layout.specs.declared.Place.{Place}
 use Rattle.layout.specs.declared.Role.the-variants.{Data, Parity}
 use Rattle.layout.specs.Layout.{disks, capacity, layout}
-use Rattle.layout.specs.Limits.{Good}
+use Rattle.layout.specs.Limits.{GoodArray}
 use Rattle.layout.proofs.Theorem.{demand2}
 use Rattle.blocks.specs.Xor.{xorB}
 use Rattle.blocks.proofs.Laws.Grid.{Grid, storeAt, storeAt-same, storeAt-row, storeAt-far}
 use Rattle.blocks.proofs.Laws.Rows.{_⊕_, cancel-l}
 use Rattle.blocks.proofs.Laws.Xor.{xor-assoc, length-xorB, getD-xorB}
 use Rattle.state.specs.declared.Record.{Record}
-use Rattle.state.specs.Good.{geometry, Limits}
+use Rattle.state.specs.Good.{geometry, GoodRecord}
 use Rattle.calls.specs.Call.{write, done}
 use Rattle.calls.specs.Health.{isLost, absent}
 use Rattle.calls.specs.Images.{disksOf, size, seen, Store, block, stored, recorded, unless}
@@ -32,7 +32,7 @@ use Rattle.calls.proofs.Laws.Passed as passed
 
 -- ---- on one byte of every place, whatever the mask
 
-module _ (g : Geometry) (good : Good g) (b : ℕ) (lb : b < capacity g) where
+module _ (g : Geometry) (good : GoodArray g) (b : ℕ) (lb : b < capacity g) where
   abbrev S : ℕ
   S = layout g .place b .stripe
 
@@ -112,7 +112,7 @@ map-set f [] i y = refl
 map-set f (x ∷ xs) zero y = refl
 map-set f (x ∷ xs) (suc i) y = ap (λ r. f x ∷ r) (map-set f xs i y)
 
-module _ (r : Record) (img : List ℕ) (limits : Limits r) (long : length img ≡ size r) (b : ℕ) (lb : b < capacity (geometry r)) (v : List ℕ) (lv : length v ≡ r .block) where
+module _ (r : Record) (img : List ℕ) (limits : GoodRecord r) (long : length img ≡ size r) (b : ℕ) (lb : b < capacity (geometry r)) (v : List ℕ) (lv : length v ≡ r .block) where
   abbrev Sb : ℕ
   Sb = placeOf r b .stripe
 

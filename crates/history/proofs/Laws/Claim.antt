@@ -7,7 +7,7 @@ use mathlib.Core.List.{List, [], _∷_}
 use native.Mathlib.Omega.{arith}
 use lib.ListN.{length, getD}
 use Rattle.layout.specs.Layout.{totalOf, capacity, layout}
-use Rattle.layout.specs.Limits.{Good}
+use Rattle.layout.specs.Limits.{GoodArray}
 use Rattle.state.specs.declared.Record.{Record}
 use Rattle.state.specs.Good.{geometry}
 use Rattle.state.specs.Bytes.{decode, encode}
@@ -76,7 +76,7 @@ module _ (e : Event) (a : Cabinet (List ℕ)) where
       go zero v = refl
       go (suc n) v = absurd (let w : _≡_ {A = ℕ} 0 1 = cc in omega arith)
 
-  parities : Good (geometry (decode (a .rec))) → (k i S : ℕ) → e .call ≡ advance k → accepted (leaves asBytes e a .answer) ≡ true → S < decode (a .rec) .stripes
+  parities : GoodArray (geometry (decode (a .rec))) → (k i S : ℕ) → e .call ≡ advance k → accepted (leaves asBytes e a .answer) ≡ true → S < decode (a .rec) .stripes
       → parityAfter (suc i) (decode (a .rec)) (e .images) S ≡ parityAfter i (decode (a .rec)) (e .images) S
   parities gd k i S q u lS =
       let r : Record = decode (a .rec) in
@@ -138,7 +138,7 @@ holds-next e a y s = record { fields = s .fields; holding = s .holding }
 counted-next : (e : Event) (a : Cabinet (List ℕ)) (f : Flat) (sum : ℕ) → Counted f sum → Alike e a (flatStep (fed e) f) → Counted (flatStep (fed e) f .1) (tally (e .call) (leaves asBytes e a .answer) sum)
 counted-next e a f sum h s = rw (s .answer) (counted-step (fed e) f sum h)
 
-good-bytes : (b : List ℕ) (r : Record) → b ≡ encode r → Good (geometry r) → Good (geometry (decode b))
+good-bytes : (b : List ℕ) (r : Record) → b ≡ encode r → GoodArray (geometry r) → GoodArray (geometry (decode b))
 good-bytes b r p g = rw (read-back b r p) g
 
 claims : (es : List Event) (a : Cabinet (List ℕ)) (f : Flat) (sum : ℕ) → Holds a f → Counted f sum → Claims asBytes es a f sum

@@ -8,7 +8,7 @@ use Rattle.layout.specs.declared.Stripe.{Stripe}
 use Rattle.layout.specs.Moves.{total}
 use Rattle.layout.specs.Closed.{lag}
 use Rattle.layout.specs.Layout.{totalOf}
-use Rattle.layout.specs.Limits.{Disks, Sizes, TakenApart, Good, Sized}
+use Rattle.layout.specs.Limits.{Disks, Sizes, TakenApart, GoodArray, Sized}
 use Rattle.layout.proofs.Laws.Basics.{times}
 use Rattle.layout.proofs.Laws.Lag.{lag-lt}
 
@@ -72,11 +72,11 @@ by-moves : (g : Geometry) → Disks (g .old) (g .new) → g .stripes ≤ 1048576
 by-moves g w h = times 16777216 16 (by-old g w h) (w .m-high)
 
 -- no array has more moves
-pub total-high : (g : Geometry) → Good g → totalOf g ≤ 268435456
+pub total-high : (g : Geometry) → GoodArray g → totalOf g ≤ 268435456
 unfolding total
 total-high g w = omega (arith, div-le-self (g .stripes * g .old * g .new) (g .old + g .new), by-moves g (w .disks) (w .stripes-high))
 
-pub sized : (g : Geometry) → Good g → Sized g
+pub sized : (g : Geometry) → GoodArray g → Sized g
 sized g w = record {
   disks = w .disks;
   stripes-high = w .stripes-high;
@@ -102,12 +102,12 @@ pub record Products (g : Geometry) : Type 0 where
   pub by-moves : g .stripes * g .old * g .new ≤ 268435456
   pub by-data : g .stripes * (g .old - 1) ≤ 16777216
 
-pub products : (g : Geometry) → Good g → Products g
+pub products : (g : Geometry) → GoodArray g → Products g
 products g w = record {
   by-moves = by-moves g (w .disks) (w .stripes-high);
   by-data = times {b = g .old - 1} 1048576 16 (w .stripes-high) (omega (arith, w .disks .n-high));
 }
 
 -- a stripe of an array
-pub sizes-of : (g : Geometry) → Good g → (S : ℕ) → S < g .stripes → Sizes (g .old) (g .new) S
+pub sizes-of : (g : Geometry) → GoodArray g → (S : ℕ) → S < g .stripes → Sizes (g .old) (g .new) S
 sizes-of g w S l = record { disks = w .disks; stripe = omega (arith, w .stripes-high) }

@@ -13,7 +13,7 @@ use Rattle.layout.specs.declared.Found.{Found}
 use Rattle.layout.specs.declared.Geometry.{Geometry}
 use Rattle.layout.specs.declared.Place.{Place}
 use Rattle.layout.specs.declared.Role.{Role}
-use Rattle.layout.specs.declared.Seat.{Seat}
+use Rattle.layout.specs.declared.Slot.{Slot}
 use Rattle.layout.specs.declared.Stripe.{Stripe}
 use Rattle.layout.specs.Home.{placeAt, homeStripe, homeDisk}
 use Rattle.layout.specs.Closed.{stripeOf, diskAt, source, taken}
@@ -21,9 +21,9 @@ use Rattle.layout.specs.Blanks.{blanksBelow, blanks, newStripe, newDisk,
 use Rattle.layout.specs.Runs.{settled}
 use Rattle.layout.specs.Layout.{disks, oldBlocks, openStripes, capacity, home, layout, found}
 use Rattle.layout.specs.Layout.{carried, newPlace, grownPlace, grownParity, newOwner, grownOwner}
-use Rattle.layout.specs.Seats.{seatOf, seatDisk, Seated}
+use Rattle.layout.specs.Slots.{slotOf, slotDisk, InSlot}
 use Rattle.layout.specs.Coded.{code, roleOf}
-use Rattle.layout.specs.Limits.{Good, TakenApart}
+use Rattle.layout.specs.Limits.{GoodArray, TakenApart}
 use Rattle.layout.proofs.Laws.Basics.{times, le-or-lt}
 use Rattle.layout.proofs.Laws.Closed.{disk-stays}
 use Rattle.layout.proofs.Laws.Source.{says-taken}
@@ -44,13 +44,13 @@ module _ (g : Geometry) (b : ℕ) (f : Found) (e : f ≡ found g b) where
   pub found-parity : f .parity ≡ layout g .parity (f .place .stripe)
   found-parity = ap (λ (x : Found). x .parity) e ∙ sym (ap (λ (x : Found). layout g .parity (x .place .stripe)) e)
 
--- y is a seat in the array, and gives the place of block b
-record Fit (g : Geometry) (b : ℕ) (y : Seat) : Type 0 where
+-- y is a slot in the array, and gives the place of block b
+record Fit (g : Geometry) (b : ℕ) (y : Slot) : Type 0 where
   stripe-lt : y .stripe < g .stripes
-  seated : Seated g y
-  place : placeAt (y .stripe) (seatDisk g (y .stripe) y) ≡ layout g .place b
+  sloted : InSlot g y
+  place : placeAt (y .stripe) (slotDisk g (y .stripe) y) ≡ layout g .place b
 
-module _ (g : Geometry) (good : Good g) where
+module _ (g : Geometry) (good : GoodArray g) where
   pn : 2 ≤ g .old
   pn = omega (arith, good .disks .n-low)
 
@@ -105,75 +105,75 @@ module _ (g : Geometry) (good : Good g) where
           ap (λ d. record { place = p; parity = d }) (stays-there (p .stripe) (p .stripe % g .old))
           ∙ ap (λ (q : Place). record { place = q; parity = layout g .parity (q .stripe) }) (home-place l p ep)
 
-    -- its seat
-    old-seat : b < oldBlocks g → seatOf g b ≡ record { stripe = homeStripe (g .old) b; nth = homeDisk (g .old) b; new = false }
-    unfolding seatOf
-    old-seat l = simp (lt-ltb _ _ l)
+    -- its slot
+    old-slot : b < oldBlocks g → slotOf g b ≡ record { stripe = homeStripe (g .old) b; nth = homeDisk (g .old) b; new = false }
+    unfolding slotOf
+    old-slot l = simp (lt-ltb _ _ l)
 
-    new-seat : oldBlocks g ≤ b → let k = b - oldBlocks g in seatOf g b ≡ record { stripe = newStripe (g .new) k; nth = k % g .new; new = true }
-    unfolding seatOf
-    new-seat l = simp (le-ltb b (oldBlocks g) l)
+    new-slot : oldBlocks g ≤ b → let k = b - oldBlocks g in slotOf g b ≡ record { stripe = newStripe (g .new) k; nth = k % g .new; new = true }
+    unfolding slotOf
+    new-slot l = simp (le-ltb b (oldBlocks g) l)
 
     module _ (old : ℕ) (e : old ≡ oldBlocks g) where
-      pub seat-old : b < old → (p : Place) → p ≡ home g .place b → record { stripe = p .stripe; nth = p .disk; new = false } ≡ seatOf g b
-      seat-old l p ep = ap (λ (q : Place). record { stripe = q .stripe; nth = q .disk; new = false }) ep ∙ sym (old-seat (omega arith))
+      pub slot-old : b < old → (p : Place) → p ≡ home g .place b → record { stripe = p .stripe; nth = p .disk; new = false } ≡ slotOf g b
+      slot-old l p ep = ap (λ (q : Place). record { stripe = q .stripe; nth = q .disk; new = false }) ep ∙ sym (old-slot (omega arith))
 
-      pub seat-new : old ≤ b → record { stripe = (b - old) / g .new; nth = (b - old) % g .new; new = true } ≡ seatOf g b
+      pub slot-new : old ≤ b → record { stripe = (b - old) / g .new; nth = (b - old) % g .new; new = true } ≡ slotOf g b
       unfolding newStripe
-      seat-new l = ap (λ x. record { stripe = (b - x) / g .new; nth = (b - x) % g .new; new = true }) e ∙ sym (new-seat (omega arith))
+      slot-new l = ap (λ x. record { stripe = (b - x) / g .new; nth = (b - x) % g .new; new = true }) e ∙ sym (new-slot (omega arith))
 
-      pub seat-divides : old ≤ b → b < capacity g → 0 < g .new
-      seat-divides l h = positive (openStripes g) (g .new) (b - oldBlocks g) (new-in (omega arith) h)
+      pub slot-divides : old ≤ b → b < capacity g → 0 < g .new
+      slot-divides l h = positive (openStripes g) (g .new) (b - oldBlocks g) (new-in (omega arith) h)
 
     module _ (h : b < capacity g) where
-      fit-old : b < oldBlocks g → Fit g b (seatOf g b)
-      unfolding seatDisk
+      fit-old : b < oldBlocks g → Fit g b (slotOf g b)
+      unfolding slotDisk
       fit-old l =
-          rw (old-seat l)
+          rw (old-slot l)
           (record {
             stripe-lt = home-full .lawful .stripe-lt b l;
-            seated = record { old = λ z. home-full .lawful .disk-lt b l; new = λ z. absurd (false≢true z) };
+            sloted = record { old = λ z. home-full .lawful .disk-lt b l; new = λ z. absurd (false≢true z) };
             place = old-place l;
           })
 
-      fit-new : oldBlocks g ≤ b → Fit g b (seatOf g b)
-      unfolding seatDisk newStripe newDisk
+      fit-new : oldBlocks g ≤ b → Fit g b (slotOf g b)
+      unfolding slotDisk newStripe newDisk
       fit-new l =
           let k : ℕ = b - oldBlocks g in
           let r = new-room k (new-in l h) in
-          rw (new-seat l)
+          rw (new-slot l)
           (record {
             stripe-lt = r .1;
-            seated = record { old = λ z. absurd (false≢true (sym z)); new = λ z. mod-lt k (r .0) };
+            sloted = record { old = λ z. absurd (false≢true (sym z)); new = λ z. mod-lt k (r .0) };
             place = ap (λ x. placeAt (k / g .new) (getD x (k % g .new) 0)) (open-blanks (k / g .new) (r .2)) ∙ new-place l;
           })
 
-      fit : Fit g b (seatOf g b)
+      fit : Fit g b (slotOf g b)
       fit = elim (le-or-lt (oldBlocks g) b) [ inl l ↦ fit-new l | inr l ↦ fit-old l ]
 
-      -- y is that seat, x its stripe taken apart
-      module _ (y : Seat) (ey : y ≡ seatOf g b) where
+      -- y is that slot, x its stripe taken apart
+      module _ (y : Slot) (ey : y ≡ slotOf g b) where
         fits : Fit g b y
         fits = rw ey fit
 
-        pub seat-in : (y .stripe < g .stripes) × Seated g y
-        seat-in = (fits .stripe-lt, fits .seated)
+        pub slot-in : (y .stripe < g .stripes) × InSlot g y
+        slot-in = (fits .stripe-lt, fits .sloted)
 
         module _ (x : Stripe) (ex : x ≡ stripeOf (g .old) (g .new) (y .stripe)) where
-          pub seat-apart : TakenApart (g .old) (g .new) x
-          seat-apart = apart _ _ _ _ (sizes-of g good _ (fits .stripe-lt)) ex
+          pub slot-apart : TakenApart (g .old) (g .new) x
+          slot-apart = apart _ _ _ _ (sizes-of g good _ (fits .stripe-lt)) ex
 
           number-is : x .number ≡ y .stripe
           number-is = ap (λ (z : Stripe). z .number) ex
 
-          pub seat-place : (d : ℕ) → d ≡ seatDisk g (x .number) y → placeAt (y .stripe) d ≡ layout g .place b
-          seat-place d ed = ap (placeAt (y .stripe)) (ed ∙ ap (λ S. seatDisk g S y) number-is) ∙ fits .place
+          pub slot-place : (d : ℕ) → d ≡ slotDisk g (x .number) y → placeAt (y .stripe) d ≡ layout g .place b
+          slot-place d ed = ap (placeAt (y .stripe)) (ed ∙ ap (λ S. slotDisk g S y) number-is) ∙ fits .place
 
-          pub seat-found : (d : ℕ) → d ≡ seatDisk g (x .number) y → (p : ℕ) → p ≡ layout g .parity (x .number) →
+          pub slot-found : (d : ℕ) → d ≡ slotDisk g (x .number) y → (p : ℕ) → p ≡ layout g .parity (x .number) →
               record { place = placeAt (y .stripe) d; parity = p } ≡ found g b
-          seat-found d ed p ep =
+          slot-found d ed p ep =
               ap (λ z. record { place = placeAt (y .stripe) d; parity = z }) (ep ∙ ap (layout g .parity) number-is)
-              ∙ ap (λ (q : Place). record { place = q; parity = layout g .parity (q .stripe) }) (seat-place d ed)
+              ∙ ap (λ (q : Place). record { place = q; parity = layout g .parity (q .stripe) }) (slot-place d ed)
 
   -- ---- and for the owner of place (S, e)
 

@@ -12,7 +12,7 @@ use Rattle.layout.specs.declared.Progress.{Progress}
 use Rattle.layout.specs.Moves.{zoneOf, zones, groups, moveIndex, moveZone, moveStripe}
 use Rattle.layout.specs.Runs.{settled}
 use Rattle.layout.specs.Layout.{totalOf, disks, oldBlocks, openStripes, capacity}
-use Rattle.layout.specs.Limits.{Good, Sized, Measured}
+use Rattle.layout.specs.Limits.{GoodArray, Sized, Measured}
 use Rattle.layout.proofs.Laws.Basics.{le-or-lt, leb-times, eqb-times}
 use Rattle.layout.proofs.Laws.Zones.{zone-in, stripe-in, index-in, zones-all, groups-all, total-zones, total-none, total-times}
 
@@ -56,7 +56,7 @@ module _ (g : Geometry) (p : Progress) (w : Measured g p) where
   pub reached : eqb (p .done) (p .all) ≡ eqb (g .moves) (totalOf g)
   reached = rw (w .done, w .all) (eqb-times (g .moves) (totalOf g) (p .times) (w .times))
 
-module _ (g : Geometry) (good : Good g) where
+module _ (g : Geometry) (good : GoodArray g) where
   pub whole-zones : 0 < g .new → zones (g .old) (g .new) (g .stripes) * disks g ≡ g .stripes
   whole-zones pm = zones-all (g .old) (g .new) (g .stripes) (omega (arith, good .disks .n-low)) (good .groups pm)
 

@@ -10,7 +10,7 @@ use Rattle.layout.specs.declared.Role.{Role}
 use Rattle.layout.specs.Closed.{diskAt, source, taken}
 use Rattle.layout.specs.Blanks.{newBlock}
 use Rattle.layout.specs.Layout.{disks, totalOf, oldBlocks, openStripes, capacity, home, layout, nextStripe, nextFrom, nextTo, after}
-use Rattle.layout.specs.Limits.{Good}
+use Rattle.layout.specs.Limits.{GoodArray}
 use Rattle.layout.proofs.Laws.Basics.{le-or-lt}
 use Rattle.layout.proofs.Laws.Lag.{from-below, to-above, to-below}
 use Rattle.layout.proofs.Laws.Closed.{disk-stays}
@@ -72,7 +72,7 @@ module _ (g : Geometry) where
       go true q = owner-old (home g) g S e q ∙ sym (stood S e q)
       go false q = owner-none (home g) g S e q (omega arith) ∙ sym (none S e q)
 
-module _ (g : Geometry) (good : Good g) where
+module _ (g : Geometry) (good : GoodArray g) where
   pn : 2 ≤ g .old
   pn = omega (arith, good .disks .n-low)
 

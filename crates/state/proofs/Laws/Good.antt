@@ -15,7 +15,7 @@ use Rattle.layout.proofs.Laws.Zones.{total-none}
 use Rattle.state.specs.declared.Health.the-variants.{Whole, Out, Lost}
 use Rattle.state.specs.declared.Health.{Health}
 use Rattle.state.specs.declared.Record.{Record}
-use Rattle.state.specs.Good.{geometry, within, newGood, movesGood, healthGood, good, OutBelow, Limits}
+use Rattle.state.specs.Good.{geometry, within, newGood, movesGood, healthGood, good, OutBelow, GoodRecord}
 use Rattle.conditions.proofs.Tests.{both, and-true}
 
 -- ---- between two bounds
@@ -114,7 +114,7 @@ below-out N Lost o = refl
 
 -- ---- the record
 
-pub limits : (r : Record) → good r ≡ true → Limits r
+pub limits : (r : Record) → good r ≡ true → GoodRecord r
 unfolding good
 limits r e =
     let a = both _ _ e in
@@ -138,7 +138,7 @@ limits r e =
       out = out-below (r .old + r .new) (r .health) (d .1);
     }
 
-pub within-limits : (r : Record) → Limits r → good r ≡ true
+pub within-limits : (r : Record) → GoodRecord r → good r ≡ true
 unfolding good
 within-limits r l =
     let a = l .array in

@@ -7,7 +7,7 @@ use native.Mathlib.Omega.{arith}
 use Rattle.layout.specs.declared.Geometry.{Geometry}
 use Rattle.layout.specs.Layout.{totalOf}
 use Rattle.layout.proofs.Laws.Bounds.{total-high}
-use Rattle.state.specs.Good.{geometry, Limits}
+use Rattle.state.specs.Good.{geometry, GoodRecord}
 use Rattle.calls.specs.Call.{advance, on}
 use Rattle.array.proofs.Calls.Called.{called-refused}
 use Rattle.array.proofs.Calls.Moving.{advance-limits, advance-passed, advance-done}
@@ -25,7 +25,7 @@ returns c =
 geometry-of-requires : tie.Need-geometry-of-requires
 geometry-of-requires c κs = search needs
 
-fits : (c : tie.Else1) → Limits (c .before .before .before .args .r)
+fits : (c : tie.Else1) → GoodRecord (c .before .before .before .args .r)
 fits c = let a = c .before .before .before .args in advance-limits (a .images .now) (a .r) (a .k) (sym (c .before .of-advance .ensures) ∙ c .if1 .left)
 
 total-of-requires : tie.Need-total-of-requires

@@ -3,7 +3,7 @@ use mathlib.Core.Path.{refl, sym, _∙_}
 use mathlib.Core.List.{[]}
 use borrow.Author.Needs.{needs}
 use native.Mathlib.Omega.{arith}
-use Rattle.state.specs.Good.{Limits}
+use Rattle.state.specs.Good.{GoodRecord}
 use Rattle.state.specs.Update.{formatted}
 use Rattle.calls.specs.Call.{format, Event, on}
 use Rattle.calls.proofs.Laws.Format.{limits}
@@ -28,7 +28,7 @@ zero-block-requires : tie.Need-zero-block-requires
 zero-block-requires c κs = search needs
 
 -- the limits that the numbers given are in
-fits : (c : tie.Else1) → let a = c .before .before .before .args in Limits (formatted (a .n) (a .block) (a .stripes))
+fits : (c : tie.Else1) → let a = c .before .before .before .args in GoodRecord (formatted (a .n) (a .block) (a .stripes))
 fits c =
     let a = c .before .before .before .args in
     let r = formatted (a .n) (a .block) (a .stripes) in

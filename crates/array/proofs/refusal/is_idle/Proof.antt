@@ -7,14 +7,14 @@ use borrow.Author.Tests.{eq-eqb, ne-eqb}
 use borrow.Author.Needs.{needs}
 use Rattle.layout.specs.declared.Geometry.{Geometry}
 use Rattle.layout.specs.Layout.{totalOf}
-use Rattle.layout.specs.Limits.{Good}
+use Rattle.layout.specs.Limits.{GoodArray}
 use Rattle.layout.proofs.Laws.Zones.{total-none}
 use Rattle.calls.specs.Table.{idle}
 use Rattle.array.proofs.refusal.is_idle.Statement.{statement}
 use Rattle.array.proofs.refusal.is_idle.Tie as tie
 
 -- with no new disk the total is 0, and no move is made
-at-total : (g : Geometry) → Good g → eqb (g .moves) (totalOf g) ≡ idle g
+at-total : (g : Geometry) → GoodArray g → eqb (g .moves) (totalOf g) ≡ idle g
 unfolding idle
 at-total g w = elim (ℕ-discrete (g .new) 0) [
   | yes z ↦ (let q : g .moves ≡ totalOf g = omega (arith, w .moves, total-none (g .old) (g .new) (g .stripes) z) in

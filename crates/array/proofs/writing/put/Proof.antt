@@ -4,13 +4,14 @@ use mathlib.Core.Logic.{inl, inr}
 use native.Mathlib.Omega.{arith}
 use lib.ListN.{length}
 use borrow.Author.Needs.{needs}
+use Rattle.layout.proofs.Laws.Layout.{found-place, found-parity}
 use Rattle.blocks.specs.Block.{store}
 use Rattle.conditions.proofs.Tests.{went-on, returned}
 use Rattle.calls.specs.Images.{stored}
 use Rattle.calls.specs.Effect.{writeStores}
 use Rattle.conditions.proofs.Asked.{told}
 use Rattle.calls.proofs.Laws.Table.{write-rows}
-use Rattle.array.proofs.Calls.Reach.{Reached, asked, reached, inside, short, parity-asked}
+use Rattle.array.proofs.Calls.Reach.{asked, reached, inside, short}
 use Rattle.array.proofs.Calls.Put.{Aimed, aimed, parity-lt, sums, folds, data-out, both-in, parity-out}
 use Rattle.array.proofs.writing.put.Statement.{statement}
 use Rattle.array.proofs.writing.put.Tie as tie
@@ -18,20 +19,19 @@ use Rattle.array.proofs.writing.put.Tie as tie
 geometry-of-requires : tie.Need-geometry-of-requires
 geometry-of-requires c κs = search needs
 
-place-of-requires : tie.Need-place-of-requires
-place-of-requires c κs = asked _ _ _ _ (sym (write-rows _ _ _ _ _ _) ∙ c .before .before .before .pre) _ (c .geometry-of .ensures)
+find-requires : tie.Need-find-requires
+find-requires c κs = asked _ _ _ _ (sym (write-rows _ _ _ _ _ _) ∙ c .before .before .before .pre) _ (c .geometry-of .ensures)
 
 -- the block's place, and its parity's disk
-stands : (c : tie.After-place-of) → let a = c .before .before .before .before .args in Reached (a .r) (length (a .images .now)) (a .b) (length (a .bytes .now)) (c .place-of .result)
-stands c = reached _ _ _ _ (sym (write-rows _ _ _ _ _ _) ∙ c .before .before .before .before .pre) _ (c .before .geometry-of .ensures) _ (c .place-of .ensures)
-
-aims : (c : tie.After-parity-of) →
-    let a = c .before .before .before .before .before .args in
-    Aimed (a .r) (length (a .images .now)) (a .b) (a .bytes .now) (c .before .place-of .result) (c .parity-of .result)
-aims c = aimed _ _ _ _ _ _ (stands (c .before)) _ (c .before .before .geometry-of .ensures) (c .parity-of .ensures)
-
-parity-of-requires : tie.Need-parity-of-requires
-parity-of-requires c κs = parity-asked (stands c) (c .before .geometry-of .ensures)
+aims : (c : tie.After-q) →
+    let f = c .before in
+    let a = f .before .before .before .before .args in
+    Aimed (a .r) (length (a .images .now)) (a .b) (a .bytes .now) (f .find .result .place) (f .find .result .parity)
+aims c =
+    let f = c .before in
+    let e = f .before .geometry-of .ensures in
+    let x = found-place _ _ _ (f .find .ensures) in
+    aimed _ _ _ _ _ _ (reached _ _ _ _ (sym (write-rows _ _ _ _ _ _) ∙ f .before .before .before .before .pre) _ e _ x) _ e (found-parity _ _ _ (f .find .ensures))
 
 is-absent-requires : tie.Need-is-absent-requires
 is-absent-requires c κs = search needs
@@ -105,8 +105,7 @@ put-spec =
     tie.close
     (tie.spec
     geometry-of-requires
-    place-of-requires
-    parity-of-requires
+    find-requires
     is-absent-requires
     disks-of-requires
     cast-fold-others

@@ -1,7 +1,7 @@
 -- `find` meets its contract. Assumes nothing.
 use borrow.Author.Needs.{needs}
 use Rattle.layout.proofs.Laws.Bounds.{sizes-of}
-use Rattle.layout.proofs.Laws.Layout.{home-found, seat-in, seat-apart, seat-found}
+use Rattle.layout.proofs.Laws.Layout.{home-found, slot-in, slot-apart, slot-found}
 use Rattle.layout.proofs.layout.find.Statement.{statement}
 use Rattle.layout.proofs.layout.find.Tie as tie
 
@@ -18,32 +18,32 @@ returns c =
     let s = e .before .before in
     home-found _ (s .pre .0) _ (e .if1 .taken) (s .pre .1) _ (h .home-place .ensures)
 
-seat-of-requires : tie.Need-seat-of-requires
-seat-of-requires c κs = search needs
+slot-of-requires : tie.Need-slot-of-requires
+slot-of-requires c κs = search needs
 
 stripe-of-requires : tie.Need-stripe-of-requires
 stripe-of-requires c κs =
     let s = c .before .before .before in
-    sizes-of _ (s .pre .0) _ (seat-in _ (s .pre .0) _ (s .pre .1) _ (c .seat-of .ensures) .0)
+    sizes-of _ (s .pre .0) _ (slot-in _ (s .pre .0) _ (s .pre .1) _ (c .slot-of .ensures) .0)
 
-seat-disk-requires : tie.Need-seat-disk-requires
-seat-disk-requires c κs =
+slot-disk-requires : tie.Need-slot-disk-requires
+slot-disk-requires c κs =
     let y = c .before in
     let s = y .before .before .before in
-    (seat-apart _ (s .pre .0) _ (s .pre .1) _ (y .seat-of .ensures) _ (c .stripe-of .ensures), seat-in _ (s .pre .0) _ (s .pre .1) _ (y .seat-of .ensures) .1)
+    (slot-apart _ (s .pre .0) _ (s .pre .1) _ (y .slot-of .ensures) _ (c .stripe-of .ensures), slot-in _ (s .pre .0) _ (s .pre .1) _ (y .slot-of .ensures) .1)
 
 parity-at-requires : tie.Need-parity-at-requires
 parity-at-requires c κs =
     let x = c .before in
     let s = x .before .before .before .before in
-    seat-apart _ (s .pre .0) _ (s .pre .1) _ (x .before .seat-of .ensures) _ (x .stripe-of .ensures)
+    slot-apart _ (s .pre .0) _ (s .pre .1) _ (x .before .slot-of .ensures) _ (x .stripe-of .ensures)
 
 returns-2 : tie.Need-returns-2
 returns-2 c =
     let x = c .before .before in
     let y = x .before in
     let s = y .before .before .before in
-    seat-found _ (s .pre .0) _ (s .pre .1) _ (y .seat-of .ensures) _ (x .stripe-of .ensures) _ (c .before .seat-disk .ensures) _ (c .parity-at .ensures)
+    slot-found _ (s .pre .0) _ (s .pre .1) _ (y .slot-of .ensures) _ (x .stripe-of .ensures) _ (c .before .slot-disk .ensures) _ (c .parity-at .ensures)
 
 pub find-spec : {M : Type 1} → statement M
 find-spec =
@@ -52,8 +52,8 @@ find-spec =
     home-place-requires
     rem-t7
     returns
-    seat-of-requires
+    slot-of-requires
     stripe-of-requires
-    seat-disk-requires
+    slot-disk-requires
     parity-at-requires
     returns-2)

@@ -1,7 +1,7 @@
--- `seat_disk` meets its contract. Assumes nothing.
-use Rattle.layout.specs.Seats.{seatDisk}
-use Rattle.layout.proofs.layout.seat_disk.Statement.{statement}
-use Rattle.layout.proofs.layout.seat_disk.Tie as tie
+-- `slot_disk` meets its contract. Assumes nothing.
+use Rattle.layout.specs.Slots.{slotDisk}
+use Rattle.layout.proofs.layout.slot_disk.Statement.{statement}
+use Rattle.layout.proofs.layout.slot_disk.Tie as tie
 
 nth-blank-requires : tie.Need-nth-blank-requires
 nth-blank-requires c κs = (c .before .pre .0, c .before .pre .1 .new (c .if1 .taken))
@@ -10,12 +10,12 @@ disk-at-requires : tie.Need-disk-at-requires
 disk-at-requires c κs = (c .before .pre .0, c .before .pre .1 .old (c .if1 .left))
 
 returns : tie.Need-returns
-unfolding seatDisk
+unfolding slotDisk
 returns c = simp (c .before .if1 .taken) (c .nth-blank .ensures)
 
 returns-2 : tie.Need-returns-2
-unfolding seatDisk
+unfolding slotDisk
 returns-2 c = simp (c .before .if1 .left) (c .disk-at .ensures)
 
-pub seat-disk-spec : {M : Type 1} → statement M
-seat-disk-spec = tie.close (tie.spec nth-blank-requires disk-at-requires returns returns-2)
+pub slot-disk-spec : {M : Type 1} → statement M
+slot-disk-spec = tie.close (tie.spec nth-blank-requires disk-at-requires returns returns-2)

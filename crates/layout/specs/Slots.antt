@@ -1,4 +1,4 @@
--- How the code finds a block: its seat first; then, with its stripe taken apart, the disk. Contracts of the code cite these; Laws.Layout of
+-- How the code finds a block: its slot first; then, with its stripe taken apart, the disk. Contracts of the code cite these; Laws.Layout of
 -- proofs/ says that they give the block's place.
 use Prim.Native.Nat.{ℕ, _-_, _%_, _<_}
 use mathlib.Core.Path.{_≡_}
@@ -6,7 +6,7 @@ use mathlib.Core.Bool.{true, false, cond}
 use lib.Dec.{ltb}
 use lib.ListN.{getD}
 use Rattle.layout.specs.declared.Geometry.{Geometry}
-use Rattle.layout.specs.declared.Seat.{Seat}
+use Rattle.layout.specs.declared.Slot.{Slot}
 use Rattle.layout.specs.Home.{homeStripe, homeDisk}
 use Rattle.layout.specs.Closed.{diskAt}
 use Rattle.layout.specs.Blanks.{blanks, newStripe}
@@ -14,20 +14,20 @@ use Rattle.layout.specs.Runs.{settled}
 use Rattle.layout.specs.Layout.{oldBlocks}
 
 -- a block of before the growth: its stripe, and the disk on which it stood; a new one: its stripe, and which of the blanks it is
-unfoldable pub seatOf : Geometry → ℕ → Seat
-seatOf g b =
+unfoldable pub slotOf : Geometry → ℕ → Slot
+slotOf g b =
     let k = b - oldBlocks g in
     cond (ltb b (oldBlocks g))
     (record { stripe = homeStripe (g .old) b; nth = homeDisk (g .old) b; new = false })
     (record { stripe = newStripe (g .new) k; nth = k % g .new; new = true })
 
--- the disk of a seat in stripe S
-unfoldable pub seatDisk : Geometry → ℕ → Seat → ℕ
-seatDisk g S y =
+-- the disk of a slot in stripe S
+unfoldable pub slotDisk : Geometry → ℕ → Slot → ℕ
+slotDisk g S y =
     cond (y .new) (getD (blanks (g .old) (g .new) (settled (g .old) (g .new) S) S) (y .nth) 0)
     (diskAt (g .old) (g .new) (g .moves) S (y .nth))
 
 -- y is on an old disk, or one of the blanks
-pub record Seated (g : Geometry) (y : Seat) : Type 0 where
+pub record InSlot (g : Geometry) (y : Slot) : Type 0 where
   pub old : y .new ≡ false → y .nth < g .old
   pub new : y .new ≡ true → y .nth < g .new
