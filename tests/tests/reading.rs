@@ -56,6 +56,7 @@ const STATEMENTS: &[&str] = &[
     "Demand2",
     "RoundTrip",
     "GoodIs",
+    "Updates",
     "Demand3",
     "MayBeLent",
     "FlatList",

@@ -167,8 +167,7 @@ module _ (r : Record) (e : Event) where
       cell-stored (r .block) (r .stripes) (r .old + m) (zeroed r e m) img (within-grow r e m) long j S d lj l
       ∙ column-zero (r .block) (r .stripes) (r .old) j m (cellIn r img j) S d l lo hi ∙ sym (getD-zeros (r .block) j)))
 
-  grow-record : (m : ℕ) → Passed r e (grow m)
-      → kept (grow m) ≡ record { old = r .old; new = m; health = Whole; block = r .block; stripes = r .stripes; moves = 0 }
+  grow-record : (m : ℕ) → Passed r e (grow m) → kept (grow m) ≡ withHealth (grownBy r m) Whole
   unfolding effect
   grow-record m z =
       recorded-last (zeroed r e m) (grownBy r m) r
