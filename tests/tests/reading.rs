@@ -78,6 +78,7 @@ const STATEMENTS: &[&str] = &[
 
 /// Closed types that state nothing, with their crates.
 const DATA: &[(&str, &str)] = &[
+    ("calls", "Terms"),
     ("layout", "Layout"),
     ("calls", "Event"),
     ("calls", "Fed"),

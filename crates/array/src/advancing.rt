@@ -27,7 +27,8 @@ use state::with_moves;
 
 // The next move, which is the one at the cursor: the block to its new place, zeroes where it stood.
 fn make_move(r: Record, at: Cursor, images: &mut [u8])
-    requires { ⌜ GoodRecord r × (idle (geometry r) ≡ false) × (at ≡ cursorAt (r .old) (r .new) (r .moves)) × (length (now images) ≡ size r) ⌝ }
+    requires { ⌜ GoodRecord r × (idle (geometry r) ≡ false)
+        × (at ≡ cursorAt (r .old) (r .new) (r .moves)) × (length (now images) ≡ size r) ⌝ }
     ensures images { λ _. ⌜ now (images .exit) ≡ storedIn r (moveStores r (now (images .entry))) (now (images .entry)) ⌝ }
 {
     let from = place_at(r, at.stripe, at.from);

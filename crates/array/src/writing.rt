@@ -21,7 +21,8 @@ use state::geometry_of;
 // The parity, then the data, on a call that the table lets through.
 fn put(r: Record, images: &mut [u8], b: u64, bytes: &[u8])
     requires { ⌜ refusalOf r (feed (write b (now bytes)) (length (now images)) 0) ≡ 0 ⌝ }
-    ensures images { λ _. ⌜ now (images .exit) ≡ storedIn r (writeStores r (now (images .entry)) b (now (bytes .entry))) (now (images .entry)) ⌝ }
+    ensures images { λ _. ⌜ now (images .exit) ≡
+        storedIn r (writeStores r (now (images .entry)) b (now (bytes .entry))) (now (images .entry)) ⌝ }
 {
     let f = find(geometry_of(r), b);
     let q = f.place;

@@ -126,8 +126,8 @@ roleBlock Blank = 0
 roleBlock Parity = 0
 roleBlock (Data b) = b
 
--- the numbers beside the first, of a call that has w of them: advance's count; status's capacity, t, total, health and the disk that is out;
--- locate's stripe and disk; owner's role and block
+-- the numbers beside the first, of a call that has w of them: advance's count; status's capacity, t, total, health and the disk that is
+-- out; locate's stripe and disk; owner's role and block
 abbrev pub beside : ℕ → Answer → List ℕ
 beside w (refused k) = replicate w 0
 beside w done = []

@@ -2,7 +2,7 @@
 use Prim.Native.Nat.{ℕ, _+_, _*_, _%_, _≤_, _<_}
 use mathlib.Core.Path.{_≡_}
 use Rattle.layout.specs.declared.Geometry.{Geometry}
-use Rattle.layout.specs.declared.Progress.{Progress}
+use Rattle.layout.specs.declared.Scaled.{Scaled}
 use Rattle.layout.specs.declared.Stripe.{Stripe}
 use Rattle.layout.specs.Home.{parityDisk}
 use Rattle.layout.specs.Moves.{zoneOf, withinZone}
@@ -43,7 +43,7 @@ pub record Sized (g : Geometry) : Type 0 where
   pub groups : 0 < g .new → g .stripes % (g .old * (g .old + g .new)) ≡ 0
 
 -- p says how far it is: t and the total, both times a number above 0
-pub record Measured (g : Geometry) (p : Progress) : Type 0 where
+pub record Measured (g : Geometry) (p : Scaled) : Type 0 where
   pub times : 0 < p .times
   pub done : p .done ≡ g .moves * p .times
   pub all : p .all ≡ totalOf g * p .times

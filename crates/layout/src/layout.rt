@@ -12,7 +12,7 @@ ghost use Rattle.layout.specs.Limits.{TakenApart, Sized, Measured, GoodA
 use crate::Found;
 use crate::Geometry;
 use crate::Place;
-use crate::Progress;
+use crate::Scaled;
 use crate::Role;
 use crate::Slot;
 use crate::Stripe;
@@ -28,13 +28,13 @@ use crate::home::home_code;
 use crate::home::home_place;
 
 // The moves done and the total, which is T * n * m / (n + m), both times n + m.
-fn progress_of(g: Geometry) -> Progress
+fn scaled_moves(g: Geometry) -> Scaled
     requires { ⌜ Sized g ⌝ }
     ensures { λ r. ⌜ Measured g r ⌝ }
 {
     let n = g.old;
     let m = g.new;
-    Progress {
+    Scaled {
         done: g.moves * (n + m),
         all: g.stripes * n * m,
         times: n + m,
@@ -46,7 +46,7 @@ pub fn total_of(g: Geometry) -> u64
     requires { ⌜ GoodArray g ⌝ }
     ensures { λ r. ⌜ r ≡ totalOf g ⌝ }
 {
-    let p = progress_of(g);
+    let p = scaled_moves(g);
     p.all / p.times
 }
 
@@ -55,7 +55,7 @@ pub fn moves_fit(g: Geometry) -> bool
     requires { ⌜ Sized g ⌝ }
     ensures { λ x. ⌜ x ≡ leb (g .moves) (totalOf g) ⌝ }
 {
-    let p = progress_of(g);
+    let p = scaled_moves(g);
     p.done <= p.all
 }
 
@@ -64,7 +64,7 @@ pub fn all_moved(g: Geometry) -> bool
     requires { ⌜ GoodArray g ⌝ }
     ensures { λ r. ⌜ r ≡ eqb (g .moves) (totalOf g) ⌝ }
 {
-    let p = progress_of(g);
+    let p = scaled_moves(g);
     p.done == p.all
 }
 

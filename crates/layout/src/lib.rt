@@ -49,7 +49,7 @@ pub struct Geometry {
 }
 
 // How far an array is: t and the total of moves, both times the same number, so that they are compared with no division.
-pub struct Progress {
+pub struct Scaled {
     pub done: u64,
     pub all: u64,
     pub times: u64,

@@ -8,17 +8,17 @@ use Rattle.blocks.specs.Block.{zeros}
 use Rattle.state.specs.declared.Health.the-variants.{Whole, Out, Lost}
 use Rattle.state.specs.declared.Health.{Health}
 use Rattle.state.specs.declared.Record.{Record}
-use Rattle.state.specs.Update as update
+use Rattle.state.specs.Update.{formatted, grownBy, withMoves, withHealth}
 use Rattle.calls.specs.Call.{Call, format, read, view, write, grow, advance, out, rebuild, Answer, bytes, made, done}
 use Rattle.calls.specs.Images.{block, header}
 use Rattle.calls.specs.Effect.{writeStores, moveStores, Left, called}
 
 -- before growth, and with this health after t moves
 abbrev pub fresh : Record
-fresh = update.formatted 3 1 12
+fresh = formatted 3 1 12
 
 abbrev pub cabinet : Health → ℕ → Record
-cabinet h t = update.withHealth (update.withMoves (update.grownBy fresh 1) t) h
+cabinet h t = withHealth (withMoves (grownBy fresh 1) t) h
 
 -- a disk a line, stripe 0 first; the parity of stripes 3 and 7 stands on disk 3 already, and so do blocks 2 and 4
 abbrev pub disk0 : List ℕ
@@ -56,10 +56,10 @@ left r img room a = record { answer = a; state = r; images = img; room = room }
 
 -- the cabinet with blocks of two bytes: block b holds b + 1 and 63 - 2 × b; a disk a line again, two bytes a stripe
 abbrev pub freshWide : Record
-freshWide = update.formatted 3 2 12
+freshWide = formatted 3 2 12
 
 abbrev pub wide : Health → ℕ → Record
-wide h t = update.withHealth (update.withMoves (update.grownBy freshWide 1) t) h
+wide h t = withHealth (withMoves (grownBy freshWide 1) t) h
 
 abbrev pub wide0 : List ℕ
 wide0 =
@@ -132,7 +132,7 @@ pub record Drawers : Type 0 where
   -- a new disk of garbage, zeroed; and a lost cabinet formatted anew
   pub grown : on (disk0 ++ disk1 ++ disk2 ++ garbage) fresh (grow 1)
       ≡ left (cabinet Whole 0) (disk0 ++ disk1 ++ disk2 ++ zeros 12) (9 ∷ []) done
-  pub formatted : on (garbage ++ garbage ++ garbage) (cabinet Lost 4) (format 3 1 12) ≡ left fresh (zeros 36) (9 ∷ []) done
+  pub formats : on (garbage ++ garbage ++ garbage) (cabinet Lost 4) (format 3 1 12) ≡ left fresh (zeros 36) (9 ∷ []) done
   -- in order: the copy, the zeroes, the record; the parity, the data
   pub move-stores : moveStores (cabinet Whole 4) standing ≡ block 6 3 (13 ∷ []) ∷ block 6 2 (0 ∷ []) ∷ header (cabinet Whole 5) ∷ []
   pub write-stores : writeStores (cabinet Whole 4) standing 6 (200 ∷ []) ≡ block 3 3 (192 ∷ []) ∷ block 3 2 (200 ∷ []) ∷ []

@@ -8,7 +8,7 @@ use native.Mathlib.Omega.{arith}
 use lib.Dec.{leb, eqb}
 use borrow.Author.Tests.{eq-eqb, ne-eqb}
 use Rattle.layout.specs.declared.Geometry.{Geometry}
-use Rattle.layout.specs.declared.Progress.{Progress}
+use Rattle.layout.specs.declared.Scaled.{Scaled}
 use Rattle.layout.specs.Moves.{zoneOf, zones, groups, moveIndex, moveZone, moveStripe}
 use Rattle.layout.specs.Runs.{settled}
 use Rattle.layout.specs.Layout.{totalOf, disks, oldBlocks, openStripes, capacity}
@@ -46,7 +46,7 @@ measured g w =
     let pn : 0 < g .old = omega (arith, w .disks .n-low) in
     record { times = omega arith; done = refl; all = sym (total-times (g .old) (g .new) (g .stripes) pn (w .groups)) }
 
-module _ (g : Geometry) (p : Progress) (w : Measured g p) where
+module _ (g : Geometry) (p : Scaled) (w : Measured g p) where
   pub total-found : p .all / p .times ≡ totalOf g
   total-found = ap (λ x. x / p .times) (w .all) ∙ mul-div-cancel (totalOf g) (w .times)
 

@@ -4,11 +4,11 @@ use Rattle.layout.proofs.Laws.Numbers.{fits}
 use Rattle.layout.proofs.layout.moves_fit.Statement.{statement}
 use Rattle.layout.proofs.layout.moves_fit.Tie as tie
 
-progress-of-requires : tie.Need-progress-of-requires
-progress-of-requires c κs = search needs
+scaled-moves-requires : tie.Need-scaled-moves-requires
+scaled-moves-requires c κs = search needs
 
 returns : tie.Need-returns
-returns c = fits _ _ (c .before .progress-of .ensures)
+returns c = fits _ _ (c .before .scaled-moves .ensures)
 
 pub moves-fit-spec : {M : Type 1} → statement M
-moves-fit-spec = tie.close (tie.spec progress-of-requires returns)
+moves-fit-spec = tie.close (tie.spec scaled-moves-requires returns)

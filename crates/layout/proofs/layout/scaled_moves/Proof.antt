@@ -1,10 +1,10 @@
--- `progress_of` meets its contract. Assumes nothing.
+-- `scaled_moves` meets its contract. Assumes nothing.
 use native.Mathlib.Omega.{arith}
 use borrow.Author.Needs.{needs}
 use Rattle.layout.proofs.Laws.Bounds.{sides}
 use Rattle.layout.proofs.Laws.Numbers.{measured}
-use Rattle.layout.proofs.layout.progress_of.Statement.{statement}
-use Rattle.layout.proofs.layout.progress_of.Tie as tie
+use Rattle.layout.proofs.layout.scaled_moves.Statement.{statement}
+use Rattle.layout.proofs.layout.scaled_moves.Tie as tie
 
 add-t4 : tie.Need-add-t4
 add-t4 c = search needs
@@ -24,5 +24,5 @@ add-t8 c = search needs
 returns : tie.Need-returns
 returns c = measured _ (c .before .before .pre)
 
-pub progress-of-spec : {M : Type 1} → statement M
-progress-of-spec = tie.close (tie.spec add-t4 mul-t5 mul-t6 mul-t7 add-t8 returns)
+pub scaled-moves-spec : {M : Type 1} → statement M
+scaled-moves-spec = tie.close (tie.spec add-t4 mul-t5 mul-t6 mul-t7 add-t8 returns)
