@@ -79,6 +79,12 @@ const BY_LAW: &[(&str, &str, &[&str])] = &[
         "`good-bytes`",
         &["state/unread_bytes_ignored"],
     ),
+    // what every field is behind an update
+    (
+        "/proofs/Theorem.antt:",
+        "`updates`",
+        &["state/health_restarts_growth"],
+    ),
 ];
 
 #[derive(Clone, Copy, Debug, PartialEq)]

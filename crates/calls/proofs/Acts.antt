@@ -23,13 +23,13 @@ use Rattle.state.specs.declared.Record.{Record}
 use Rattle.state.specs.Good.{geometry, good, GoodRecord}
 use Rattle.state.specs.Update.{formatted, grownBy, withMoves, withHealth}
 use Rattle.calls.specs.Call.{Call, format, read, view, write, grow, advance, out, rebuild, status, locate, owner}
-use Rattle.calls.specs.Call.{Event, Answer, bytes, made}
+use Rattle.calls.specs.Call.{Event, Answer, done, bytes, made}
 use Rattle.calls.specs.Health.{absent, afterOut}
 use Rattle.calls.specs.Images.{disksOf, size, sizeWith, placeIn, othersIn, seen, Store, stored, recorded, zeroDisks}
 use Rattle.calls.specs.Table.{idle, refusal}
 use Rattle.calls.specs.Effect.{placeOf, scratchLeft, moveStores, advanceStores, effect, answerOf, recordLeft, roomLeft}
 use Rattle.calls.specs.Alone.{movedOn}
-use Rattle.calls.specs.Acts.{Acts}
+use Rattle.calls.specs.Acts.{Acts, OnlyDone, format-done, write-done, grow-done, out-done, rebuild-done}
 use Rattle.calls.proofs.Laws.Column.{Mask, storeIf}
 use Rattle.calls.proofs.Laws.Stores.{length-stored, cell-stored, stored-append, stored-last, recorded-last, column-fill, column-zero}
 use Rattle.calls.proofs.Laws.Holding.{cellIn}
@@ -243,6 +243,16 @@ module _ (r : Record) (e : Event) where
   unfolding effect
   rebuild-record d = recorded-last (rebuilt r e d) (withHealth r Whole) r
 
+  -- ---- calls that have nothing to tell
+
+  only-done : {c : Call} → OnlyDone c → answerOf (effect c r e) ≡ done
+  unfolding effect
+  only-done (format-done n B T) = refl
+  only-done (write-done b v) = refl
+  only-done (grow-done m) = refl
+  only-done (out-done d) = refl
+  only-done (rebuild-done d) = refl
+
 -- ---- every call
 
 pub acts : Acts
@@ -270,6 +280,10 @@ acts e r z =
       out-second = λ d o q h. of-record (out d) _ q (λ x. out-record r e d (Out o) Lost h refl);
       rebuild-disk = λ d q S l. of-place S d (rebuild d) _ q (λ x. rebuild-disk r e d x S l);
       rebuild-record = λ d q. of-record (rebuild d) _ q (λ x. rebuild-record r e d);
+      status-answer = λ q. of-answer status _ q (λ x. refl);
+      locate-answer = λ b q. of-answer (locate b) _ q (λ x. refl);
+      owner-answer = λ S d q. of-answer (owner S d) _ q (λ x. refl);
+      only-done = only-done r e;
       record-stays = facts r e (e .call) .state z;
     }
   where

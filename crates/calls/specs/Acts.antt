@@ -5,13 +5,14 @@ use Prim.Native.Nat.{ℕ, suc, _+_, _-_, _*_, _≤_, _<_, min}
 use mathlib.Core.Path.{_≡_}
 use mathlib.Core.Bool.{true, false}
 use mathlib.Core.List.{List}
-use Rattle.layout.specs.Layout.{totalOf, layout}
+use Rattle.layout.specs.Layout.{totalOf, capacity, layout}
 use Rattle.blocks.specs.Block.{zeros}
 use Rattle.blocks.specs.Xor.{xorB}
 use Rattle.state.specs.declared.Health.the-variants.{Whole, Out, Lost}
 use Rattle.state.specs.declared.Record.{Record}
 use Rattle.state.specs.Good.{geometry}
-use Rattle.calls.specs.Call.{Call, format, read, view, write, grow, advance, out, rebuild, Event, on, fed, bytes, made}
+use Rattle.calls.specs.Call.{Call, format, read, view, write, grow, advance, out, rebuild, status, locate, owner}
+use Rattle.calls.specs.Call.{Event, on, fed, done, bytes, made, figures, placed, owned}
 use Rattle.state.specs.Update.{formatted, grownBy, withMoves, withHealth}
 use Rattle.calls.specs.Health.{absent}
 use Rattle.calls.specs.Images.{placeIn, othersIn, seen}
@@ -34,6 +35,14 @@ pub data StoresRecord : Call → Type 0 where
   advance-records : (k : ℕ) → StoresRecord (advance k)
   out-records : (d : ℕ) → StoresRecord (out d)
   rebuild-records : (d : ℕ) → StoresRecord (rebuild d)
+
+-- the calls that have nothing to tell
+pub data OnlyDone : Call → Type 0 where
+  format-done : (n B T : ℕ) → OnlyDone (format n B T)
+  write-done : (b : ℕ) (v : List ℕ) → OnlyDone (write b v)
+  grow-done : (m : ℕ) → OnlyDone (grow m)
+  out-done : (d : ℕ) → OnlyDone (out d)
+  rebuild-done : (d : ℕ) → OnlyDone (rebuild d)
 
 -- what is claimed of one call e on a record r ..
 pub record Does (e : Event) (r : Record) : Type 0 where
@@ -77,6 +86,13 @@ pub record Does (e : Event) (r : Record) : Type 0 where
   -- rebuild: "writes disk d of every stripe as the xor of the others; health whole"
   pub rebuild-disk : (d : ℕ) → e .call ≡ rebuild d → (S : ℕ) → S < r .stripes → leftAt e r S d ≡ othersIn r (e .images) S d
   pub rebuild-record : (d : ℕ) → e .call ≡ rebuild d → act e r .state ≡ withHealth r Whole
+  -- status: "capacity, t, total, health"; locate: "the stripe and disk of block b"; owner: "the block number there, or parity, or blank"
+  pub status-answer : e .call ≡ status
+      → act e r .answer ≡ figures (capacity (geometry r)) (r .moves) (totalOf (geometry r)) (r .health)
+  pub locate-answer : (b : ℕ) → e .call ≡ locate b → act e r .answer ≡ placed (layout (geometry r) .place b)
+  pub owner-answer : (S d : ℕ) → e .call ≡ owner S d → act e r .answer ≡ owned (layout (geometry r) .owner S d)
+  -- the others answer "0 is done" and nothing beside it
+  pub only-done : OnlyDone (e .call) → act e r .answer ≡ done
   -- read, view, write, status, locate and owner leave the record
   pub record-stays : ¬ StoresRecord (e .call) → act e r .state ≡ r
 

@@ -24,8 +24,9 @@ round-trip =
       record-back = decode-encode;
       bytes-back = encode-decode;
       plain-only = λ b r e. (subst (λ (x : List ℕ). length x ≡ recordLength) e (length-encode r), subst (λ (x : List ℕ). plain x ≡ true) e (plain-encode r));
+      offsets = λ r. (refl, refl, refl, refl, omega arith, refl, refl, omega arith, omega arith);
+      health-bytes = (refl, refl, refl, refl, λ d. (refl, refl));
       example = refl;
-      whole-and-lost = (refl, refl, refl, refl);
     }
 
 -- a good record's fields fit their bytes

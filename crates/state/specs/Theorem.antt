@@ -1,11 +1,11 @@
 -- What is proved of the record: `RoundTrip`, `GoodIs` and `Updates`; `round-trip`, `good-is` and `updates` of proofs/Theorem.antt prove
 -- them.
-use Prim.Native.Nat.{ℕ}
+use Prim.Native.Nat.{ℕ, _+_, _*_}
 use mathlib.Core.Path.{_≡_}
 use mathlib.Core.Bool.{true}
 use mathlib.Core.Logic.{_↔_}
 use mathlib.Core.List.{List, [], _∷_}
-use lib.ListN.{length}
+use lib.ListN.{length, getD}
 use Rattle.state.specs.declared.Health.the-variants.{Whole, Out, Lost}
 use Rattle.state.specs.declared.Health.{Health}
 use Rattle.state.specs.declared.Record.{Record}
@@ -13,16 +13,29 @@ use Rattle.state.specs.Good.{good, GoodRecord}
 use Rattle.state.specs.Bytes.{recordLength, decode, plain, goodBytes, healthByte, diskByte, encode, AreBytes}
 use Rattle.state.specs.Update.{formatted, grownBy, withMoves, withHealth}
 
+-- byte i of a record
+abbrev pub byteOf : Record → ℕ → ℕ
+byteOf r i = getD (encode r) i 0
+
 -- the record and its bytes: in and out
 pub record RoundTrip : Type 0 where
   pub record-back : (r : Record) → decode (encode r) ≡ r
   pub bytes-back : (b : List ℕ) → AreBytes b → length b ≡ recordLength → plain b ≡ true → encode (decode b) ≡ b
   -- and bytes that are not `plain` are those of no record
   pub plain-only : (b : List ℕ) (r : Record) → encode r ≡ b → (length b ≡ recordLength) × (plain b ≡ true)
-  -- worked out by hand: n = 5, m = 7, disk 11 out, B = 515, T = 67,305,985, t = 134,678,021; and the health bytes of the others
+  -- "decimal byte offsets, least byte first: 0 n; 1 m (0 before growth); 2 health ..; 3 the disk that is out ..; 4–5 B; 6–7 zero; 8–11 T;
+  -- 12–15 t, the moves done"
+  pub offsets : (r : Record) → let at : ℕ → ℕ = byteOf r in
+      (at 0 ≡ r .old) × (at 1 ≡ r .new) × (at 2 ≡ healthByte (r .health)) × (at 3 ≡ diskByte (r .health))
+      × (at 4 + 256 * at 5 ≡ r .block) × (at 6 ≡ 0) × (at 7 ≡ 0)
+      × (at 8 + 256 * at 9 + 65536 * at 10 + 16777216 * at 11 ≡ r .stripes)
+      × (at 12 + 256 * at 13 + 65536 * at 14 + 16777216 * at 15 ≡ r .moves)
+  -- "0 whole, 1 one disk out, 2 lost", "the disk that is out, 0 unless health is 1"
+  pub health-bytes : (healthByte Whole ≡ 0) × (diskByte Whole ≡ 0) × (healthByte Lost ≡ 2) × (diskByte Lost ≡ 0)
+      × ((d : ℕ) → (healthByte (Out d) ≡ 1) × (diskByte (Out d) ≡ d))
+  -- worked out by hand: n = 5, m = 7, disk 11 out, B = 515, T = 67,305,985, t = 134,678,021
   pub example : encode (record { old = 5; new = 7; health = Out 11; block = 515; stripes = 67305985; moves = 134678021 })
       ≡ 5 ∷ 7 ∷ 1 ∷ 11 ∷ 3 ∷ 2 ∷ 0 ∷ 0 ∷ 1 ∷ 2 ∷ 3 ∷ 4 ∷ 5 ∷ 6 ∷ 7 ∷ 8 ∷ []
-  pub whole-and-lost : (healthByte Whole ≡ 0) × (diskByte Whole ≡ 0) × (healthByte Lost ≡ 2) × (diskByte Lost ≡ 0)
 
 -- "A record is good exactly if each field is in its limits .."
 pub record GoodIs : Type 0 where

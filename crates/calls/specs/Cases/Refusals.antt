@@ -25,7 +25,7 @@ marks =
     (1 ∷ 1 ∷ 1 ∷ 1 ∷ 1 ∷ 1 ∷ 1 ∷ 1 ∷ 1 ∷ 1 ∷ 1 ∷ [])  -- 1 record
     ∷ (0 ∷ 1 ∷ 1 ∷ 1 ∷ 1 ∷ 1 ∷ 1 ∷ 1 ∷ 0 ∷ 0 ∷ 0 ∷ [])  -- 2 lost
     ∷ (0 ∷ 0 ∷ 0 ∷ 0 ∷ 1 ∷ 1 ∷ 0 ∷ 0 ∷ 0 ∷ 0 ∷ 0 ∷ [])  -- 3 degraded
-    ∷ (0 ∷ 0 ∷ 0 ∷ 0 ∷ 1 ∷ 0 ∷ 0 ∷ 0 ∷ 0 ∷ 0 ∷ 0 ∷ [])  -- 4 grown
+    ∷ (0 ∷ 0 ∷ 0 ∷ 0 ∷ 1 ∷ 0 ∷ 0 ∷ 0 ∷ 0 ∷ 0 ∷ 0 ∷ [])  -- 4 growing
     ∷ (0 ∷ 0 ∷ 0 ∷ 0 ∷ 0 ∷ 1 ∷ 0 ∷ 0 ∷ 0 ∷ 0 ∷ 0 ∷ [])  -- 5 nothing to move
     ∷ (1 ∷ 0 ∷ 0 ∷ 0 ∷ 1 ∷ 0 ∷ 0 ∷ 0 ∷ 0 ∷ 0 ∷ 0 ∷ [])  -- 6 geometry
     ∷ (1 ∷ 1 ∷ 1 ∷ 1 ∷ 1 ∷ 1 ∷ 0 ∷ 1 ∷ 0 ∷ 0 ∷ 0 ∷ [])  -- 7 images
@@ -58,9 +58,9 @@ small = encode fresh
 abbrev pub of-stripes : ℕ → List ℕ
 of-stripes T = encode (formatted 3 1 T)
 
--- .. grown by 2, of length 150, with t of 18 moves done, and capacity 30 or at last 60
-abbrev pub grown : Health → ℕ → List ℕ
-grown h t = encode (withHealth (withMoves (grownBy fresh 2) t) h)
+-- .. growing by 2, of length 150, with t of 18 moves done, and capacity 30 or at last 60
+abbrev pub growing : Health → ℕ → List ℕ
+growing h t = encode (withHealth (withMoves (grownBy fresh 2) t) h)
 
 -- not good, of 2 disks; good but for the health's bytes and bytes 6 and 7, and so for byte 6; lost; a byte short and a byte long
 abbrev pub bad : List ℕ
@@ -73,7 +73,7 @@ abbrev pub sixth : List ℕ
 sixth = spoilt 0 0 1 0
 
 abbrev pub lost : List ℕ
-lost = grown Lost 17
+lost = growing Lost 17
 
 abbrev pub short : List ℕ
 short = take (recordLength - 1) small
@@ -100,12 +100,12 @@ reads c =
     -- 1, 2
     asks short (c 30 1) 89 1 ∷ asks bad (c 30 1) 89 1 ∷ asks sixth (c 30 1) 89 1 ∷ asks lost (c 30 1) 149 1
     -- 7, 8, 9, none
-    ∷ asks (grown Whole 17) (c 30 1) 149 1 ∷ asks (grown Whole 17) (c 30 1) 150 1
-    ∷ asks (grown Whole 17) (c 29 1) 150 1 ∷ asks (grown Whole 17) (c 29 2) 150 2
-    -- degraded, grown and idle are no matter
-    ∷ asks (grown (Out 4) 17) (c 29 2) 150 2 ∷ asks (grown Whole 18) (c 59 2) 150 2 ∷ asks small (c 29 2) 90 2
+    ∷ asks (growing Whole 17) (c 30 1) 149 1 ∷ asks (growing Whole 17) (c 30 1) 150 1
+    ∷ asks (growing Whole 17) (c 29 1) 150 1 ∷ asks (growing Whole 17) (c 29 2) 150 2
+    -- degraded, growing and idle are no matter
+    ∷ asks (growing (Out 4) 17) (c 29 2) 150 2 ∷ asks (growing Whole 18) (c 59 2) 150 2 ∷ asks small (c 29 2) 90 2
     -- the other sides of the bounds
-    ∷ asks (grown Whole 18) (c 60 2) 150 2 ∷ asks small (c 30 2) 90 2 ∷ asks small (c 29 2) 91 2 ∷ asks small (c 29 3) 90 3
+    ∷ asks (growing Whole 18) (c 60 2) 150 2 ∷ asks small (c 30 2) 90 2 ∷ asks small (c 29 2) 91 2 ∷ asks small (c 29 3) 90 3
     ∷ []
 
 abbrev pub read-numbers : List ℕ
@@ -126,7 +126,7 @@ pub record Refusals : Type 0 where
   pub formats :
       asks short (format 2 2 15) 89 0 ∷ asks small (format 2 2 15) 89 0 ∷ asks small (format 3 2 15) 89 0 ∷ asks small (format 3 2 15) 90 0
       ∷ asks bad (format 3 2 15) 90 0 ∷ asks sixth (format 3 2 15) 90 0
-      ∷ asks lost (format 3 2 15) 90 0 ∷ asks (grown (Out 1) 18) (format 3 2 15) 90 0
+      ∷ asks lost (format 3 2 15) 90 0 ∷ asks (growing (Out 1) 18) (format 3 2 15) 90 0
       ∷ asks small (format 17 2 15) 510 0 ∷ asks small (format 3 0 15) 0 0 ∷ asks small (format 3 2 0) 0 0
       ∷ []
       ≡ 1 ∷ 6 ∷ 7 ∷ 0 ∷ 0 ∷ 0 ∷ 0 ∷ 0 ∷ 6 ∷ 6 ∷ 6 ∷ []
@@ -138,7 +138,7 @@ pub record Refusals : Type 0 where
   -- 1, 2, 3, 4, 6, 7, none; m of 0 and of 17, T no multiple
   pub grows :
       asks short (grow 0) 89 0 ∷ asks bad (grow 0) 89 0 ∷ asks lost (grow 0) 89 0
-      ∷ asks (grown (Out 4) 17) (grow 0) 89 0 ∷ asks (grown Whole 17) (grow 0) 89 0
+      ∷ asks (growing (Out 4) 17) (grow 0) 89 0 ∷ asks (growing Whole 17) (grow 0) 89 0
       ∷ asks small (grow 0) 89 0 ∷ asks small (grow 2) 149 0 ∷ asks small (grow 2) 150 0
       ∷ asks small (grow 17) 600 0 ∷ asks small (grow 1) 120 0 ∷ asks small (grow 2) 90 0
       ∷ asks (of-stripes 57) (grow 16) 1083 0 ∷ asks (of-stripes 60) (grow 17) 1200 0 ∷ asks (of-stripes 12) (grow 1) 48 0
@@ -147,36 +147,36 @@ pub record Refusals : Type 0 where
   -- 1, 2, 3, 5, 7, none; 5 with m = 0; k = 0 is no refusal
   pub advances :
       asks short (advance 1) 149 0 ∷ asks bad (advance 1) 149 0 ∷ asks lost (advance 1) 149 0
-      ∷ asks (grown (Out 4) 18) (advance 1) 149 0 ∷ asks (grown Whole 18) (advance 1) 149 0
-      ∷ asks (grown Whole 17) (advance 1) 149 0 ∷ asks (grown Whole 17) (advance 1) 150 0
-      ∷ asks small (advance 1) 90 0 ∷ asks (grown Whole 17) (advance 0) 150 0 ∷ asks (grown Whole 0) (advance 1) 150 0
+      ∷ asks (growing (Out 4) 18) (advance 1) 149 0 ∷ asks (growing Whole 18) (advance 1) 149 0
+      ∷ asks (growing Whole 17) (advance 1) 149 0 ∷ asks (growing Whole 17) (advance 1) 150 0
+      ∷ asks small (advance 1) 90 0 ∷ asks (growing Whole 17) (advance 0) 150 0 ∷ asks (growing Whole 0) (advance 1) 150 0
       ∷ []
       ≡ 1 ∷ 1 ∷ 2 ∷ 3 ∷ 5 ∷ 7 ∷ 0 ∷ 5 ∷ 0 ∷ 0 ∷ []
   -- 1, 2, 10 past the last disk and for the one that is out, none; no images are asked for
   pub outs :
       asks short (out 5) 0 0 ∷ asks bad (out 5) 0 0 ∷ asks lost (out 5) 0 0
-      ∷ asks (grown Whole 17) (out 5) 0 0 ∷ asks (grown (Out 4) 17) (out 4) 0 0
-      ∷ asks (grown Whole 17) (out 4) 0 0 ∷ asks (grown (Out 4) 17) (out 3) 0 0
-      ∷ asks (grown (Out 4) 17) (out 5) 0 0 ∷ asks small (out 3) 0 0 ∷ asks small (out 2) 0 0
+      ∷ asks (growing Whole 17) (out 5) 0 0 ∷ asks (growing (Out 4) 17) (out 4) 0 0
+      ∷ asks (growing Whole 17) (out 4) 0 0 ∷ asks (growing (Out 4) 17) (out 3) 0 0
+      ∷ asks (growing (Out 4) 17) (out 5) 0 0 ∷ asks small (out 3) 0 0 ∷ asks small (out 2) 0 0
       ∷ []
       ≡ 1 ∷ 1 ∷ 2 ∷ 10 ∷ 10 ∷ 0 ∷ 0 ∷ 10 ∷ 10 ∷ 0 ∷ []
   -- 1, 2, 7, 10 for another disk and for any if none is out, none
   pub rebuilds :
       asks short (rebuild 3) 149 0 ∷ asks bad (rebuild 3) 149 0 ∷ asks lost (rebuild 3) 149 0
-      ∷ asks (grown (Out 4) 17) (rebuild 3) 149 0 ∷ asks (grown (Out 4) 17) (rebuild 3) 150 0
-      ∷ asks (grown (Out 4) 17) (rebuild 4) 150 0 ∷ asks (grown Whole 17) (rebuild 0) 150 0
-      ∷ asks (grown (Out 4) 18) (rebuild 4) 150 0 ∷ asks (encode (withHealth fresh (Out 1))) (rebuild 1) 90 0
+      ∷ asks (growing (Out 4) 17) (rebuild 3) 149 0 ∷ asks (growing (Out 4) 17) (rebuild 3) 150 0
+      ∷ asks (growing (Out 4) 17) (rebuild 4) 150 0 ∷ asks (growing Whole 17) (rebuild 0) 150 0
+      ∷ asks (growing (Out 4) 18) (rebuild 4) 150 0 ∷ asks (encode (withHealth fresh (Out 1))) (rebuild 1) 90 0
       ∷ []
       ≡ 1 ∷ 1 ∷ 2 ∷ 7 ∷ 10 ∷ 0 ∷ 10 ∷ 0 ∷ 0 ∷ []
   -- 1, and nothing else
   pub statuses :
-      asks short status 0 0 ∷ asks bad status 0 0 ∷ asks sixth status 0 0 ∷ asks lost status 0 0 ∷ asks (grown (Out 4) 18) status 0 0 ∷ []
+      asks short status 0 0 ∷ asks bad status 0 0 ∷ asks sixth status 0 0 ∷ asks lost status 0 0 ∷ asks (growing (Out 4) 18) status 0 0 ∷ []
       ≡ 1 ∷ 1 ∷ 1 ∷ 0 ∷ 0 ∷ []
   -- 1, 8, none; health and images are no matter
   pub locates :
       asks short (locate 30) 0 0 ∷ asks bad (locate 30) 0 0 ∷ asks small (locate 30) 0 0
       ∷ asks small (locate 29) 0 0 ∷ asks lost (locate 29) 0 0 ∷ asks lost (locate 30) 0 0
-      ∷ asks (grown (Out 4) 18) (locate 59) 0 0 ∷ asks (grown (Out 4) 18) (locate 60) 0 0
+      ∷ asks (growing (Out 4) 18) (locate 59) 0 0 ∷ asks (growing (Out 4) 18) (locate 60) 0 0
       ∷ []
       ≡ 1 ∷ 1 ∷ 8 ∷ 0 ∷ 0 ∷ 8 ∷ 0 ∷ 8 ∷ []
   -- 1, 8 by the stripe, 10 by the disk, none; health and images are no matter
