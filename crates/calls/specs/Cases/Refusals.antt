@@ -25,7 +25,7 @@ marks =
     (1 ∷ 1 ∷ 1 ∷ 1 ∷ 1 ∷ 1 ∷ 1 ∷ 1 ∷ 1 ∷ 1 ∷ 1 ∷ [])  -- 1 record
     ∷ (0 ∷ 1 ∷ 1 ∷ 1 ∷ 1 ∷ 1 ∷ 1 ∷ 1 ∷ 0 ∷ 0 ∷ 0 ∷ [])  -- 2 lost
     ∷ (0 ∷ 0 ∷ 0 ∷ 0 ∷ 1 ∷ 1 ∷ 0 ∷ 0 ∷ 0 ∷ 0 ∷ 0 ∷ [])  -- 3 degraded
-    ∷ (0 ∷ 0 ∷ 0 ∷ 0 ∷ 1 ∷ 0 ∷ 0 ∷ 0 ∷ 0 ∷ 0 ∷ 0 ∷ [])  -- 4 growing
+    ∷ (0 ∷ 0 ∷ 0 ∷ 0 ∷ 1 ∷ 0 ∷ 0 ∷ 0 ∷ 0 ∷ 0 ∷ 0 ∷ [])  -- 4 grown
     ∷ (0 ∷ 0 ∷ 0 ∷ 0 ∷ 0 ∷ 1 ∷ 0 ∷ 0 ∷ 0 ∷ 0 ∷ 0 ∷ [])  -- 5 nothing to move
     ∷ (1 ∷ 0 ∷ 0 ∷ 0 ∷ 1 ∷ 0 ∷ 0 ∷ 0 ∷ 0 ∷ 0 ∷ 0 ∷ [])  -- 6 geometry
     ∷ (1 ∷ 1 ∷ 1 ∷ 1 ∷ 1 ∷ 1 ∷ 0 ∷ 1 ∷ 0 ∷ 0 ∷ 0 ∷ [])  -- 7 images
@@ -58,7 +58,7 @@ small = encode fresh
 abbrev pub of-stripes : ℕ → List ℕ
 of-stripes T = encode (formatted 3 1 T)
 
--- .. growing by 2, of length 150, with t of 18 moves done, and capacity 30 or at last 60
+-- .. grown by 2, of length 150, with t of 18 moves done, and capacity 30 or at last 60
 abbrev pub growing : Health → ℕ → List ℕ
 growing h t = encode (withHealth (withMoves (grownBy fresh 2) t) h)
 
@@ -102,7 +102,7 @@ reads c =
     -- 7, 8, 9, none
     ∷ asks (growing Whole 17) (c 30 1) 149 1 ∷ asks (growing Whole 17) (c 30 1) 150 1
     ∷ asks (growing Whole 17) (c 29 1) 150 1 ∷ asks (growing Whole 17) (c 29 2) 150 2
-    -- degraded, growing and idle are no matter
+    -- degraded, grown and idle are no matter
     ∷ asks (growing (Out 4) 17) (c 29 2) 150 2 ∷ asks (growing Whole 18) (c 59 2) 150 2 ∷ asks small (c 29 2) 90 2
     -- the other sides of the bounds
     ∷ asks (growing Whole 18) (c 60 2) 150 2 ∷ asks small (c 30 2) 90 2 ∷ asks small (c 29 2) 91 2 ∷ asks small (c 29 3) 90 3
