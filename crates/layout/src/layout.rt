@@ -12,8 +12,8 @@ ghost use Rattle.layout.specs.Limits.{TakenApart, Sized, Measured, GoodA
 use crate::Found;
 use crate::Geometry;
 use crate::Place;
-use crate::Scaled;
 use crate::Role;
+use crate::Scaled;
 use crate::Slot;
 use crate::Stripe;
 use crate::blanks::count_below;
