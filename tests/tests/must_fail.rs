@@ -61,6 +61,12 @@ const BY_LAW: &[(&str, &str, &[&str])] = &[
         "`kept`",
         &["calls/refusal_clears_block"],
     ),
+    // format is let through by what document 01 asks for
+    (
+        "/proofs/Laws/Table.antt:",
+        "`facts-form`",
+        &["calls/one_length_refused"],
+    ),
     // the part of the images that is returned begins where the definition has it
     (
         "/proofs/viewing/part_of/Proof.antt:",

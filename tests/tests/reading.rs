@@ -49,6 +49,7 @@ const STATEMENTS: &[&str] = &[
     "Demand1",
     "InOrder",
     "OnBytes",
+    "LetThrough",
     "Alone",
     "OneMove",
     "RecordOnly",

@@ -4,6 +4,7 @@ pub mod Carry
 pub mod Stores
 pub mod Runs
 pub mod Rows
+pub mod Health
 pub mod Table
 pub mod Asked
 pub mod Passed

@@ -1,7 +1,7 @@
 -- Format: the images left hold T × (n − 1) blocks of zeroes, whatever it was lent. Assumes nothing.
 use Prim.Native.Nat.{ℕ, _-_, _*_, _<_}
 use mathlib.Core.Path.{_≡_, refl, sym, _∙_}
-use mathlib.Core.Bool.{Bool, true, _&&_}
+use mathlib.Core.Bool.{true}
 use mathlib.Core.List.{List}
 use native.Mathlib.Omega.{arith}
 use native.Mathlib.Nat.{add-zero}
@@ -14,10 +14,8 @@ use Rattle.blocks.proofs.Laws.Grid.{Grid}
 use Rattle.blocks.proofs.Laws.Rows.{sum-zero}
 use Rattle.blocks.proofs.Laws.Xor.{getD-zeros}
 use Rattle.state.specs.declared.Record.{Record}
-use Rattle.state.specs.Good.{geometry, oldGood, blockGood, stripesGood, GoodRecord}
+use Rattle.state.specs.Good.{geometry, GoodRecord}
 use Rattle.state.specs.Update.{formatted}
-use Rattle.state.proofs.Laws.Good.{within-true}
-use Rattle.conditions.proofs.Tests.{both}
 use Rattle.calls.specs.Call.{format, done}
 use Rattle.calls.specs.Health.{absent}
 use Rattle.calls.specs.Images.{disksOf, size, Store, stored, zeroDisks}
@@ -27,6 +25,7 @@ use Rattle.calls.proofs.Laws.Column.{Mask, Fits, Agree, Even, Holds, St
 use Rattle.calls.proofs.Laws.Stores.{Within, length-stored, cell-stored, stored-last, recorded-last, column-zero, within-zero}
 use Rattle.calls.proofs.Laws.Lists.{blank-blocks, bytes-blank, whole-blank}
 use Rattle.calls.proofs.Laws.Holding.{cellIn, Leaves}
+use Rattle.calls.proofs.Laws.Table.{form-facts}
 use Rattle.calls.proofs.Laws.Passed as passed
 
 -- ---- on one byte of every place
@@ -48,13 +47,8 @@ module _ (n B T : ℕ) where
   r = formatted n B T
 
   pub limits : formable n B T ≡ true → GoodRecord r
-  unfolding formable
   limits f =
-      let (fn, f₁) = both (oldGood n) (blockGood B && stripesGood T) f in
-      let (fB, fT) = both (blockGood B) (stripesGood T) f₁ in
-      let (lo, hi) = within-true 3 n 16 fn in
-      let (bl, bh) = within-true 1 B 4096 fB in
-      let (tl, th) = within-true 1 T 1048576 fT in
+      let (lo, hi, bl, bh, tl, th) = form-facts n B T f in
       record {
         array =
             record {

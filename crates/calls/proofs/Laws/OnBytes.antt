@@ -13,7 +13,7 @@ use Rattle.state.specs.Good.{geometry, good}
 use Rattle.state.specs.Bytes.{recordLength, decode, plain, goodBytes, encode}
 use Rattle.state.specs.Update.{formatted}
 use Rattle.state.proofs.Laws.Bytes.{decode-encode, length-encode, plain-encode}
-use Rattle.calls.specs.Call.{Call, format, Event, on, Fed, fed, accepted}
+use Rattle.calls.specs.Call.{Call, format, Event, on, Fed, feed, fed, accepted}
 use Rattle.calls.specs.Images.{zeroDisks}
 use Rattle.calls.specs.Table.{looks, terms, laterRows, table, word, refusal, rowsBytes, refusalBytes}
 use Rattle.calls.specs.Effect.{effect, Left, act, untouched, settle, called, sealed, calledBytes}
@@ -86,13 +86,15 @@ module _ (e : Event) (b : List ℕ) (long : length b ≡ recordLength) (p : plai
   record-seals = rw agrees (seals e b (decode b) (refusal (decode b) (capacity (geometry (decode b))) (fed e)))
 
 -- format, lent any bytes of its length: as on any record
+
+pub format-encode : (n B T len room c : ℕ) (b : List ℕ) (r : Record) → length b ≡ recordLength
+    → refusalBytes b (feed (format n B T) len room) ≡ refusal r c (feed (format n B T) len room)
+unfolding refusalBytes rowsBytes refusal table laterRows terms
+format-encode n B T len room c b r long = rw long refl
+
 module _ (n B T : ℕ) (img room b : List ℕ) (r : Record) (long : length b ≡ recordLength) where
   abbrev e : Event
   e = on (format n B T) img room
-
-  as-on : refusalBytes b (fed e) ≡ refusal r (capacity (geometry r)) (fed e)
-  unfolding refusalBytes rowsBytes refusal table laterRows terms
-  as-on = rw long refl
 
   acts-as-on : act e (decode b) ≡ act e r
   unfolding effect
@@ -100,7 +102,7 @@ module _ (n B T : ℕ) (img room b : List ℕ) (r : Record) (long : length b ≡
 
   settles : calledBytes e b ≡ settle (refusal r (capacity (geometry r)) (fed e)) (untouched e b) (sealed (act e r))
   unfolding calledBytes
-  settles = ap₂ (λ (k : ℕ) (x : Left Record). settle k (untouched e b) (sealed x)) as-on acts-as-on
+  settles = ap₂ (λ (k : ℕ) (x : Left Record). settle k (untouched e b) (sealed x)) (format-encode n B T (length img) (length room) (capacity (geometry r)) b r long) acts-as-on
 
   pub format-seals : Seals b (calledBytes e b) (called e r)
   unfolding called

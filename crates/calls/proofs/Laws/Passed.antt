@@ -1,14 +1,12 @@
 -- What a call has passed that the table lets through: a good record, if it looks at it, and then call by call. Assumes nothing.
 use Prim.Native.Nat.{ℕ, _*_, _<_}
-use mathlib.Core.Path.{_≡_, refl, sym, ap}
+use mathlib.Core.Path.{_≡_}
 use mathlib.Core.Bool.{Bool, true, false, cond, not, _||_}
 use mathlib.Core.List.{List}
-use native.Mathlib.Omega.{arith}
 use lib.Dec.{eqb, ltb}
 use lib.ListN.{length}
-use borrow.Author.Tests.{eqb-true, not-false}
-use Rattle.state.specs.declared.Health.the-variants.{Whole, Out, Lost}
-use Rattle.state.specs.declared.Health.{Health}
+use borrow.Author.Tests.{not-false}
+use Rattle.state.specs.declared.Health.the-variants.{Whole, Out}
 use Rattle.state.specs.declared.Record.{Record}
 use Rattle.layout.specs.Layout.{capacity}
 use Rattle.state.specs.Good.{geometry, newGood, good, GoodRecord}
@@ -19,19 +17,8 @@ use Rattle.calls.specs.Health.{isLost, isDegraded, isOut}
 use Rattle.calls.specs.Images.{disksOf, size, sizeWith}
 use Rattle.calls.specs.Table.{idle, formable, looks, terms, laterRows, word, table, refusal, rowsBytes, refusalBytes}
 use Rattle.conditions.proofs.Tests.{equal, below, neither}
+use Rattle.calls.proofs.Laws.Health.{all-in, which}
 use Rattle.calls.proofs.Laws.Table.{passes}
-
--- every disk is in
-all-in : (h : Health) → isDegraded h ≡ false → h ≡ Whole
-all-in Whole e = refl
-all-in (Out d) e = let z : Out d ≡ Whole = cc in z
-all-in Lost e = let z : Lost ≡ Whole = cc in z
-
--- the disk that is out
-which : (h : Health) (d : ℕ) → isLost h ≡ false → isOut h d ≡ true → h ≡ Out d
-which Whole d nl u = absurd (let w : _≡_ {A = ℕ} 0 1 = cc in omega arith)
-which (Out o) d nl u = ap Out (sym (eqb-true d o u))
-which Lost d nl u = absurd (let w : _≡_ {A = ℕ} 0 1 = cc in omega arith)
 
 pub record Formats (n B T len : ℕ) : Type 0 where
   pub fits : formable n B T ≡ true
@@ -85,12 +72,33 @@ passed-bytes b e z =
     let r : Record = decode b in
     passed-on (e .call) (not (eqb (length b) recordLength)) (not (goodBytes b)) r (capacity (geometry r)) (e .images) (e .room) z
 
--- and if it looks at the record, that is good
+-- the record's bytes were so many ..
+pub was-long : (b : List ℕ) (e : Fed) → refusalBytes b e ≡ 0 → length b ≡ recordLength
+unfolding refusalBytes rowsBytes table
+was-long b e z =
+    let r : Record = decode b in
+    equal _ _ (go (looks (e .call)) _ (not (goodBytes b)) (passes _ 0 (word (laterRows (e .call) r (capacity (geometry r)) (e .images) (e .room))) z .0))
+  where
+    go : (l short bad : Bool) → cond l (short || bad) short ≡ false → short ≡ false
+    go true short bad q = neither short bad q .0
+    go false short bad q = q
+
+-- .. and if the call looks at the record, that is good
+looked : (x : Call) (short bad : Bool) (r : Record) (c len room : ℕ) → looks x ≡ true → word (table x short bad r c len room) ≡ 0 → bad ≡ false
+unfolding table
+looked x short bad r c len room l z =
+    let p = passes (cond (looks x) (short || bad) short) 0 (word (laterRows x r c len room)) z .0 in
+    neither short bad (rw l at p) .1
+
 was-good : (r : Record) (c : ℕ) (e : Fed) → looks (e .call) ≡ true → refusal r c e ≡ 0 → good r ≡ true
-unfolding refusal table
-was-good r c e l z =
-    let p = passes (cond (looks (e .call)) (false || not (good r)) false) 0 (word (laterRows (e .call) r c (e .images) (e .room))) z .0 in
-    not-false _ (rw l at p)
+unfolding refusal
+was-good r c e l z = not-false _ (looked (e .call) false (not (good r)) r c (e .images) (e .room) l z)
+
+pub were-good : (b : List ℕ) (e : Fed) → looks (e .call) ≡ true → refusalBytes b e ≡ 0 → goodBytes b ≡ true
+unfolding refusalBytes rowsBytes
+were-good b e l z =
+    let r : Record = decode b in
+    not-false _ (looked (e .call) (not (eqb (length b) recordLength)) (not (goodBytes b)) r (capacity (geometry r)) (e .images) (e .room) l z)
 
 pub in-limits : (r : Record) (c : ℕ) (e : Fed) → looks (e .call) ≡ true → refusal r c e ≡ 0 → GoodRecord r
 in-limits r c e l z = limits r (was-good r c e l z)

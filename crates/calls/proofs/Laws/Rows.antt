@@ -86,7 +86,7 @@ silent (x ∷ rows) low w q = go (x .1) refl q (λ u. silent rows (x .0) (w .1) 
     go true p u ih = absurd (let l : low < x .0 = w .0 in omega arith)
     go false p u ih = (p, ih u)
 
-still : (rows : List Row) → NoneHolds rows → word rows ≡ 0
+pub still : (rows : List Row) → NoneHolds rows → word rows ≡ 0
 unfolding NoneHolds
 still [] h = refl
 still (x ∷ rows) h = rw (h .0) (still rows (h .1))

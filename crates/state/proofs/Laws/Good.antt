@@ -23,7 +23,7 @@ use Rattle.conditions.proofs.Tests.{both, and-true}
 pub within-true : (low x high : ℕ) → within low x high ≡ true → (low ≤ x) × (x ≤ high)
 within-true low x high e = let p = both _ _ e in (leb-true _ _ (p .0), leb-true _ _ (p .1))
 
-true-within : (low x high : ℕ) → low ≤ x → x ≤ high → within low x high ≡ true
+pub true-within : (low x high : ℕ) → low ≤ x → x ≤ high → within low x high ≡ true
 true-within low x high p q = and-true _ _ (le-leb _ _ p) ∙ le-leb _ _ q
 
 -- ---- new disks
@@ -35,7 +35,7 @@ new-good n m T e =
     let w = within-true 1 m 16 (p .0) in
     (w .0, w .1, eqb-true _ _ (p .1))
 
-good-new : (n m T : ℕ) → 1 ≤ m → m ≤ 16 → T % (n * (n + m)) ≡ 0 → newGood n m T ≡ true
+pub good-new : (n m T : ℕ) → 1 ≤ m → m ≤ 16 → T % (n * (n + m)) ≡ 0 → newGood n m T ≡ true
 unfolding newGood
 good-new n m T p q z = and-true _ _ (true-within 1 m 16 p q) ∙ eq-eqb _ _ z
 
