@@ -1,6 +1,6 @@
 -- Rebuild: disk d, stripe by stripe from S₀ on, as the xor of the others; what is stored on it changes none of these. Assumes nothing.
 use Prim.Native.Nat.{ℕ, zero, suc, _+_, _≤_, _<_}
-use mathlib.Core.Path.{_≡_, refl, sym, ap, ap₂, _∙_, subst}
+use mathlib.Core.Path.{_≡_, refl, sym, ap, ap₂, _∙_}
 use mathlib.Core.Logic.{inr}
 use mathlib.Core.List.{List, [], _∷_}
 use native.Mathlib.Nat.{le-antisymm}
@@ -12,10 +12,10 @@ use Rattle.blocks.specs.Block.{store}
 use Rattle.blocks.specs.Stripe.{offset, others}
 use Rattle.blocks.proofs.Laws.Stripe.{length-others, others-store}
 use Rattle.state.specs.declared.Health.the-variants.{Whole}
-use Rattle.state.specs.declared.Health.{Health}
 use Rattle.state.specs.declared.Record.{Record}
-use Rattle.state.specs.Good.{geometry, OutBelow, GoodRecord}
+use Rattle.state.specs.Good.{geometry, GoodRecord}
 use Rattle.state.specs.Update.{withHealth}
+use Rattle.state.proofs.Laws.Good.{out-lt}
 use Rattle.calls.specs.Call.{rebuild, feed, on, done}
 use Rattle.calls.specs.Images.{disksOf, size, othersIn, block, stored, fillDisk}
 use Rattle.calls.specs.Table.{refusalOf}
@@ -81,7 +81,7 @@ module _ (img : List ℕ) (r : Record) (d : ℕ) (z : refusalOf r (feed (rebuild
   pub rebuild-passed : GoodRecord r × (d < disksOf r) × (0 + r .stripes ≤ r .stripes) × (length img ≡ size r)
   rebuild-passed =
       let l : GoodRecord r = in-limits r (capacity (geometry r)) (feed (rebuild d) (length img) 0) refl z in
-      (l, subst (λ (h : Health). OutBelow (disksOf r) h) (at-once .is-out) (l .out), omega arith, at-once .long)
+      (l, out-lt r d l (at-once .is-out), omega arith, at-once .long)
 
   pub rebuild-done : called (on (rebuild d) img []) r
       ≡ record { answer = done; state = withHealth r Whole; images = stored (r .block) (r .stripes) (fillDisk 0 (r .stripes) d (λ S. othersIn r img S d)) img; room = [] }

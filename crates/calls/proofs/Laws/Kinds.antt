@@ -1,7 +1,7 @@
 -- What holds of a call by what it does: it tells, it fills, or it stores. One function by cases on the call, `facts`; what else is said of
 -- every call is read off it. Assumes nothing.
 use Prim.Native.Nat.{ℕ, _+_, _≤_, _<_}
-use mathlib.Core.Path.{_≡_, refl, sym, _∙_, subst}
+use mathlib.Core.Path.{_≡_, refl, sym, _∙_}
 use mathlib.Core.Bool.{Bool, true, false, cond}
 use mathlib.Core.List.{List, [], _∷_, _++_}
 use native.Mathlib.Omega.{arith}
@@ -10,12 +10,12 @@ use Rattle.layout.specs.Layout.{capacity}
 use Rattle.layout.proofs.Laws.Layout.{lawful}
 use Rattle.blocks.proofs.Laws.Stripe.{length-others}
 use Rattle.state.specs.declared.Health.the-variants.{Whole}
-use Rattle.state.specs.declared.Health.{Health}
 use Rattle.state.specs.declared.Record.{Record}
-use Rattle.state.specs.Good.{geometry, OutBelow, GoodRecord}
+use Rattle.state.specs.Good.{geometry, GoodRecord}
 use Rattle.calls.specs.Call.{Call, format, read, view, write, grow, advance, out, rebuild, status, locate, owner}
 use Rattle.calls.specs.Call.{Event, Fed, feed, Answer, accepted, number, done}
 use Rattle.state.specs.Update.{formatted, grownBy, withHealth}
+use Rattle.state.proofs.Laws.Good.{out-lt}
 use Rattle.calls.specs.Health.{absent}
 use Rattle.calls.specs.Images.{disksOf, othersIn, Store, header, stored, storedIn, recorded, fillDisk, zeroDisks}
 use Rattle.calls.specs.Table.{looks, refusalOf}
@@ -78,7 +78,7 @@ module _ (r : Record) (e : Event) where
 
   -- the disk that is out is below N
   pub below-N : (d : ℕ) → Passed (rebuild d) → d < disksOf r
-  below-N d z = subst (λ (x : Health). OutBelow (disksOf r) x) (rebuilding d z .is-out) (bounds (rebuild d) refl z .out)
+  below-N d z = out-lt r d (bounds (rebuild d) refl z) (rebuilding d z .is-out)
 
   -- ---- the stores of each call that makes any
 

@@ -11,6 +11,7 @@ use Rattle.state.specs.declared.Health.{Health}
 use Rattle.state.specs.declared.Record.{Record}
 use Rattle.state.specs.Good.{geometry, OutBelow}
 use Rattle.state.specs.Update.{withHealth}
+use Rattle.state.proofs.Laws.Good.{turned}
 use Rattle.calls.specs.Call.{out}
 use Rattle.calls.specs.Health.{isLost, absent, afterOut}
 use Rattle.calls.specs.Images.{disksOf}
@@ -40,7 +41,7 @@ module _ (r : Record) (left : List ℕ) (bs : List (List ℕ)) (h : Holding r le
   outs z =
       let q = passed.falls r c len room d z in
       record {
-        limits = record { array = h .limits .array; block-low = h .limits .block-low; block-high = h .limits .block-high; out = out-below (r .health) (q .disk-lt) };
+        limits = turned r (afterOut (r .health) d) (h .limits) (out-below (r .health) (q .disk-lt));
         long = h .long;
         count = h .count;
         whole = h .whole;

@@ -1,6 +1,6 @@
 -- Rebuild: the disk that was out is written as it was seen, and every disk is in again. Assumes nothing.
 use Prim.Native.Nat.{ℕ, _<_}
-use mathlib.Core.Path.{_≡_, refl, ap, _∙_, subst}
+use mathlib.Core.Path.{_≡_, refl, ap, _∙_}
 use mathlib.Core.Bool.{Bool, false, cond}
 use mathlib.Core.List.{List}
 use native.Mathlib.Decide.{ℕ-discrete}
@@ -12,10 +12,10 @@ use Rattle.layout.specs.Layout.{layout}
 use Rattle.blocks.proofs.Laws.Rows.{put, rest, put-same, put-other}
 use Rattle.blocks.proofs.Laws.Stripe.{length-others, getD-others}
 use Rattle.state.specs.declared.Health.the-variants.{Whole, Out}
-use Rattle.state.specs.declared.Health.{Health}
 use Rattle.state.specs.declared.Record.{Record}
-use Rattle.state.specs.Good.{geometry, OutBelow}
+use Rattle.state.specs.Good.{geometry}
 use Rattle.state.specs.Update.{withHealth}
+use Rattle.state.proofs.Laws.Good.{out-lt, turned}
 use Rattle.calls.specs.Call.{rebuild, done}
 use Rattle.calls.specs.Health.{isLost, absent}
 use Rattle.calls.specs.Images.{disksOf, size, othersIn, Store, stored, fillDisk}
@@ -57,14 +57,14 @@ module _ (r : Record) (img room : List ℕ) (bs : List (List ℕ)) (lends : leng
       let h : Holding r img bs = lends long in
       let hd : r .health ≡ Out d = q .is-out in
       let nl : isLost (r .health) ≡ false = rw hd refl in
-      let ld : d < disksOf r = subst (λ (x : Health). OutBelow (disksOf r) x) hd (h .limits .out) in
+      let ld : d < disksOf r = out-lt r d (h .limits) hd in
       let x : Record = withHealth r Whole in
       record {
         answer = refl;
         state = recorded-last ps x r;
         holding =
             record {
-              limits = record { array = h .limits .array; block-low = h .limits .block-low; block-high = h .limits .block-high; out = tt };
+              limits = turned r Whole (h .limits) tt;
               long = rw (stored-last (r .block) (r .stripes) ps x img) (length-stored (r .block) (r .stripes) ps img ∙ long);
               count = h .count;
               whole = h .whole;

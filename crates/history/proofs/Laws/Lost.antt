@@ -9,7 +9,7 @@ use Rattle.state.specs.declared.Health.the-variants.{Out, Lost}
 use Rattle.state.specs.declared.Record.{Record}
 use Rattle.state.specs.Good.{good}
 use Rattle.state.specs.Update.{withHealth}
-use Rattle.state.proofs.Laws.Good.{limits, within-limits}
+use Rattle.state.proofs.Laws.Good.{limits, within-limits, turned}
 use Rattle.calls.specs.Call.{Call, format, read, view, write, grow, advance, out, Fed, Answer, refused, accepted}
 use Rattle.calls.specs.Table.{terms, refusal}
 use Rattle.calls.proofs.Laws.Table.{StopsLost, given-2}
@@ -19,9 +19,7 @@ use Rattle.history.proofs.Laws.Look.{Look, opens, puts, grows, moves, t
 
 -- a good record stays good when it is lost
 good-lost : (r : Record) → good r ≡ true → good (withHealth r Lost) ≡ true
-good-lost r g =
-    let l = limits r g in
-    within-limits (withHealth r Lost) (record { array = l .array; block-low = l .block-low; block-high = l .block-high; out = tt })
+good-lost r g = within-limits (withHealth r Lost) (turned r Lost (limits r g) tt)
 
 module _ (f : Flat) where
   abbrev R : Fed → ℕ

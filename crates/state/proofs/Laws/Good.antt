@@ -1,6 +1,6 @@
 -- The limits of a record, from the tests to the facts and back. Assumes nothing.
 use Prim.Native.Nat.{ℕ, _+_, _*_, _%_, _≤_, _<_}
-use mathlib.Core.Path.{_≡_, refl, _∙_}
+use mathlib.Core.Path.{_≡_, refl, _∙_, subst}
 use mathlib.Core.Bool.{Bool, true, false, cond, _&&_}
 use mathlib.Core.Logic.{_≢_}
 use native.Mathlib.Decide.{ℕ-discrete}
@@ -15,6 +15,7 @@ use Rattle.layout.proofs.Laws.Zones.{total-none}
 use Rattle.state.specs.declared.Health.the-variants.{Whole, Out, Lost}
 use Rattle.state.specs.declared.Health.{Health}
 use Rattle.state.specs.declared.Record.{Record}
+use Rattle.state.specs.Update.{withHealth}
 use Rattle.state.specs.Good.{geometry, within, newGood, movesGood, healthGood, good, OutBelow, GoodRecord}
 use Rattle.conditions.proofs.Tests.{both, and-true}
 
@@ -148,3 +149,11 @@ within-limits r l =
     ∙ and-true _ _ (true-within 1 (r .stripes) 1048576 (a .stripes-low) (a .stripes-high))
     ∙ and-true _ _ (good-moves (geometry r) v)
     ∙ below-out (r .old + r .new) (r .health) (l .out)
+
+-- the disk that is out is a disk of the array
+pub out-lt : (r : Record) (d : ℕ) → GoodRecord r → r .health ≡ Out d → d < r .old + r .new
+out-lt r d l e = subst (λ (x : Health). OutBelow (r .old + r .new) x) e (l .out)
+
+-- another health
+pub turned : (r : Record) (h : Health) → GoodRecord r → OutBelow (r .old + r .new) h → GoodRecord (withHealth r h)
+turned r h l o = record { array = l .array; block-low = l .block-low; block-high = l .block-high; out = o }
