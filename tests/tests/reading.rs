@@ -84,7 +84,6 @@ const DATA: &[(&str, &str)] = &[
     ("calls", "Event"),
     ("calls", "Fed"),
     ("calls", "Row"),
-    ("calls", "Effect"),
     ("history", "Flat"),
     ("history", "Step"), // a call of the sample's script, with what it is lent
 ];

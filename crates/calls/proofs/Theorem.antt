@@ -1,4 +1,4 @@
--- Demand 1, as far as the definitions go: `demand1`; `in-order` and `on-bytes`. Assumes nothing.
+-- Demand 1, as far as the definitions go: `demand1`; `in-order`, `on-bytes` and `values`. Assumes nothing.
 use Prim.Native.Nat.{ℕ, zero, suc}
 use mathlib.Core.Path.{_≡_, refl}
 use mathlib.Core.Bool.{false}
@@ -10,10 +10,11 @@ use Rattle.state.specs.Bytes.{decode}
 use Rattle.calls.specs.Call.{Event, fed, accepted, number, shown, beside}
 use Rattle.calls.specs.Table.{rowsBytes, refusalBytes}
 use Rattle.calls.specs.Effect.{Left, act, untouched, settle, sealed, calledBytes}
-use Rattle.calls.specs.Theorem.{Given, Answered, Demand1, InOrder, OnBytes}
+use Rattle.calls.specs.Theorem.{Given, Answered, Demand1, InOrder, OnBytes, Values}
 use Rattle.calls.proofs.Laws.Rows.{rises, given}
 use Rattle.calls.proofs.Laws.Advance.{advance-split}
 use Rattle.calls.proofs.Laws.OnBytes as bytes
+use Rattle.calls.proofs.Laws.Acting.{zero-done}
 use Rattle.calls.proofs.Laws.Kinds.{facts, numbered}
 
 module _ (e : Event) (b : List ℕ) where
@@ -67,3 +68,15 @@ in-order = advance-split
 
 pub on-bytes : OnBytes
 on-bytes = bytes.on-bytes
+
+pub values : Values
+values =
+    record {
+      refusals = λ w k. (refl, refl, refl);
+      accepts = zero-done;
+      counts = λ w k. (refl, refl, refl);
+      statuses = λ w c t total h. refl;
+      places = λ w q. refl;
+      owners = λ w b. (refl, refl, refl);
+      views = λ w v. (refl, refl, refl);
+    }

@@ -1,15 +1,20 @@
 -- DEMAND 1, as far as the definitions go: "The lent images, record, block and scratch hold after a refused call the very bytes they
 -- held before it, nonsense records and lengths included; every call .. refuses exactly as the table says".
--- The statement is `Demand1`; `demand1` of proofs/Theorem.antt proves it, `in-order` and `on-bytes` the two behind it.
+-- The statement is `Demand1`; `demand1` of proofs/Theorem.antt proves it, `in-order`, `on-bytes` and `values` the three
+-- behind it.
 use Prim.Native.Nat.{ℕ, _+_, _<_}
 use mathlib.Core.Path.{_≡_}
 use mathlib.Core.Bool.{Bool, true, false}
 use mathlib.Core.Logic.{_↔_, _≢_}
 use mathlib.Core.List.{List, [], _∷_, _++_}
 use lib.ListN.{replicate}
+use Rattle.layout.specs.declared.Place.{Place}
+use Rattle.layout.specs.declared.Role.the-variants.{Data, Parity, Blank}
+use Rattle.state.specs.declared.Health.{Health}
 use Rattle.state.specs.declared.Record.{Record}
-use Rattle.state.specs.Bytes.{encode}
-use Rattle.calls.specs.Call.{Event, fed, accepted, number, shown, beside}
+use Rattle.state.specs.Bytes.{healthByte, diskByte, encode}
+use Rattle.calls.specs.Call.{Event, fed, Answer, refused, done, bytes, made, figures, placed, owned}
+use Rattle.calls.specs.Call.{accepted, number, shown, count, beside}
 use Rattle.calls.specs.Images.{storedIn, recorded}
 use Rattle.calls.specs.Table.{Row, word, rowsBytes, refusalBytes}
 use Rattle.calls.specs.Effect.{advanceStores, called, sealed, calledBytes}
@@ -54,3 +59,19 @@ InOrder =
 -- What is proved of calls on a record's bytes holds of calls on the record. (`on-bytes`)
 abbrev pub OnBytes : Type 0
 OnBytes = (e : Event) (r : Record) → calledBytes e (encode r) ≡ sealed (called e r)
+
+-- An answer in numbers, for all of them: "0 is done. A refusal returns zeros beside its number, an empty view". (`values`)
+pub record Values : Type 0 where
+  pub refusals : (w k : ℕ) → (number (refused k) ≡ k) × (beside w (refused k) ≡ replicate w 0) × (shown (refused k) ≡ [])
+  pub accepts : (a : Answer) → accepted a ≡ true → number a ≡ 0
+  -- advance's count
+  pub counts : (w k : ℕ) → (beside w (made k) ≡ k ∷ []) × (count (made k) ≡ k) × (count (refused k) ≡ 0)
+  -- status's capacity, t, total, health and the disk that is out
+  pub statuses : (w c t total : ℕ) (h : Health) → beside w (figures c t total h) ≡ c ∷ t ∷ total ∷ healthByte h ∷ diskByte h ∷ []
+  -- locate's stripe and disk
+  pub places : (w : ℕ) (q : Place) → beside w (placed q) ≡ q .stripe ∷ q .disk ∷ []
+  -- owner's role, blank 0, parity 1, data 2, and block
+  pub owners : (w b : ℕ)
+      → (beside w (owned Blank) ≡ 0 ∷ 0 ∷ []) × (beside w (owned Parity) ≡ 1 ∷ 0 ∷ []) × (beside w (owned (Data b)) ≡ 2 ∷ b ∷ [])
+  -- the bytes that view returns; and nothing beside what has no numbers
+  pub views : (w : ℕ) (v : List ℕ) → (shown (bytes v) ≡ v) × (beside w (bytes v) ≡ []) × (beside w done ≡ [])

@@ -9,7 +9,7 @@ use Rattle.state.specs.Good.{newGood, movesGood, good}
 use Rattle.calls.specs.Images.{stored, recorded}
 use Rattle.calls.specs.Table.{idle, formable, terms, laterRows, table, refusal}
 use Rattle.calls.specs.Effect.{moveStores, advanceStores, effect, called}
-use Rattle.calls.specs.Cases.Bench.{Bench, Unmarked, Values}
+use Rattle.calls.specs.Cases.Bench.{Bench, Unmarked}
 
 pub bench : Bench
 unfolding dataDisk homeStripe homeDisk rankOf homeBlock homeOwner moveZone moveTo moveLag moveWithin moveStripe moveFrom total lag target turn isMoved diskAt source taken blanksBelow blanks newStripe newDisk newBlock openStripes capacity grownPlace grownParity newOwner grownOwner newGood movesGood good stored recorded idle formable terms laterRows table refusal effect called
@@ -33,14 +33,4 @@ unmarked = record {
   block = (refl, refl, refl, refl);
   stripes = (refl, refl, refl, refl);
   finished = (refl, refl);
-}
-
-pub values : Values
-values = record {
-  counts = (refl, refl, refl);
-  statuses = (refl, refl, refl);
-  places = refl;
-  owners = (refl, refl, refl);
-  views = (refl, refl, refl);
-  refusals = (refl, refl, refl, refl);
 }

@@ -20,10 +20,6 @@ use Rattle.calls.proofs.Laws.Column.{reseen}
 use Rattle.calls.proofs.Laws.Holding.{Holding, bytesAt, cellIn, single}
 use Rattle.calls.proofs.Laws.Passed as passed
 
--- "out with another disk becomes lost"
-pub lost-by : (o d : ℕ) → afterOut (Out o) d ≡ Lost
-lost-by o d = refl
-
 module _ (r : Record) (left : List ℕ) (bs : List (List ℕ)) (h : Holding r left bs) (d : ℕ) (c len room : ℕ) where
   out-below : (x : Health) → d < disksOf r → OutBelow (disksOf r) (afterOut x d)
   out-below Whole l = l

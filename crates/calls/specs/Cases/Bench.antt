@@ -1,18 +1,18 @@
 -- The worked cases of document 01, "Drawers on the bench", over the definitions of the calls. `Bench` is the one table of those marked (P),
--- `Unmarked` has the others, `Values` answers in numbers; `bench`, `unmarked` and `values` of proofs/Cases/Bench.antt compute them.
+-- `Unmarked` has the others; `bench` and `unmarked` of proofs/Cases/Bench.antt compute them.
 use Prim.Native.Nat.{ℕ, _*_}
 use mathlib.Core.Path.{_≡_}
-use mathlib.Core.List.{[], _∷_}
-use Rattle.layout.specs.declared.Role.the-variants.{Data, Parity, Blank}
+use mathlib.Core.List.{[]}
+use Rattle.layout.specs.declared.Role.the-variants.{Data, Parity}
 use Rattle.layout.specs.Home.{placeAt}
 use Rattle.layout.specs.Moves.{moveOf, total}
 use Rattle.layout.specs.Cases.Paper.{move}
 use Rattle.blocks.specs.Block.{zeros}
-use Rattle.state.specs.declared.Health.the-variants.{Whole, Out, Lost}
+use Rattle.state.specs.declared.Health.the-variants.{Whole}
 use Rattle.state.specs.declared.Record.{Record}
 use Rattle.state.specs.Update.{formatted, grownBy, withMoves}
 use Rattle.calls.specs.Call.{Call, format, grow, advance, status, locate, owner}
-use Rattle.calls.specs.Call.{Answer, refused, done, bytes, made, figures, placed, owned, number, shown, count, beside}
+use Rattle.calls.specs.Call.{Answer, refused, made, figures, placed, owned}
 use Rattle.calls.specs.Images.{size}
 use Rattle.calls.specs.Table.{refusal}
 use Rattle.calls.specs.Effect.{placeOf, called}
@@ -83,17 +83,3 @@ pub record Unmarked : Type 0 where
   pub stripes : (formats 3 1 0 ≡ 6) × (formats 3 1 1 ≡ 0) × (formats 3 1 1048576 ≡ 0) × (formats 3 1 1048577 ≡ 6)
   -- "Advance 100 at t = 17 reports 1; again gives 5."
   pub finished : (advanced 100 (mill 17) ≡ made 1) × (advanced 100 (mill 18) ≡ refused 5)
-
--- ---- answers in numbers
-
-pub record Values : Type 0 where
-  -- advance's count; status's capacity, t, total, health and disk; locate's stripe and disk; owner's role and block
-  pub counts : (beside 1 (made 7) ≡ 7 ∷ []) × (count (made 7) ≡ 7) × (count (refused 7) ≡ 0)
-  pub statuses : (beside 5 (figures 60 17 18 (Out 3)) ≡ 60 ∷ 17 ∷ 18 ∷ 1 ∷ 3 ∷ [])
-      × (beside 5 (figures 30 0 0 Whole) ≡ 30 ∷ 0 ∷ 0 ∷ 0 ∷ 0 ∷ []) × (beside 5 (figures 30 4 18 Lost) ≡ 30 ∷ 4 ∷ 18 ∷ 2 ∷ 0 ∷ [])
-  pub places : beside 2 (placed (placeAt 1 2)) ≡ 1 ∷ 2 ∷ []
-  pub owners : (beside 2 (owned (Data 9)) ≡ 2 ∷ 9 ∷ []) × (beside 2 (owned Parity) ≡ 1 ∷ 0 ∷ []) × (beside 2 (owned Blank) ≡ 0 ∷ 0 ∷ [])
-  -- a view's bytes; and nothing beside what has no numbers
-  pub views : (shown (bytes (5 ∷ 6 ∷ [])) ≡ 5 ∷ 6 ∷ []) × (beside 0 (bytes (5 ∷ 6 ∷ [])) ≡ []) × (beside 0 done ≡ [])
-  -- refused
-  pub refusals : (number (refused 8) ≡ 8) × (number done ≡ 0) × (beside 5 (refused 2) ≡ 0 ∷ 0 ∷ 0 ∷ 0 ∷ 0 ∷ []) × (shown (refused 2) ≡ [])

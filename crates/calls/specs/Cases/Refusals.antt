@@ -144,14 +144,15 @@ pub record Refusals : Type 0 where
       ∷ asks (of-stripes 57) (grow 16) 1083 0 ∷ asks (of-stripes 60) (grow 17) 1200 0 ∷ asks (of-stripes 12) (grow 1) 48 0
       ∷ []
       ≡ 1 ∷ 1 ∷ 2 ∷ 3 ∷ 4 ∷ 6 ∷ 7 ∷ 0 ∷ 6 ∷ 6 ∷ 7 ∷ 0 ∷ 6 ∷ 0 ∷ []
-  -- 1, 2, 3, 5, 7, none; 5 with m = 0; k = 0 is no refusal
+  -- 1, 2, 3, 5, 7, none; 5 with m = 0; k = 0 is no refusal, and spares none
   pub advances :
       asks short (advance 1) 149 0 ∷ asks bad (advance 1) 149 0 ∷ asks lost (advance 1) 149 0
       ∷ asks (growing (Out 4) 18) (advance 1) 149 0 ∷ asks (growing Whole 18) (advance 1) 149 0
       ∷ asks (growing Whole 17) (advance 1) 149 0 ∷ asks (growing Whole 17) (advance 1) 150 0
       ∷ asks small (advance 1) 90 0 ∷ asks (growing Whole 17) (advance 0) 150 0 ∷ asks (growing Whole 0) (advance 1) 150 0
+      ∷ asks (growing Whole 18) (advance 0) 150 0 ∷ asks small (advance 0) 90 0
       ∷ []
-      ≡ 1 ∷ 1 ∷ 2 ∷ 3 ∷ 5 ∷ 7 ∷ 0 ∷ 5 ∷ 0 ∷ 0 ∷ []
+      ≡ 1 ∷ 1 ∷ 2 ∷ 3 ∷ 5 ∷ 7 ∷ 0 ∷ 5 ∷ 0 ∷ 0 ∷ 5 ∷ 5 ∷ []
   -- 1, 2, 10 past the last disk and for the one that is out, none; no images are asked for
   pub outs :
       asks short (out 5) 0 0 ∷ asks bad (out 5) 0 0 ∷ asks lost (out 5) 0 0

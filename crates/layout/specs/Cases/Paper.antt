@@ -1,6 +1,6 @@
 -- Worked cases over the definitions; `paper` of proofs/Cases/Paper.antt computes them: the paper's table 2, figure 5 and figure 6(a), and
 -- three growths whose values were found by replaying the moves of document 01's rule one by one on a table of places.
--- (Document 01's cases are one table over the calls: crate `calls`, Bench.antt.)
+-- (Document 01's cases are one table over the calls: crate `calls`, specs/Cases/Bench.antt.)
 use Prim.Native.Nat.{ℕ, zero, suc}
 use mathlib.Core.Path.{_≡_}
 use mathlib.Core.List.{List, [], _∷_}
