@@ -85,10 +85,10 @@ const BY_LAW: &[(&str, &str, &[&str])] = &[
         "`good-bytes`",
         &["state/unread_bytes_ignored"],
     ),
-    // what every field is behind an update
+    // another health, and all else as it was
     (
-        "/proofs/Theorem.antt:",
-        "`updates`",
+        "/proofs/Laws/Good.antt:",
+        "`turned`",
         &["state/health_restarts_growth"],
     ),
 ];
