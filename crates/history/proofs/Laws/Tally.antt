@@ -8,10 +8,11 @@ use lib.ListN.{length}
 use Rattle.layout.specs.declared.Geometry.{Geometry}
 use Rattle.layout.specs.Layout.{totalOf}
 use Rattle.state.specs.declared.Record.{Record}
+use Rattle.state.specs.Update.{withHealth}
 use Rattle.calls.specs.Call.{Call, Fed, Answer, accepted, count}
 use Rattle.calls.specs.Table.{idle, refusal}
 use Rattle.calls.proofs.Laws.Table.{none-left, over}
-use Rattle.history.specs.Flat.{Flat, flatAct, flatSettle, flatStep}
+use Rattle.history.specs.Flat.{Flat, flat, flatAct, flatSettle, flatStep}
 use Rattle.history.specs.Theorem.{tallied, tally}
 use Rattle.history.proofs.Laws.Look.{Uncounted, Look, opens, puts, grows, moves, turns, tells, look}
 
@@ -28,6 +29,12 @@ same-sum c a sum u = go (accepted a)
     go true = u (count a) sum
     go false = refl
 
+-- so where it leaves m and t, t is the sum still
+uncounted : (c : Call) (a : Answer) (r r′ : Record) (bs : List (List ℕ)) (sum : ℕ) → Uncounted c → r′ .new ≡ r .new → r′ .moves ≡ r .moves
+    → (r .new ≢ 0 → r .moves ≡ sum) → Counted (flat r′ bs) (tally c a sum)
+unfolding Counted
+uncounted c a r r′ bs sum u same-m same-t h q = same-t ∙ h (λ z. q (same-m ∙ z)) ∙ sym (same-sum c a sum u)
+
 counted-act : {c : Call} (r : Record) (bs : List (List ℕ)) (sum : ℕ) → Look r bs c → (r .new ≢ 0 → r .moves ≡ sum)
     → Counted (flatAct c r bs .1) (tally c (flatAct c r bs .0) sum)
 unfolding Counted flatAct tallied tally
@@ -35,10 +42,8 @@ counted-act r bs sum (opens n B T) h = λ q. absurd (q refl)
 counted-act r bs sum (puts b v s) h = h
 counted-act r bs sum (grows m s) h = λ q. refl
 counted-act r bs sum (moves k s) h = λ q. rw (h q)
-counted-act r bs sum (turns c x e u s) h =
-    λ q. ap (λ (f : Flat). f .numbers .moves) e ∙ h (λ z. q (ap (λ (f : Flat). f .numbers .new) e ∙ z)) ∙ sym (same-sum c (flatAct c r bs .0) sum u)
-counted-act r bs sum (tells c e u) h =
-    λ q. ap (λ (f : Flat). f .numbers .moves) e ∙ h (λ z. q (ap (λ (f : Flat). f .numbers .new) e ∙ z)) ∙ sym (same-sum c (flatAct c r bs .0) sum u)
+counted-act r bs sum (turns c x e u s) h = rw e (uncounted c (flatAct c r bs .0) r (withHealth r x) bs sum u refl refl h)
+counted-act r bs sum (tells c e u) h = rw e (uncounted c (flatAct c r bs .0) r r bs sum u refl refl h)
 
 pub counted-step : (e : Fed) (f : Flat) (sum : ℕ) → Counted f sum → Counted (flatStep e f .1) (tally (e .call) (flatStep e f .0) sum)
 unfolding flatStep Counted tally
