@@ -14,7 +14,7 @@ use Rattle.state.specs.declared.Health.the-variants.{Whole}
 use Rattle.state.specs.declared.Record.{Record}
 use Rattle.state.specs.Good.{geometry, newGood, good, GoodRecord}
 use Rattle.state.specs.Bytes.{decode, plain, encode, AreBytes}
-use Rattle.state.proofs.Laws.Good.{new-good, good-new, within-limits}
+use Rattle.state.proofs.Laws.Good.{within-true, true-within, within-limits}
 use Rattle.state.proofs.Laws.Bytes.{encode-decode}
 use Rattle.calls.specs.Call.{Call, column, format, read, view, write, grow, advance, out, rebuild, status, locate, owner, feed}
 use Rattle.calls.specs.Table.{formable, looks, terms, laterRows, word, table, refusal, refusalBytes}
@@ -74,22 +74,21 @@ module _ (r : Record) (c len room : ℕ) where
           (g, subst NoneHolds (sym same) rows)
 
   of-grow : (m : ℕ) → Passes r c (grow m) len room
-      ↔ (GoodRecord r × (r .health ≡ Whole) × (r .new ≡ 0)
-      × (1 ≤ m) × (m ≤ 16) × (r .stripes % (r .old * (r .old + m)) ≡ 0) × Long r (r .old + m) len)
+      ↔ (GoodRecord r × (r .health ≡ Whole) × (r .new ≡ 0) × (1 ≤ m) × (m ≤ 16) × Long r (r .old + m) len)
   unfolding laterRows terms NoneHolds
   of-grow m = exactly (grow m) refl to from
     where
       to : GoodRecord r → word (laterRows (grow m) r c len room) ≡ 0
-          → GoodRecord r × (r .health ≡ Whole) × (r .new ≡ 0) × (1 ≤ m) × (m ≤ 16) × (r .stripes % (r .old * (r .old + m)) ≡ 0) × Long r (r .old + m) len
+          → GoodRecord r × (r .health ≡ Whole) × (r .new ≡ 0) × (1 ≤ m) × (m ≤ 16) × Long r (r .old + m) len
       to g z =
           let p = grows r c len room m z in
-          let (m-low, m-high, groups) = new-good _ _ _ (p .fits) in
-          (g, p .all-in, p .first, m-low, m-high, groups, p .long)
+          let (m-low, m-high) = within-true 1 m 16 (p .fits) in
+          (g, p .all-in, p .first, m-low, m-high, p .long)
 
-      from : GoodRecord r × (r .health ≡ Whole) × (r .new ≡ 0) × (1 ≤ m) × (m ≤ 16) × (r .stripes % (r .old * (r .old + m)) ≡ 0) × Long r (r .old + m) len
+      from : GoodRecord r × (r .health ≡ Whole) × (r .new ≡ 0) × (1 ≤ m) × (m ≤ 16) × Long r (r .old + m) len
           → GoodRecord r × NoneHolds (laterRows (grow m) r c len room)
-      from (g, h, first, m-low, m-high, groups, long) =
-          let limits : newGood (r .old) m (r .stripes) ≡ true = good-new _ _ _ m-low m-high groups in
+      from (g, h, first, m-low, m-high, long) =
+          let limits : newGood m ≡ true = true-within 1 m 16 m-low m-high in
           (g, (rw h refl, (rw h refl, (ap not (eq-eqb _ _ first), (ap not limits, (ap not (eq-eqb _ _ long), tt))))))
 
 -- ---- on a record's bytes

@@ -3,7 +3,7 @@
 -- (`GoodRecord` is facts too: `GoodIs` of crate state.) Which number is given to a call that is not let through is said by `Demand1`
 -- (`Given` of Theorem), which rows a call has by `Rowwise` of Cases/Refusals.
 -- The statement is `LetThrough`; `let-through` of proofs/LetThrough.antt proves it.
-use Prim.Native.Nat.{ℕ, _+_, _*_, _%_, _≤_, _<_}
+use Prim.Native.Nat.{ℕ, _+_, _*_, _≤_, _<_}
 use mathlib.Core.Path.{_≡_}
 use mathlib.Core.Logic.{_↔_, _≢_}
 use mathlib.Core.List.{List}
@@ -39,10 +39,9 @@ pub record LetThrough : Type 0 where
   pub of-read : (r : Record) (c len room b : ℕ) → Passes r c (read b) len room ↔ Reachable r c b len room
   pub of-view : (r : Record) (c len room b : ℕ) → Passes r c (view b) len room ↔ Reachable r c b len room
   pub of-write : (r : Record) (c len room b : ℕ) (v : List ℕ) → Passes r c (write b v) len room ↔ Reachable r c b len (length v)
-  -- 1; 2 and 3; 4, "m is not 0"; 6, "m outside, or T no multiple of n × (n + m)" ("m, the new ones, 1 to 16"); 7, "grow: new N"
+  -- 1; 2 and 3; 4, "m is not 0"; 6, "m outside" ("m, the new ones, 1 to 16"); 7, "grow: new N". T is no matter
   pub of-grow : (r : Record) (c len room m : ℕ) → Passes r c (grow m) len room
-      ↔ (GoodRecord r × (r .health ≡ Whole) × (r .new ≡ 0)
-      × (1 ≤ m) × (m ≤ 16) × (r .stripes % (r .old * (r .old + m)) ≡ 0) × Long r (r .old + m) len)
+      ↔ (GoodRecord r × (r .health ≡ Whole) × (r .new ≡ 0) × (1 ≤ m) × (m ≤ 16) × Long r (r .old + m) len)
   -- 1; 2 and 3; 5, "m = 0 or t is the total"; 7. Any k will do
   pub of-advance : (r : Record) (c len room k : ℕ) → Passes r c (advance k) len room
       ↔ (GoodRecord r × (r .health ≡ Whole) × (r .new ≢ 0) × (r .moves ≢ totalOf (geometry r)) × Long r (r .old + r .new) len)

@@ -1,12 +1,20 @@
 -- The blanks of a stripe once all moves of its zone are made: at most four runs of consecutive disks. Contracts of the code cite these;
 -- Laws.Runs of proofs/ says that they are the blanks.
-use Prim.Native.Nat.{ℕ, _+_, _-_, _*_}
+use Prim.Native.Nat.{ℕ, _+_, _-_, _*_, _≤_, _<_}
 use Rattle.layout.specs.declared.Runs.{Runs}
 use Rattle.layout.specs.Moves.{zoneOf}
 
--- from this count of moves on nothing of stripe S is carried: all moves of its zone are made
+-- up to this count of moves nothing of stripe S is carried: no move of its zone is made ..
+abbrev pub awaited : ℕ → ℕ → ℕ → ℕ
+awaited n m S = zoneOf n m S * m * n
+
+-- .. and from this one on nothing more is: all are
 abbrev pub settled : ℕ → ℕ → ℕ → ℕ
 settled n m S = (zoneOf n m S + 1) * m * n
+
+-- t moves end in the middle of no move's zone that stripe S is of: all moves of its zone are made, or none is, as in the tail at every t
+abbrev pub Resting : ℕ → ℕ → ℕ → ℕ → Type 0
+Resting n m t S = t < settled n m S → t ≤ awaited n m S
 
 -- ---- below, s is the stripe's place in its zone and P its parity disk before growth
 

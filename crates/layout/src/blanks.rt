@@ -1,14 +1,16 @@
-// The blank places of a stripe whose moves have all been made, counted from the lowest disk. With s its place in the zone and P its
-// parity disk, its moves have the lags i with n <= s + i < n + m, and each leaves the old disk i below P, counted on from disk n - 1:
+// The blank places of a stripe, counted from the lowest disk. Once all moves of its zone have been made: with s its place in the zone and
+// P its parity disk, its moves have the lags i with n <= s + i < n + m, and each leaves the old disk i below P, counted on from disk n - 1:
 // what is left is one run of disks up to P and one above it. The new disks that no move goes to are one run below s and one from
-// s + n on. So the blanks are at most four runs of consecutive disks, and none of them has to be looked for.
+// s + n on. So the blanks are at most four runs of consecutive disks, and none of them has to be looked for. While none of its moves has
+// been made, as in the tail for good, they are one run: the new disks.
 ghost use Prim.Native.Nat.{_<_, _≤_, _+_};
 ghost use mathlib.Core.Path.{_≡_};
 ghost use mathlib.Core.Bool.{false};
+ghost use lib.Dec.{leb};
 ghost use lib.ListN.{length, getD};
 ghost use Rattle.layout.specs.Closed.{taken};
 ghost use Rattle.layout.specs.Blanks.{blanks, blanksBelow};
-ghost use Rattle.layout.specs.Runs.{settled, firstLag, endLag, runsOf};
+ghost use Rattle.layout.specs.Runs.{settled, Resting, firstLag, endLag, runsOf};
 ghost use Rattle.layout.specs.Limits.{TakenApart};
 use crate::Runs;
 use crate::Stripe;
@@ -49,8 +51,9 @@ fn runs_of(n: u64, m: u64, x: Stripe) -> Runs
     }
 }
 
-// The disk of blank place j. All along a run it is above j by one number; that number is picked.
-pub(crate) fn nth_blank(n: u64, m: u64, x: Stripe, j: u64) -> u64
+// The disk of blank place j, once all moves of the stripe's zone have been made. All along a run it is above j by one number; that number is
+// picked.
+fn nth_settled(n: u64, m: u64, x: Stripe, j: u64) -> u64
     requires { ⌜ TakenApart n m x × (j < m) ⌝ }
     ensures { λ r. ⌜ r ≡ getD (blanks n m (settled n m (x .number)) (x .number)) j 0 ⌝ }
 {
@@ -61,7 +64,7 @@ pub(crate) fn nth_blank(n: u64, m: u64, x: Stripe, j: u64) -> u64
 }
 
 // The way back: the number of blank places below disk e, if that is one itself.
-pub(crate) fn count_below(n: u64, m: u64, x: Stripe, e: u64) -> u64
+fn settled_below(n: u64, m: u64, x: Stripe, e: u64) -> u64
     requires { ⌜ TakenApart n m x × (e < n + m) ⌝ }
     ensures { λ r. ⌜ (r ≤ e) × (taken n m (settled n m (x .number)) (x .number) e ≡ false →
         r ≡ length (blanksBelow n m (settled n m (x .number)) (x .number) e)) ⌝ }
@@ -70,4 +73,32 @@ pub(crate) fn count_below(n: u64, m: u64, x: Stripe, e: u64) -> u64
     let new = pick(e < x.within, n - r.left, x.within + n - r.early);
     let old = pick(e <= x.home, r.low, r.high - r.some);
     excess(e, pick(e < n, old, new))
+}
+
+// Have all moves of the stripe's zone been made?
+fn is_settled(n: u64, m: u64, t: u64, x: Stripe) -> bool
+    requires { ⌜ TakenApart n m x ⌝ }
+    ensures { λ r. ⌜ r ≡ leb (settled n m (x .number)) t ⌝ }
+{
+    (x.zone + 1) * m * n <= t
+}
+
+// The disk of blank place j after t moves, all those of the stripe's zone or none of them.
+pub(crate) fn nth_blank(n: u64, m: u64, t: u64, x: Stripe, j: u64) -> u64
+    requires { ⌜ TakenApart n m x × Resting n m t (x .number) × (j < m) ⌝ }
+    ensures { λ r. ⌜ r ≡ getD (blanks n m t (x .number)) j 0 ⌝ }
+{
+    pick(is_settled(n, m, t, x), nth_settled(n, m, x, j), n + j)
+}
+
+// The way back.
+pub(crate) fn count_below(n: u64, m: u64, t: u64, x: Stripe, e: u64) -> u64
+    requires { ⌜ TakenApart n m x × Resting n m t (x .number) × (e < n + m) ⌝ }
+    ensures { λ r. ⌜ (r ≤ e) × (taken n m t (x .number) e ≡ false → r ≡ length (blanksBelow n m t (x .number) e)) ⌝ }
+{
+    pick(
+        is_settled(n, m, t, x),
+        settled_below(n, m, x, e),
+        excess(e, n),
+    )
 }

@@ -36,15 +36,11 @@ pub fn old_is_good(n: u64) -> bool
     is_within(3, n, 16)
 }
 
-// May m disks be added to n, over this many stripes?
-pub fn new_is_good(n: u64, m: u64, stripes: u64) -> bool
-    requires { ⌜ (3 ≤ n) × (n ≤ 16) ⌝ }
-    ensures { λ r. ⌜ r ≡ newGood n m stripes ⌝ }
+// May m disks be added to an array?
+pub fn new_is_good(m: u64) -> bool
+    ensures { λ r. ⌜ r ≡ newGood m ⌝ }
 {
-    if !is_within(1, m, 16) {
-        return false;
-    }
-    stripes % (n * (n + m)) == 0
+    is_within(1, m, 16)
 }
 
 // May a block be this long?
@@ -70,7 +66,7 @@ fn moves_are_good(r: Record) -> bool
     if g.new == 0 {
         return g.moves == 0;
     }
-    if !new_is_good(g.old, g.new, g.stripes) {
+    if !new_is_good(g.new) {
         return false;
     }
     moves_fit(g)

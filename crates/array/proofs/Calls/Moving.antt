@@ -146,7 +146,7 @@ module _ (r : Record) (img : List ℕ) (count : ℕ) (l : GoodRecord r) (busy : 
       let a = l .array in
       let left : r .moves + done ≤ totalOf (geometry r) = omega arith in
       let lim : GoodRecord now = record {
-        array = record { disks = a .disks; stripes-low = a .stripes-low; stripes-high = a .stripes-high; moves = left; groups = a .groups };
+        array = record { disks = a .disks; stripes-low = a .stripes-low; stripes-high = a .stripes-high; moves = left };
         block-low = l .block-low;
         block-high = l .block-high;
         out = l .out;

@@ -56,7 +56,6 @@ module _ (n B T : ℕ) where
               stripes-low = tl;
               stripes-high = th;
               moves = omega arith;
-              groups = λ pm. absurd (omega arith);
             };
         block-low = bl;
         block-high = bh;

@@ -34,7 +34,7 @@ pub record Reaches (r : Record) (c len b room : ℕ) : Type 0 where
 pub record Grows (r : Record) (len m : ℕ) : Type 0 where
   pub all-in : r .health ≡ Whole
   pub first : r .new ≡ 0
-  pub fits : newGood (r .old) m (r .stripes) ≡ true
+  pub fits : newGood m ≡ true
   pub long : len ≡ sizeWith r m
 
 pub record Moves (r : Record) (len : ℕ) : Type 0 where
@@ -132,7 +132,7 @@ module _ (r : Record) (c len room : ℕ) where
       let (p₂, z₂) = passes (isLost (r .health)) 1 _ z in
       let (p₃, z₃) = passes (isDegraded (r .health)) 2 _ z₂ in
       let (p₄, z₄) = passes (not (eqb (r .new) 0)) 3 _ z₃ in
-      let (p₆, z₆) = passes (not (newGood (r .old) m (r .stripes))) 5 _ z₄ in
+      let (p₆, z₆) = passes (not (newGood m)) 5 _ z₄ in
       let (p₇, z₇) = passes (not (eqb len (sizeWith r m))) 6 _ z₆ in
       record { all-in = all-in (r .health) p₃; first = equal (r .new) 0 p₄; fits = not-false _ p₆; long = equal len (sizeWith r m) p₇ }
 

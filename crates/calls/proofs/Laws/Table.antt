@@ -102,7 +102,7 @@ module _ (r : Record) (c len room : ℕ) where
   write-rows b v = refl
 
   pub grow-rows : (m : ℕ) → refusal r c (feed (grow m) len room)
-      ≡ word (keptWhole r ++ (grownAlready r ∷ badGeometry (newGood (r .old) m (r .stripes)) ∷ images (sizeWith r m) len ∷ []))
+      ≡ word (keptWhole r ++ (grownAlready r ∷ badGeometry (newGood m) ∷ images (sizeWith r m) len ∷ []))
   unfolding refusal table laterRows terms
   grow-rows m = refl
 

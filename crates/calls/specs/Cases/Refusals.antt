@@ -135,15 +135,15 @@ pub record Refusals : Type 0 where
   pub write-cells : reads (λ b len. write b (bytes len)) ≡ read-numbers
   -- a write's room is no matter
   pub write-room : asks small (write 29 (bytes 2)) 90 1 ≡ 0
-  -- 1, 2, 3, 4, 6, 7, none; m of 0 and of 17, T no multiple
+  -- 1, 2, 3, 4, 6, 7, none; m of 0 and of 17; a T of no whole group, and of one and a tail, is no matter
   pub grows :
       asks short (grow 0) 89 0 ∷ asks bad (grow 0) 89 0 ∷ asks lost (grow 0) 89 0
       ∷ asks (growing (Out 4) 17) (grow 0) 89 0 ∷ asks (growing Whole 17) (grow 0) 89 0
       ∷ asks small (grow 0) 89 0 ∷ asks small (grow 2) 149 0 ∷ asks small (grow 2) 150 0
-      ∷ asks small (grow 17) 600 0 ∷ asks small (grow 1) 120 0 ∷ asks small (grow 2) 90 0
+      ∷ asks small (grow 17) 600 0 ∷ asks small (grow 1) 120 0 ∷ asks small (grow 3) 180 0 ∷ asks small (grow 2) 90 0
       ∷ asks (of-stripes 57) (grow 16) 1083 0 ∷ asks (of-stripes 60) (grow 17) 1200 0 ∷ asks (of-stripes 12) (grow 1) 48 0
       ∷ []
-      ≡ 1 ∷ 1 ∷ 2 ∷ 3 ∷ 4 ∷ 6 ∷ 7 ∷ 0 ∷ 6 ∷ 6 ∷ 7 ∷ 0 ∷ 6 ∷ 0 ∷ []
+      ≡ 1 ∷ 1 ∷ 2 ∷ 3 ∷ 4 ∷ 6 ∷ 7 ∷ 0 ∷ 6 ∷ 0 ∷ 0 ∷ 7 ∷ 0 ∷ 6 ∷ 0 ∷ []
   -- 1, 2, 3, 5, 7, none; 5 with m = 0; k = 0 is no refusal, and spares none
   pub advances :
       asks short (advance 1) 149 0 ∷ asks bad (advance 1) 149 0 ∷ asks lost (advance 1) 149 0

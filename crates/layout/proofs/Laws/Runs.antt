@@ -1,9 +1,8 @@
 -- The blanks of a stripe once all moves of its zone are made: four runs of consecutive disks, in order. Assumes nothing.
-use Prim.Native.Nat.{ℕ, zero, suc, _+_, _-_, _≤_, _<_}
+use Prim.Native.Nat.{ℕ, _+_, _-_, _≤_, _<_}
 use mathlib.Core.Path.{_≡_, refl, sym, ap, _∙_}
 use mathlib.Core.Bool.{true, false, true≢false, cond}
 use mathlib.Core.Logic.{inl, inr}
-use native.Mathlib.Decide.{ℕ-discrete}
 use native.Mathlib.Omega.{arith}
 use lib.Dec.{ltb, leb}
 use lib.ListN.{length, getD}
@@ -18,26 +17,9 @@ use Rattle.layout.specs.Limits.{TakenApart}
 use Rattle.layout.proofs.Laws.Basics.{le-or-lt, picked-le}
 use Rattle.layout.proofs.Laws.Lag.{lag-le, lag-gt}
 use Rattle.layout.proofs.Laws.Source.{source-early, source-late}
-use Rattle.layout.proofs.Laws.NewBlocks.{below-taken, blank-more, blank-there}
+use Rattle.layout.proofs.Laws.NewBlocks.{span-taken, span-blank, blank-there}
 use Rattle.layout.proofs.Laws.Bounds.{parts}
 use Rattle.layout.proofs.Laws.Settled.{is-left, is-kept, is-met, is-missed}
-
--- ---- a span of disks that are all taken, or all blank
-
-module _ (n m t S : ℕ) where
-  span-taken : (a b : ℕ) → a ≤ b → ((e : ℕ) → a ≤ e → e < b → taken n m t S e ≡ true) → length (blanksBelow n m t S b) ≡ length (blanksBelow n m t S a)
-  span-taken a zero l h = ap (λ x. length (blanksBelow n m t S x)) (omega arith)
-  span-taken a (suc b) l h = elim (ℕ-discrete a (suc b)) [
-    | yes z ↦ ap (λ x. length (blanksBelow n m t S x)) (sym z)
-    | no z ↦ ap length (below-taken n m t S b (h b (omega arith) (omega arith))) ∙ span-taken a b (omega arith) (λ e lo hi. h e lo (omega arith))
-  ]
-
-  span-blank : (a b : ℕ) → a ≤ b → ((e : ℕ) → a ≤ e → e < b → taken n m t S e ≡ false) → length (blanksBelow n m t S b) ≡ length (blanksBelow n m t S a) + (b - a)
-  span-blank a zero l h = let z : a ≡ 0 = omega arith in rw z (omega arith)
-  span-blank a (suc b) l h = elim (ℕ-discrete a (suc b)) [
-    | yes z ↦ rw z (omega arith)
-    | no z ↦ omega (arith, blank-more n m t S b (h b (omega arith) (omega arith)), span-blank a b (omega arith) (λ e lo hi. h e lo (omega arith)))
-  ]
 
 -- ---- the runs on plain numbers
 

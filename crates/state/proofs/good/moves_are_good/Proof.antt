@@ -16,7 +16,7 @@ returns : tie.Need-returns
 returns c = none-asked _ (c .before .if1 .taken) ∙ ap movesGood (c .before .before .before .geometry-of .ensures)
 
 new-is-good-requires : tie.Need-new-is-good-requires
-new-is-good-requires c κs = rw (c .before .before .geometry-of .ensures) (search needs)
+new-is-good-requires c κs = search needs
 
 returns-2 : tie.Need-returns-2
 returns-2 c =
@@ -31,8 +31,7 @@ moves-fit-requires c κs =
     let g = k .geometry-of .result in
     let n : g .old ≡ r .old = ap (λ (x : Geometry). x .old) (k .geometry-of .ensures) in
     let T : g .stripes ≡ r .stripes = ap (λ (x : Geometry). x .stripes) (k .geometry-of .ensures) in
-    let t : g .moves ≡ r .moves = ap (λ (x : Geometry). x .moves) (k .geometry-of .ensures) in
-    sized g (e .if1 .left) (went-on (c .before .new-is-good .ensures) (c .if2 .left)) (omega arith) (omega arith) (omega arith) (omega (arith, k .before .good))
+    sized g (e .if1 .left) (went-on (c .before .new-is-good .ensures) (c .if2 .left)) (omega arith) (omega arith) (omega arith)
 
 returns-3 : tie.Need-returns-3
 returns-3 c =
