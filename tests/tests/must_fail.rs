@@ -22,6 +22,16 @@ const COMPUTED: &[(&str, &str, &[&str])] = &[
         ],
     ),
     (
+        "/proofs/Cases/Tail.antt:",
+        "`tails`",
+        &["layout/part_of_a_group", "layout/tail_without_numbers"],
+    ),
+    (
+        "/proofs/Cases/Bench.antt:",
+        "`unmarked`",
+        &["calls/tail_moves"],
+    ),
+    (
         "/proofs/Exact.antt:",
         "`computed`",
         &["zone_moves/thousands_dropped", "zone_moves/zone_of_three"],
