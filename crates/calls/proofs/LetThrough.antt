@@ -1,6 +1,6 @@
 -- Which calls the table lets through: `let-through`. One way a call has passed its rows (Laws/Passed), the other no condition of them holds
 -- (`still` of Laws/Rows). Assumes nothing.
-use Prim.Native.Nat.{ℕ, _+_, _*_, _%_, _≤_}
+use Prim.Native.Nat.{ℕ, _+_, _*_, _≤_}
 use mathlib.Core.Path.{_≡_, refl, sym, _∙_, ap, subst}
 use mathlib.Core.Bool.{Bool, true, false, not, cond, _||_}
 use mathlib.Core.Logic.{_↔_, _≢_}

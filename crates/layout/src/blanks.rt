@@ -3,7 +3,7 @@
 // what is left is one run of disks up to P and one above it. The new disks that no move goes to are one run below s and one from
 // s + n on. So the blanks are at most four runs of consecutive disks, and none of them has to be looked for. While none of its moves has
 // been made, as in the tail for good, they are one run: the new disks.
-ghost use Prim.Native.Nat.{_<_, _≤_, _+_};
+ghost use Prim.Native.Nat.{_<_, _≤_, _+_, _-_};
 ghost use mathlib.Core.Path.{_≡_};
 ghost use mathlib.Core.Bool.{false};
 ghost use lib.Dec.{leb};
@@ -51,28 +51,28 @@ fn runs_of(n: u64, m: u64, x: Stripe) -> Runs
     }
 }
 
-// The disk of blank place j, once all moves of the stripe's zone have been made. All along a run it is above j by one number; that number is
-// picked.
-fn nth_settled(n: u64, m: u64, x: Stripe, j: u64) -> u64
+// How far a blank's disk is above the blank's number, once all moves of the stripe's zone have been made. All along a run that is one number,
+// and it is picked: by the number ..
+fn nth_lift(n: u64, m: u64, x: Stripe, j: u64) -> u64
     requires { ⌜ TakenApart n m x × (j < m) ⌝ }
-    ensures { λ r. ⌜ r ≡ getD (blanks n m (settled n m (x .number)) (x .number)) j 0 ⌝ }
+    ensures { λ r. ⌜ j + r ≡ getD (blanks n m (settled n m (x .number)) (x .number)) j 0 ⌝ }
 {
     let r = runs_of(n, m, x);
     let new = pick(j < r.early, n - r.left, x.within + n - r.early);
     let old = pick(j < r.some, r.low, r.high - r.some);
-    j + pick(j < r.left, old, new)
+    pick(j < r.left, old, new)
 }
 
-// The way back: the number of blank places below disk e, if that is one itself.
-fn settled_below(n: u64, m: u64, x: Stripe, e: u64) -> u64
+// .. and by the disk.
+fn disk_lift(n: u64, m: u64, x: Stripe, e: u64) -> u64
     requires { ⌜ TakenApart n m x × (e < n + m) ⌝ }
-    ensures { λ r. ⌜ (r ≤ e) × (taken n m (settled n m (x .number)) (x .number) e ≡ false →
-        r ≡ length (blanksBelow n m (settled n m (x .number)) (x .number) e)) ⌝ }
+    ensures { λ r. ⌜ (taken n m (settled n m (x .number)) (x .number) e ≡ false →
+        e - r ≡ length (blanksBelow n m (settled n m (x .number)) (x .number) e)) ⌝ }
 {
     let r = runs_of(n, m, x);
     let new = pick(e < x.within, n - r.left, x.within + n - r.early);
     let old = pick(e <= x.home, r.low, r.high - r.some);
-    excess(e, pick(e < n, old, new))
+    pick(e < n, old, new)
 }
 
 // Have all moves of the stripe's zone been made?
@@ -83,22 +83,18 @@ fn is_settled(n: u64, m: u64, t: u64, x: Stripe) -> bool
     (x.zone + 1) * m * n <= t
 }
 
-// The disk of blank place j after t moves, all those of the stripe's zone or none of them.
+// The disk of blank place j after t moves, all those of the stripe's zone or none of them: then the new disks are the blanks.
 pub(crate) fn nth_blank(n: u64, m: u64, t: u64, x: Stripe, j: u64) -> u64
     requires { ⌜ TakenApart n m x × Resting n m t (x .number) × (j < m) ⌝ }
     ensures { λ r. ⌜ r ≡ getD (blanks n m t (x .number)) j 0 ⌝ }
 {
-    pick(is_settled(n, m, t, x), nth_settled(n, m, x, j), n + j)
+    j + pick(is_settled(n, m, t, x), nth_lift(n, m, x, j), n)
 }
 
-// The way back.
+// The way back: the number of blank places below disk e, if that is one itself.
 pub(crate) fn count_below(n: u64, m: u64, t: u64, x: Stripe, e: u64) -> u64
     requires { ⌜ TakenApart n m x × Resting n m t (x .number) × (e < n + m) ⌝ }
     ensures { λ r. ⌜ (r ≤ e) × (taken n m t (x .number) e ≡ false → r ≡ length (blanksBelow n m t (x .number) e)) ⌝ }
 {
-    pick(
-        is_settled(n, m, t, x),
-        settled_below(n, m, x, e),
-        excess(e, n),
-    )
+    excess(e, pick(is_settled(n, m, t, x), disk_lift(n, m, x, e), n))
 }

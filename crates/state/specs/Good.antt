@@ -2,8 +2,8 @@
 -- included, the out disk is below N, t is at most the total of moves, .. with m = 0, t = 0." (What that asks of bytes which no field takes
 -- is `plain` of Bytes. Document 02, (a): "The divisor condition leaves .. the good record", so T is any number in its limits.)
 use Prim.Native.Nat.{ℕ, _+_, _≤_, _<_}
-use mathlib.Core.Bool.{Bool, true, cond, _&&_}
-use lib.Dec.{leb, ltb, eqb}
+use mathlib.Core.Bool.{Bool, true, _&&_}
+use lib.Dec.{leb, ltb}
 use Rattle.layout.specs.declared.Geometry.{Geometry}
 use Rattle.layout.specs.Layout.{totalOf}
 use Rattle.layout.specs.Limits.{GoodArray}
@@ -36,9 +36,9 @@ blockGood B = within 1 B 4096
 abbrev pub stripesGood : ℕ → Bool
 stripesGood T = within 1 T 1048576
 
--- "t is at most the total of moves .. with m = 0, t = 0"
+-- m is as new disks may be, or "0 before growth"; "t is at most the total of moves" ("with m = 0, t = 0": the total is 0 then)
 unfoldable pub movesGood : Geometry → Bool
-movesGood g = cond (eqb (g .new) 0) (eqb (g .moves) 0) (newGood (g .new) && leb (g .moves) (totalOf g))
+movesGood g = leb (g .new) 16 && leb (g .moves) (totalOf g)
 
 -- "the out disk is below N"
 abbrev pub healthGood : ℕ → Health → Bool

@@ -63,10 +63,7 @@ fn moves_are_good(r: Record) -> bool
     ensures { λ x. ⌜ x ≡ movesGood (geometry r) ⌝ }
 {
     let g = geometry_of(r);
-    if g.new == 0 {
-        return g.moves == 0;
-    }
-    if !new_is_good(g.new) {
+    if 16 < g.new {
         return false;
     }
     moves_fit(g)

@@ -1,7 +1,7 @@
 -- Grow: the images left hold the same list on n + m disks, longer at once if there is nothing to move. Assumes nothing.
 use Prim.Native.Nat.{ℕ, _-_, _+_, _*_, _≤_, _<_}
 use mathlib.Core.Path.{_≡_, refl, sym, ap, _∙_, subst}
-use mathlib.Core.Bool.{Bool, true, false, cond}
+use mathlib.Core.Bool.{true, false, cond}
 use mathlib.Core.List.{List}
 use native.Mathlib.Decide.{decLt}
 use native.Mathlib.Omega.{arith}

@@ -17,7 +17,7 @@ use Rattle.state.specs.declared.Health.the-variants.{Lost}
 use Rattle.state.specs.declared.Record.{Record}
 use Rattle.state.specs.Good.{newGood, good}
 use Rattle.state.proofs.Laws.Good.{within-true, true-within}
-use Rattle.calls.specs.Call.{Call, format, read, view, write, grow, advance, out, rebuild, status, locate, owner, Fed, feed}
+use Rattle.calls.specs.Call.{Call, format, read, view, write, grow, advance, out, rebuild, status, locate, owner, feed}
 use Rattle.calls.specs.Health.{isOut}
 use Rattle.calls.specs.Images.{disksOf, size, sizeWith}
 use Rattle.calls.specs.Table.{Row, badRecord, grownAlready, idle, nothingToMove, formable, badGeometry, images, pastEnd, blockLength, disk}

@@ -7,7 +7,7 @@ use native.Mathlib.Decide.{ℕ-discrete}
 use native.Mathlib.Nat.{div-lt-iff-lt-mul, mod-lt}
 use native.Mathlib.Omega.{arith}
 use lib.Dec.{eqb}
-use lib.ListN.{length, getD}
+use lib.ListN.{length}
 use borrow.Author.Tests.{lt-ltb, le-ltb, eq-eqb, ne-eqb}
 use Rattle.layout.specs.declared.Found.{Found}
 use Rattle.layout.specs.declared.Geometry.{Geometry}
@@ -17,7 +17,7 @@ use Rattle.layout.specs.declared.Slot.{Slot}
 use Rattle.layout.specs.declared.Stripe.{Stripe}
 use Rattle.layout.specs.Home.{placeAt, homeStripe, homeDisk}
 use Rattle.layout.specs.Closed.{stripeOf, diskAt, source, taken}
-use Rattle.layout.specs.Blanks.{blanksBelow, blanks, newStripe, newDisk, newBlock}
+use Rattle.layout.specs.Blanks.{blanksBelow, newStripe, newDisk, newBlock}
 use Rattle.layout.specs.Layout.{disks, oldBlocks, openStripes, capacity, home, layout, found}
 use Rattle.layout.specs.Layout.{carried, newPlace, grownPlace, grownParity, newOwner, grownOwner}
 use Rattle.layout.specs.Slots.{slotOf, slotDisk, InSlot}

@@ -1,5 +1,5 @@
 -- The numbers of an array: its open stripes, its capacity, its whole groups and their moves. Assumes nothing.
-use Prim.Native.Nat.{ℕ, _+_, _-_, _*_, _/_, _%_, _≤_, _<_}
+use Prim.Native.Nat.{ℕ, _+_, _-_, _*_, _%_, _≤_, _<_}
 use mathlib.Core.Path.{_≡_, ap, _∙_}
 use mathlib.Core.Logic.{inl, inr, _≢_}
 use native.Mathlib.Decide.{ℕ-discrete}

@@ -14,7 +14,7 @@ use Rattle.layout.specs.Closed.{target, taken}
 use Rattle.layout.specs.Blanks.{blanksBelow, blanks}
 use Rattle.layout.specs.Runs.{settled, firstLag, endLag, runsOf}
 use Rattle.layout.specs.Limits.{TakenApart}
-use Rattle.layout.proofs.Laws.Basics.{le-or-lt, picked-le}
+use Rattle.layout.proofs.Laws.Basics.{le-or-lt}
 use Rattle.layout.proofs.Laws.Lag.{lag-le, lag-gt}
 use Rattle.layout.proofs.Laws.Source.{source-early, source-late}
 use Rattle.layout.proofs.Laws.NewBlocks.{span-taken, span-blank, blank-there}
@@ -252,12 +252,6 @@ module _ (n m : ℕ) (x : Stripe) (w : TakenApart n m x) (r : Runs) (er : r ≡ 
 
     -- how far it is above j: what the code picks for an old disk, for a new one, and of the two
     module _ (new old up : ℕ) (ew : new ≡ cond (ltb j (r .early)) (n - r .left) (x .within + n - r .early)) (eo : old ≡ cond (ltb j (r .some)) (r .low) (r .high - r .some)) (eu : up ≡ cond (ltb j (r .left)) old new) where
-      pub up-le : up ≤ x .within + n
-      up-le =
-          let o : old ≤ x .within + n = picked-le (ltb j (r .some)) (r .low) (r .high - r .some) eo (omega (arith, runs)) (omega (arith, runs)) in
-          let w : new ≤ x .within + n = picked-le (ltb j (r .early)) (n - r .left) (x .within + n - r .early) ew (omega arith) (omega arith) in
-          picked-le (ltb j (r .left)) old new eu o w
-
       pub nth-picked : j < m → j + up ≡ getD (blanks n m t S) j 0
       nth-picked h = rw (eu, eo, ew) (elim (le-or-lt (r .left) j) [
         | inr a ↦ elim (le-or-lt (r .some) j) [ inr b ↦ simp (lt-ltb _ _ a, lt-ltb _ _ b) (omega arith ∙ nth-low b) | inl b ↦ simp (lt-ltb _ _ a, le-ltb _ _ b) (omega (arith, runs) ∙ nth-high b a) ]
@@ -298,8 +292,8 @@ module _ (n m : ℕ) (x : Stripe) (w : TakenApart n m x) (r : Runs) (er : r ≡ 
     below-late k l lo = in-late e (late-in-run k l lo) (omega arith)
 
   -- the way back, how far e is above their number: what the code picks for an old disk, for a new one, and of the two
-  pub below-picked : (e new old up k : ℕ) → new ≡ cond (ltb e (x .within)) (n - r .left) (x .within + n - r .early) → old ≡ cond (leb e (x .home)) (r .low) (r .high - r .some) → up ≡ cond (ltb e n) old new → k ≡ e - up → e < n + m → taken n m t S e ≡ false → k ≡ below e
-  below-picked e new old up k ew eo eu ek h f = rw (ek, eu, eo, ew) (elim (le-or-lt n e) [
+  pub below-picked : (e new old up : ℕ) → new ≡ cond (ltb e (x .within)) (n - r .left) (x .within + n - r .early) → old ≡ cond (leb e (x .home)) (r .low) (r .high - r .some) → up ≡ cond (ltb e n) old new → e < n + m → taken n m t S e ≡ false → e - up ≡ below e
+  below-picked e new old up ew eo eu h f = rw (eu, eo, ew) (elim (le-or-lt n e) [
     | inr a ↦ elim (le-or-lt e (x .home)) [ inl b ↦ simp (lt-ltb _ _ a, le-leb _ _ b) (below-low e f b) | inr b ↦ simp (lt-ltb _ _ a, lt-leb _ _ b) (omega (arith, runs, high-in-run e f b a) ∙ below-high e f b a) ]
     | inl a ↦ elim (le-or-lt (x .within) e) [ inr b ↦ simp (le-ltb _ _ a, lt-ltb _ _ b) (omega (arith, left-le) ∙ below-early e f a b) | inl b ↦ simp (le-ltb _ _ a, le-ltb _ _ b) (omega (arith, counted, left-le, late-in-run e f a h b) ∙ below-late e f a h b) ]
   ])

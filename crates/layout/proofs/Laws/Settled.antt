@@ -14,12 +14,12 @@ use Rattle.layout.specs.Moves.{zoneOf, withinZone}
 use Rattle.layout.specs.Closed.{lag, target, turn, diskAt, source, taken}
 use Rattle.layout.specs.Blanks.{blanksBelow, blanks}
 use Rattle.layout.specs.Runs.{awaited, settled, Resting}
-use Rattle.layout.proofs.Laws.Basics.{le-or-lt, picked-le}
+use Rattle.layout.proofs.Laws.Basics.{le-or-lt}
 use Rattle.layout.proofs.Laws.Lag.{lag-lt, lag-le, lag-lag}
 use Rattle.layout.proofs.Laws.Closed.Where.{moved, stays}
 use Rattle.layout.proofs.Laws.Closed.{Where, look, disk-moved, disk-stays}
 use Rattle.layout.proofs.Laws.Source.{source-lt, source-low, not-there, taken-disk}
-use Rattle.layout.proofs.Laws.NewBlocks.{span-taken, span-blank, blank-there}
+use Rattle.layout.proofs.Laws.NewBlocks.{span-taken, span-blank, blank-there, nth-listed}
 use Rattle.layout.proofs.Laws.Zones.{index-in}
 
 module _ (n m : ℕ) (pn : 2 ≤ n) (S : ℕ) where
@@ -115,19 +115,23 @@ module _ (n m : ℕ) (pn : 2 ≤ n) (S t : ℕ) (before : t ≤ awaited n m S) w
 -- ---- so where no move of its zone is left to be made: what a program picks that has seen if all are made
 
 module _ (n m : ℕ) (pn : 2 ≤ n) (S t : ℕ) (rest : Resting n m t S) (test : Bool) (e : test ≡ leb (settled n m S) t) where
-  pub resting-nth : (j made r : ℕ) → made ≡ getD (blanks n m (settled n m S) S) j 0 → r ≡ cond test made (n + j) → j < m → r ≡ getD (blanks n m t S) j 0
+  pub resting-nth : (j lift r : ℕ) → j + lift ≡ getD (blanks n m (settled n m S) S) j 0 → r ≡ cond test lift n → j < m → j + r ≡ getD (blanks n m t S) j 0
   unfolding blanks
-  resting-nth j made r em er h = er ∙ elim (le-or-lt (settled n m S) t) [
-    | inl l ↦ rw (e ∙ le-leb _ _ l) (em ∙ ap (λ x. getD x j 0) (sym (same-below n m pn S t l (n + m))))
-    | inr l ↦ rw (e ∙ lt-leb _ _ l) (awaited-nth n m pn S t (rest l) j h)
+  resting-nth j lift r el er h = ap (λ x. j + x) er ∙ elim (le-or-lt (settled n m S) t) [
+    | inl l ↦ rw (e ∙ le-leb _ _ l) (el ∙ ap (λ x. getD x j 0) (sym (same-below n m pn S t l (n + m))))
+    | inr l ↦ rw (e ∙ lt-leb _ _ l) (omega arith ∙ awaited-nth n m pn S t (rest l) j h)
   ]
 
-  pub resting-below : (d made none r : ℕ) → (made ≤ d) × (taken n m (settled n m S) S d ≡ false → made ≡ length (blanksBelow n m (settled n m S) S d)) → none ≡ d - n → r ≡ cond test made none
-      → (r ≤ d) × (taken n m t S d ≡ false → r ≡ length (blanksBelow n m t S d))
-  resting-below d made none r (le, em) en er = (
-    picked-le test made none er le (omega arith),
-    λ f. er ∙ elim (le-or-lt (settled n m S) t) [
-      | inl l ↦ rw (e ∙ le-leb _ _ l) (em (sym (same-taken n m pn S t l d) ∙ f) ∙ ap length (sym (same-below n m pn S t l d)))
-      | inr l ↦ rw (e ∙ lt-leb _ _ l) (en ∙ awaited-below n m pn S t (rest l) d f)
+  -- so it is a disk of the array
+  pub resting-lt : (j lift r : ℕ) → j + lift ≡ getD (blanks n m (settled n m S) S) j 0 → r ≡ cond test lift n → j < m → j + r < n + m
+  resting-lt j lift r el er h = rw (resting-nth j lift r el er h) (nth-listed n m pn t S j h .under)
+
+  pub resting-below : (d lift r k : ℕ) → (taken n m (settled n m S) S d ≡ false → d - lift ≡ length (blanksBelow n m (settled n m S) S d)) → r ≡ cond test lift n → k ≡ d - r
+      → (k ≤ d) × (taken n m t S d ≡ false → k ≡ length (blanksBelow n m t S d))
+  resting-below d lift r k el er ek = (
+    omega arith,
+    λ f. ek ∙ ap (λ x. d - x) er ∙ elim (le-or-lt (settled n m S) t) [
+      | inl l ↦ rw (e ∙ le-leb _ _ l) (el (sym (same-taken n m pn S t l d) ∙ f) ∙ ap length (sym (same-below n m pn S t l d)))
+      | inr l ↦ rw (e ∙ lt-leb _ _ l) (awaited-below n m pn S t (rest l) d f)
     ],
   )

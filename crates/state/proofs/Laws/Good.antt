@@ -1,21 +1,16 @@
 -- The limits of a record, from the tests to the facts and back. Assumes nothing.
 use Prim.Native.Nat.{ℕ, _+_, _≤_, _<_}
 use mathlib.Core.Path.{_≡_, refl, _∙_, subst}
-use mathlib.Core.Bool.{Bool, true, false, cond, _&&_}
-use mathlib.Core.Logic.{_≢_}
-use native.Mathlib.Decide.{ℕ-discrete}
-use native.Mathlib.Omega.{arith}
-use lib.Dec.{leb, eqb}
-use borrow.Author.Tests.{ltb-true, leb-true, eqb-true, lt-ltb, le-leb, eq-eqb, ne-eqb}
+use mathlib.Core.Bool.{true, false}
+use lib.Dec.{leb}
+use borrow.Author.Tests.{ltb-true, leb-true, lt-ltb, le-leb, lt-leb}
 use Rattle.layout.specs.declared.Geometry.{Geometry}
 use Rattle.layout.specs.Layout.{totalOf}
-use Rattle.layout.specs.Limits.{Sized}
-use Rattle.layout.proofs.Laws.Zones.{total-none}
 use Rattle.state.specs.declared.Health.the-variants.{Whole, Out, Lost}
 use Rattle.state.specs.declared.Health.{Health}
 use Rattle.state.specs.declared.Record.{Record}
 use Rattle.state.specs.Update.{withHealth}
-use Rattle.state.specs.Good.{geometry, within, newGood, movesGood, healthGood, good, OutBelow, GoodRecord}
+use Rattle.state.specs.Good.{geometry, within, movesGood, healthGood, good, OutBelow, GoodRecord}
 use Rattle.conditions.proofs.Tests.{both, and-true}
 
 -- ---- between two bounds
@@ -28,49 +23,24 @@ true-within low x high p q = and-true _ _ (le-leb _ _ p) ∙ le-leb _ _ q
 
 -- ---- moves
 
-record Moves (g : Geometry) : Type 0 where
-  new-high : g .new ≤ 16
-  moves-high : g .moves ≤ totalOf g
-
 module _ (g : Geometry) where
-  moves-cases : (t : Bool) → eqb (g .new) 0 ≡ t → cond t (eqb (g .moves) 0) (newGood (g .new) && leb (g .moves) (totalOf g)) ≡ true → Moves g
-  moves-cases true p e =
-      let z : g .new ≡ 0 = eqb-true _ _ p in
-      let y : g .moves ≡ 0 = eqb-true _ _ e in
-      record { new-high = omega arith; moves-high = omega arith }
-  moves-cases false p e =
-      let b = both _ _ e in
-      record { new-high = within-true 1 (g .new) 16 (b .0) .1; moves-high = leb-true _ _ (b .1) }
-
-  moves-good : movesGood g ≡ true → Moves g
+  moves-good : movesGood g ≡ true → (g .new ≤ 16) × (g .moves ≤ totalOf g)
   unfolding movesGood
-  moves-good e = moves-cases (eqb (g .new) 0) refl e
+  moves-good e = let p = both _ _ e in (leb-true _ _ (p .0), leb-true _ _ (p .1))
 
-  good-moves : Moves g → movesGood g ≡ true
+  good-moves : g .new ≤ 16 → g .moves ≤ totalOf g → movesGood g ≡ true
   unfolding movesGood
-  good-moves v = elim (ℕ-discrete (g .new) 0) [
-    | yes z ↦ simp (eq-eqb _ _ z, eq-eqb (g .moves) 0 (omega (arith, total-none (g .old) (g .new) (g .stripes) z)))
-    | no z ↦ simp (ne-eqb _ _ z, true-within 1 (g .new) 16 (omega arith) (v .new-high), le-leb _ _ (v .moves-high))
-  ]
+  good-moves p q = and-true _ _ (le-leb _ _ p) ∙ le-leb _ _ q
 
-  -- what a program says that asks for new disks, for good ones, and then for the count
+  -- what a program says that asks for new disks, and then for the count
 
-  pub none-asked : g .new ≡ 0 → eqb (g .moves) 0 ≡ movesGood g
+  pub new-refused : 16 < g .new → false ≡ movesGood g
   unfolding movesGood
-  none-asked z = rw (eq-eqb _ _ z) refl
+  new-refused h = simp (lt-leb _ _ h)
 
-  pub new-refused : g .new ≢ 0 → newGood (g .new) ≡ false → false ≡ movesGood g
+  pub count-asked : g .new ≤ 16 → leb (g .moves) (totalOf g) ≡ movesGood g
   unfolding movesGood
-  new-refused z e = simp (ne-eqb _ _ z, e)
-
-  module _ (z : g .new ≢ 0) (e : newGood (g .new) ≡ true) where
-    pub count-asked : leb (g .moves) (totalOf g) ≡ movesGood g
-    unfolding movesGood
-    count-asked = simp (ne-eqb _ _ z, e)
-
-    pub sized : 3 ≤ g .old → g .old ≤ 16 → g .stripes ≤ 1048576 → Sized g
-    sized low high T =
-        record { disks = record { n-low = low; n-high = high; m-high = within-true 1 (g .new) 16 e .1 }; stripes-high = T }
+  count-asked h = simp (le-leb _ _ h)
 
 -- ---- health
 
@@ -99,10 +69,10 @@ limits r e =
     let v = moves-good (geometry r) (d .0) in
     record {
       array = record {
-        disks = record { n-low = n .0; n-high = n .1; m-high = v .new-high };
+        disks = record { n-low = n .0; n-high = n .1; m-high = v .0 };
         stripes-low = s .0;
         stripes-high = s .1;
-        moves = v .moves-high;
+        moves = v .1;
       };
       block-low = l .0;
       block-high = l .1;
@@ -113,11 +83,10 @@ pub within-limits : (r : Record) → GoodRecord r → good r ≡ true
 unfolding good
 within-limits r l =
     let a = l .array in
-    let v : Moves (geometry r) = record { new-high = a .disks .m-high; moves-high = a .moves } in
     and-true _ _ (true-within 3 (r .old) 16 (a .disks .n-low) (a .disks .n-high))
     ∙ and-true _ _ (true-within 1 (r .block) 4096 (l .block-low) (l .block-high))
     ∙ and-true _ _ (true-within 1 (r .stripes) 1048576 (a .stripes-low) (a .stripes-high))
-    ∙ and-true _ _ (good-moves (geometry r) v)
+    ∙ and-true _ _ (good-moves (geometry r) (a .disks .m-high) (a .moves))
     ∙ below-out (r .old + r .new) (r .health) (l .out)
 
 -- the disk that is out is a disk of the array

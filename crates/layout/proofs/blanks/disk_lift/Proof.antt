@@ -1,10 +1,10 @@
--- `nth_settled` meets its contract. Assumes nothing.
+-- `disk_lift` meets its contract. Assumes nothing.
 use native.Mathlib.Omega.{arith}
 use borrow.Author.Needs.{needs}
 use Rattle.layout.proofs.Laws.Bounds.{parts}
-use Rattle.layout.proofs.Laws.Runs.{runs, counted, left-le, up-le, nth-picked}
-use Rattle.layout.proofs.blanks.nth_settled.Statement.{statement}
-use Rattle.layout.proofs.blanks.nth_settled.Tie as tie
+use Rattle.layout.proofs.Laws.Runs.{runs, counted, left-le, below-picked}
+use Rattle.layout.proofs.blanks.disk_lift.Statement.{statement}
+use Rattle.layout.proofs.blanks.disk_lift.Tie as tie
 
 runs-of-requires : tie.Need-runs-of-requires
 runs-of-requires c κs = search needs
@@ -34,22 +34,15 @@ pick-requires-2 c κs = search needs
 pick-requires-3 : tie.Need-pick-requires-3
 pick-requires-3 c κs = search needs
 
-add-result : tie.Need-add-result
-add-result c =
-    let o = c .before .before in
-    let w = o .before .before .before in
-    let k = w .before .before .before .before .before in
-    omega (arith, parts _ _ _ (k .before .pre .0), up-le _ _ _ (k .before .pre .0) _ (k .runs-of .ensures) _ _ _ _ (w .pick .ensures) (o .pick2 .ensures) (c .pick3 .ensures))
-
 returns : tie.Need-returns
 returns c =
-    let o = c .before .before in
+    let o = c .before in
     let w = o .before .before .before in
     let k = w .before .before .before .before .before in
-    nth-picked _ _ _ (k .before .pre .0) _ (k .runs-of .ensures) _ _ _ _ (w .pick .ensures) (o .pick2 .ensures) (c .pick3 .ensures) (k .before .pre .1)
+    below-picked _ _ _ (k .before .pre .0) _ (k .runs-of .ensures) _ _ _ _ (w .pick .ensures) (o .pick2 .ensures) (c .pick3 .ensures) (k .before .pre .1)
 
-pub nth-settled-spec : {M : Type 1} → statement M
-nth-settled-spec =
+pub disk-lift-spec : {M : Type 1} → statement M
+disk-lift-spec =
     tie.close
     (tie.spec
     runs-of-requires
@@ -60,5 +53,4 @@ nth-settled-spec =
     sub-pick-3
     pick-requires-2
     pick-requires-3
-    add-result
     returns)

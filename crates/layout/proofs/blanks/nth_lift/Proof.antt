@@ -1,10 +1,10 @@
--- `settled_below` meets its contract. Assumes nothing.
+-- `nth_lift` meets its contract. Assumes nothing.
 use native.Mathlib.Omega.{arith}
 use borrow.Author.Needs.{needs}
 use Rattle.layout.proofs.Laws.Bounds.{parts}
-use Rattle.layout.proofs.Laws.Runs.{runs, counted, left-le, below-picked}
-use Rattle.layout.proofs.blanks.settled_below.Statement.{statement}
-use Rattle.layout.proofs.blanks.settled_below.Tie as tie
+use Rattle.layout.proofs.Laws.Runs.{runs, counted, left-le, nth-picked}
+use Rattle.layout.proofs.blanks.nth_lift.Statement.{statement}
+use Rattle.layout.proofs.blanks.nth_lift.Tie as tie
 
 runs-of-requires : tie.Need-runs-of-requires
 runs-of-requires c κs = search needs
@@ -34,18 +34,15 @@ pick-requires-2 c κs = search needs
 pick-requires-3 : tie.Need-pick-requires-3
 pick-requires-3 c κs = search needs
 
-excess-requires : tie.Need-excess-requires
-excess-requires c κs = search needs
-
 returns : tie.Need-returns
 returns c =
     let o = c .before .before in
     let w = o .before .before .before in
     let k = w .before .before .before .before .before in
-    (omega (arith, c .excess .ensures), below-picked _ _ _ (k .before .pre .0) _ (k .runs-of .ensures) _ _ _ _ _ (w .pick .ensures) (o .pick2 .ensures) (c .before .pick3 .ensures) (c .excess .ensures) (k .before .pre .1))
+    nth-picked _ _ _ (k .before .pre .0) _ (k .runs-of .ensures) _ _ _ _ (w .pick .ensures) (o .pick2 .ensures) (c .pick3 .ensures) (k .before .pre .1)
 
-pub settled-below-spec : {M : Type 1} → statement M
-settled-below-spec =
+pub nth-lift-spec : {M : Type 1} → statement M
+nth-lift-spec =
     tie.close
     (tie.spec
     runs-of-requires
@@ -56,5 +53,4 @@ settled-below-spec =
     sub-pick-3
     pick-requires-2
     pick-requires-3
-    excess-requires
     returns)
