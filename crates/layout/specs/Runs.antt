@@ -1,5 +1,6 @@
--- The blanks of a stripe once all moves of its zone are made: at most four runs of consecutive disks. Contracts of the code cite these;
--- Laws.Runs of proofs/ says that they are the blanks.
+-- How the code finds the blanks of a stripe: once all moves of its zone are made, they are at most four runs of consecutive disks; while none
+-- is made, as in the tail for good, they are the new disks. Contracts of the code cite these; Laws.Runs and Laws.Settled of proofs/ say that
+-- they are the blanks.
 use Prim.Native.Nat.{ℕ, _+_, _-_, _*_, _≤_, _<_}
 use Rattle.layout.specs.declared.Runs.{Runs}
 use Rattle.layout.specs.Moves.{zoneOf}
@@ -12,7 +13,7 @@ awaited n m S = zoneOf n m S * m * n
 abbrev pub settled : ℕ → ℕ → ℕ → ℕ
 settled n m S = (zoneOf n m S + 1) * m * n
 
--- t moves end in the middle of no move's zone that stripe S is of: all moves of its zone are made, or none is, as in the tail at every t
+-- t moves: not some of those of stripe S's zone, but all of them or none
 abbrev pub Resting : ℕ → ℕ → ℕ → ℕ → Type 0
 Resting n m t S = t < settled n m S → t ≤ awaited n m S
 
