@@ -234,8 +234,8 @@ fn a_call_that_is_killed() {
     )));
     let printed = "\
 advance, stopped 258 times: the old record, at most k moves in doubt
-write, stopped 60 times: the old record, one block and its parity in doubt
-rebuild, grow and format, each stopped 15 times: the old record, and right when made again
+write, stopped 68 times: the old record, one block and its parity in doubt
+rebuild, grow and format, each stopped 17 times: the old record, and right when made again
 ";
     assert_eq!(text(&output.stdout), printed);
 }

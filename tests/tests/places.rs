@@ -174,23 +174,24 @@ fn no_whole_group() {
     }
 }
 
-/// One group, and a tail of some kind.
+/// One group, without a tail and with one of every kind.
 #[test]
 fn every_shape_after_some_moves() {
     let mut random = Random::new("every_shape_after_some_moves");
     for n in 3..=16 {
         for m in 1..=16 {
-            let tail = *random.pick(&tails(n, m));
-            let mut growth = Growth::start(n, m, n * (n + m) + tail);
-            let (zone, half) = (random.below(n * m), random.below(growth.left() / 2));
-            for step in [1, n - 1, 1, zone, half] {
-                growth.advance(step.min(growth.left() - 1));
+            for tail in [0].into_iter().chain(tails(n, m)) {
+                let mut growth = Growth::start(n, m, n * (n + m) + tail);
+                let (zone, half) = (random.below(n * m), random.below(growth.left() / 2));
+                for step in [1, n - 1, 1, zone, half] {
+                    growth.advance(step.min(growth.left() - 1));
+                    growth.check();
+                }
+                growth.advance(growth.left() - 1);
+                growth.check();
+                growth.advance(1);
                 growth.check();
             }
-            growth.advance(growth.left() - 1);
-            growth.check();
-            growth.advance(1);
-            growth.check();
         }
     }
 }
