@@ -1,6 +1,6 @@
--- How the code finds the blanks of a stripe: once all moves of its zone are made, they are at most four runs of consecutive disks; while none
--- is made, as in the tail for good, they are the new disks. Contracts of the code cite these; Laws.Runs and Laws.Settled of proofs/ say that
--- they are the blanks.
+-- How the code finds the blanks of a stripe: once all moves of its zone are made, they are at most four runs of consecutive disks; while
+-- none is made, as in the tail for good, they are the new disks. Contracts of the code cite these; Laws.Runs and Laws.Settled of proofs/
+-- say that they are the blanks.
 use Prim.Native.Nat.{ℕ, _+_, _-_, _*_, _≤_, _<_}
 use Rattle.layout.specs.declared.Runs.{Runs}
 use Rattle.layout.specs.Moves.{zoneOf}

@@ -73,7 +73,8 @@ pub record WholeGroups (g : Geometry) (G : ℕ) : Type 0 where
 
 pub record Numbers (g : Geometry) : Type 0 where
   pub groups : (G : ℕ) × WholeGroups g G
-  -- "Only whole groups move now": the moves below the total are those of their zones, n to a group and n × m moves to a zone, all of them ..
+  -- "Only whole groups move now": the moves below the total are those of their zones, n to a group and n × m moves to a zone, all of
+  -- them ..
   pub total-is : (G : ℕ) → WholeGroups g G → totalOf g ≡ G * g .old * g .old * g .new
   pub counted : 0 < g .new → (G Z p i : ℕ) → WholeGroups g G → Z < G * g .old → p < disks g → i < g .old
       → moveIndex (g .old) (g .new) Z p i < totalOf g

@@ -51,7 +51,7 @@ fn runs_of(n: u64, m: u64, x: Stripe) -> Runs
     }
 }
 
-// How far a blank's disk is above the blank's number, once all moves of the stripe's zone have been made. All along a run that is one number,
+// How far a blank's disk is above the blank's number, once all moves of the stripe's zone have been made. All along a run that is the same,
 // and it is picked: by the number ..
 fn nth_lift(n: u64, m: u64, x: Stripe, j: u64) -> u64
     requires { ⌜ TakenApart n m x × (j < m) ⌝ }
