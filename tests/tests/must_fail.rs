@@ -71,11 +71,17 @@ const BY_LAW: &[(&str, &str, &[&str])] = &[
         "`kept`",
         &["calls/refusal_clears_block"],
     ),
-    // format is let through by what document 01 asks for
+    // format is refused 6 for what document 01 says, and nothing else
+    (
+        "/proofs/Laws/Reasons.antt:",
+        "`unformable`",
+        &["calls/one_length_refused"],
+    ),
+    // the rows of grow
     (
         "/proofs/Laws/Table.antt:",
-        "`facts-form`",
-        &["calls/one_length_refused"],
+        "`grow-rows`",
+        &["calls/limit_before_grown"],
     ),
     // the part of the images that is returned begins where the definition has it
     (

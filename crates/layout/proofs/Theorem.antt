@@ -252,7 +252,7 @@ module _ (g : Geometry) (good : GoodArray g) where
 
   -- ---- all of it
 
-  laid : Laid g
+  pub laid : Laid g
   laid = record {
     ranks = ranked (g .old) pn;
     order = λ pm. ordered (g .old) (g .new) (omega (arith, pn)) pm;
@@ -265,4 +265,5 @@ module _ (g : Geometry) (good : GoodArray g) where
   }
 
 pub demand2 : Demand2
-demand2 = laid
+demand2 g n-low n-high m-high T-low T-high moves =
+    laid g (record { disks = record { n-low = n-low; n-high = n-high; m-high = m-high }; stripes-low = T-low; stripes-high = T-high; moves = moves })

@@ -12,7 +12,6 @@ use Rattle.layout.specs.Moves.{moveIndex, moveZone, moveTo, moveLag, mov
 use Rattle.layout.specs.Closed.{diskAt}
 use Rattle.layout.specs.Blanks.{blanks}
 use Rattle.layout.specs.Layout.{disks, totalOf, capacity, layout, nextStripe, nextFrom, nextTo, after}
-use Rattle.layout.specs.Limits.{GoodArray}
 
 -- Where document 01 has a formula for a place of before the growth, it stands here in bare numbers, and not by its name, so that the name
 -- cannot come to mean another one.
@@ -179,4 +178,5 @@ pub record Laid (g : Geometry) : Type 0 where
 
 -- .. and of every array in document 01's limits: every n, m, T and t together
 abbrev pub Demand2 : Type 0
-Demand2 = (g : Geometry) → GoodArray g → Laid g
+Demand2 =
+    (g : Geometry) → 3 ≤ g .old → g .old ≤ 16 → g .new ≤ 16 → 1 ≤ g .stripes → g .stripes ≤ 1048576 → g .moves ≤ totalOf g → Laid g
