@@ -54,7 +54,7 @@ module _ (g : Geometry) (good : GoodArray g) where
   pub some-groups : (G : ℕ) × WholeGroups g G
   some-groups = (groups (g .old) (g .new) (g .stripes), whole)
 
-  pub groups-are : (G : ℕ) → WholeGroups g G → groups (g .old) (g .new) (g .stripes) ≡ G
+  groups-are : (G : ℕ) → WholeGroups g G → groups (g .old) (g .new) (g .stripes) ≡ G
   groups-are G w = div-is (g .stripes) (g .old * (g .old + g .new)) G (omega (arith, w .inside)) (omega (arith, w .no-other))
 
   pub total-is : (G : ℕ) → WholeGroups g G → totalOf g ≡ G * g .old * g .old * g .new
