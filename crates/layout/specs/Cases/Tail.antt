@@ -60,6 +60,12 @@ pub record Tails : Type 0 where
       (across (even 19 0) 17 ≡ Data 53 ∷ Parity ∷ Data 52 ∷ Data 51 ∷ Data 74 ∷ []) ×
       (across (even 19 0) 18 ≡ Data 56 ∷ Data 55 ∷ Parity ∷ Data 54 ∷ Data 75 ∷ []) ×
       (places (even 19 0) 54 5 ≡ placeAt 18 3 ∷ placeAt 18 1 ∷ placeAt 18 0 ∷ placeAt 0 4 ∷ placeAt 1 4 ∷ [])
+  -- one group and a tail of one stripe, before and behind the last move
+  pub even-above-one :
+      (across (even 21 15) 20 ≡ Parity ∷ Data 62 ∷ Data 61 ∷ Data 60 ∷ Blank ∷ []) ×
+      (across (even 21 16) 19 ≡ Data 59 ∷ Data 58 ∷ Data 57 ∷ Data 82 ∷ Parity ∷ []) ×
+      (across (even 21 16) 20 ≡ Parity ∷ Data 62 ∷ Data 61 ∷ Data 60 ∷ Data 83 ∷ []) ×
+      (places (even 21 16) 81 3 ≡ placeAt 18 1 ∷ placeAt 19 3 ∷ placeAt 20 4 ∷ [])
   -- one group and a tail of 19 stripes, one move left: the last stripe of the group, the first and the last of the tail
   pub even-tail-waits :
       (across (even 39 15) 19 ≡ Data 59 ∷ Data 58 ∷ Data 57 ∷ Blank ∷ Parity ∷ []) ×
@@ -97,6 +103,12 @@ pub record Tails : Type 0 where
       (across (wide 39 0) 0 ≡ Parity ∷ Data 3 ∷ Data 2 ∷ Data 1 ∷ Data 0 ∷ Data 156 ∷ Data 157 ∷ Data 158 ∷ []) ×
       (across (wide 39 0) 38 ≡ Data 155 ∷ Data 154 ∷ Data 153 ∷ Parity ∷ Data 152 ∷ Data 270 ∷ Data 271 ∷ Data 272 ∷ []) ×
       (places (wide 39 0) 155 4 ≡ placeAt 38 0 ∷ placeAt 0 5 ∷ placeAt 0 6 ∷ placeAt 0 7 ∷ [])
+  -- one group and a tail of one stripe
+  pub wide-above-one :
+      (across (wide 41 74) 40 ≡ Parity ∷ Data 163 ∷ Data 162 ∷ Data 161 ∷ Data 160 ∷ Blank ∷ Blank ∷ Blank ∷ []) ×
+      (across (wide 41 75) 37 ≡ Data 275 ∷ Data 276 ∷ Data 277 ∷ Data 149 ∷ Data 148 ∷ Parity ∷ Data 150 ∷ Data 151 ∷ []) ×
+      (across (wide 41 75) 40 ≡ Parity ∷ Data 163 ∷ Data 162 ∷ Data 161 ∷ Data 160 ∷ Data 284 ∷ Data 285 ∷ Data 286 ∷ []) ×
+      (places (wide 41 75) 281 6 ≡ placeAt 39 4 ∷ placeAt 39 5 ∷ placeAt 39 6 ∷ placeAt 40 5 ∷ placeAt 40 6 ∷ placeAt 40 7 ∷ [])
   -- one group and a tail of 39 stripes, one move left: a stripe of the group, the first and the last of the tail
   pub wide-tail-waits :
       (across (wide 79 74) 36 ≡ Blank ∷ Parity ∷ Data 146 ∷ Blank ∷ Blank ∷ Data 147 ∷ Data 144 ∷ Data 145 ∷ []) ×
