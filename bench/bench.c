@@ -30,7 +30,7 @@ static const char notes[] =
     "- Buffers are aligned to 4096 bytes and touched before, with no wish for huge pages; all contestants share them.\n"
     "- *Out of cache*: each contestant goes once through all blocks of the images, in one random order; they begin at\n"
     "  different points of it. 5 + 3 at B = 64 has 512 MiB at most, by the limit of T.\n"
-    "- *In cache*: images of about 1 MiB, visited over and over. 16 + 16 at B = 4096 has 64 MiB at least: there 8 random\n"
+    "- *In cache*: images of about 1 MiB, visited over and over. One group of 16 + 16 at B = 4096 has 64 MiB: there 8 random\n"
     "  stripes, 1 MiB together, are visited, and what takes the whole array, growth and rebuild, is not measured.\n"
     "- *With a tail*: one whole group, and the same with a tail of half a group and one stripe, which does not move; visited\n"
     "  over and over as in cache, in turn with the array without the tail. The stripes are drawn from all, so that moved ones\n"

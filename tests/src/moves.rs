@@ -27,7 +27,7 @@ pub fn moves(n: i64, m: i64, last: i64) -> Vec<Move> {
     all
 }
 
-/// The moves of a growth over so many stripes: "only whole groups move", and a group is n zones of n + m stripes.
+/// The moves of a growth over so many stripes: "Only whole groups move now", and a group is n zones of n + m stripes.
 pub fn of_growth(n: i64, m: i64, stripes: i64) -> Vec<Move> {
     let zones = stripes / (n + m);
     let in_whole_groups = zones - zones % n;

@@ -77,10 +77,10 @@ const BY_LAW: &[(&str, &str, &[&str])] = &[
         "`unformable`",
         &["calls/one_length_refused"],
     ),
-    // the rows of grow
+    // which number a grow is given
     (
-        "/proofs/Laws/Table.antt:",
-        "`grow-rows`",
+        "/proofs/Numbered.antt:",
+        "`of-grow`",
         &["calls/limit_before_grown"],
     ),
     // the part of the images that is returned begins where the definition has it

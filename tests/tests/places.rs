@@ -50,8 +50,8 @@ impl Growth {
         assert_eq!(answer, wanted, "{:?}", self.record);
     }
 
-    /// The replay itself: "stripes behind the last [whole group] keep old parity and data places, with all m new places blank",
-    /// and "new numbers still run over all stripes".
+    /// The replay itself: "stripes behind the last one keep old parity and data places, with all m new places blank", and "New
+    /// numbers still run over all stripes."
     fn check_tail(&self) {
         let Record { n, m, stripes, .. } = self.record;
         let home = Layout::home(n, stripes);

@@ -10,7 +10,7 @@ use Rattle.layout.specs.declared.Geometry.{Geometry}
 use Rattle.layout.specs.declared.Role.the-variants.{Data, Parity, Blank}
 use Rattle.layout.specs.declared.Role.{Role}
 use Rattle.layout.specs.Home.{placeAt, dataDisk, homeStripe, homeDisk}
-use Rattle.layout.specs.Moves.{stands}
+use Rattle.layout.specs.Moves.{total, stands}
 use Rattle.layout.specs.Closed.{diskAt, source, taken}
 use Rattle.layout.specs.Blanks.{blanksBelow, newBlock}
 use Rattle.layout.specs.Runs.{awaited}
@@ -265,5 +265,6 @@ module _ (g : Geometry) (good : GoodArray g) where
   }
 
 pub demand2 : Demand2
+unfolding total
 demand2 g n-low n-high m-high T-low T-high moves =
     laid g (record { disks = record { n-low = n-low; n-high = n-high; m-high = m-high }; stripes-low = T-low; stripes-high = T-high; moves = moves })

@@ -27,7 +27,7 @@ slotDisk g S y =
     cond (y .new) (getD (blanks (g .old) (g .new) (g .moves) S) (y .nth) 0)
     (diskAt (g .old) (g .new) (g .moves) S (y .nth))
 
--- y is on an old disk of stripe S, or one of its blanks, no move of its zone being left to be made
+-- y is on an old disk of stripe S, or one of its blanks, with all moves of its zone made, or none
 pub record InSlot (g : Geometry) (S : ℕ) (y : Slot) : Type 0 where
   pub old : y .new ≡ false → y .nth < g .old
   pub new : y .new ≡ true → (y .nth < g .new) × Resting (g .old) (g .new) (g .moves) S

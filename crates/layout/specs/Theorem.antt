@@ -176,7 +176,9 @@ pub record Laid (g : Geometry) : Type 0 where
   pub tail : (G S : ℕ) → WholeGroups g G → G * g .old * (g .old + g .new) ≤ S → S < g .stripes → Tail g S
   pub next-move : g .moves < totalOf g → NextMove g
 
--- .. and of every array in document 01's limits: every n, m, T and t together
+-- .. and of every array in document 01's limits, in bare numbers: every n, m, T and t together, t at most
+-- "(T div (n × (n + m))) × n × n × m"
 abbrev pub Demand2 : Type 0
 Demand2 =
-    (g : Geometry) → 3 ≤ g .old → g .old ≤ 16 → g .new ≤ 16 → 1 ≤ g .stripes → g .stripes ≤ 1048576 → g .moves ≤ totalOf g → Laid g
+    (g : Geometry) → 3 ≤ g .old → g .old ≤ 16 → g .new ≤ 16 → 1 ≤ g .stripes → g .stripes ≤ 1048576
+    → g .moves ≤ g .stripes / (g .old * (g .old + g .new)) * g .old * g .old * g .new → Laid g

@@ -1,12 +1,12 @@
 -- What is proved of the record: `round-trip`, `good-is` and `updates`. Assumes nothing.
-use Prim.Native.Nat.{ℕ, _+_, _≤_, _<_}
+use Prim.Native.Nat.{ℕ, _+_, _*_, _/_, _≤_, _<_}
 use mathlib.Core.Path.{_≡_, refl, subst}
 use mathlib.Core.Bool.{true}
 use mathlib.Core.Logic.{_↔_}
 use mathlib.Core.List.{List}
 use native.Mathlib.Omega.{arith}
 use lib.ListN.{length}
-use Rattle.layout.specs.Layout.{totalOf}
+use Rattle.layout.specs.Moves.{total}
 use Rattle.layout.proofs.Laws.Bounds.{total-high}
 use Rattle.state.specs.declared.Health.the-variants.{Whole, Out, Lost}
 use Rattle.state.specs.declared.Health.{Health}
@@ -63,7 +63,7 @@ module _ (r : Record) where
   abbrev Bare : Type 0
   Bare =
       (3 ≤ r .old) × (r .old ≤ 16) × (r .new ≤ 16) × (1 ≤ r .block) × (r .block ≤ 4096) × (1 ≤ r .stripes) × (r .stripes ≤ 1048576)
-      × (r .moves ≤ totalOf (geometry r)) × ((d : ℕ) → r .health ≡ Out d → d < r .old + r .new)
+      × (r .moves ≤ r .stripes / (r .old * (r .old + r .new)) * r .old * r .old * r .new) × ((d : ℕ) → r .health ≡ Out d → d < r .old + r .new)
 
   below : (h : Health) → ((d : ℕ) → h ≡ Out d → d < r .old + r .new) → OutBelow (r .old + r .new) h
   below Whole f = tt
@@ -71,6 +71,7 @@ module _ (r : Record) where
   below Lost f = tt
 
   bare-limits : GoodRecord r ↔ Bare
+  unfolding total
   bare-limits = (
     (λ l.
         let a = l .array in

@@ -2,8 +2,8 @@
 -- included, the out disk is below N, t is at most the total of moves, .. with m = 0, t = 0." (What that asks of bytes which no field takes
 -- is `plain` of Bytes. Document 02, (a): "The divisor condition leaves .. the good record", so T is any number in its limits.)
 use Prim.Native.Nat.{ℕ, _+_, _≤_, _<_}
-use mathlib.Core.Bool.{Bool, true, _&&_}
-use lib.Dec.{leb, ltb}
+use mathlib.Core.Bool.{Bool, true, _&&_, _||_}
+use lib.Dec.{leb, ltb, eqb}
 use Rattle.layout.specs.declared.Geometry.{Geometry}
 use Rattle.layout.specs.Layout.{totalOf}
 use Rattle.layout.specs.Limits.{GoodArray}
@@ -36,9 +36,13 @@ blockGood B = within 1 B 4096
 abbrev pub stripesGood : ℕ → Bool
 stripesGood T = within 1 T 1048576
 
--- m is as new disks may be, or "0 before growth"; "t is at most the total of moves" ("with m = 0, t = 0": the total is 0 then)
+-- a record's m is as many as may be added, or "0 before growth"
+abbrev pub addedGood : ℕ → Bool
+addedGood m = eqb m 0 || newGood m
+
+-- "t is at most the total of moves" ("with m = 0, t = 0": the total is 0 then)
 unfoldable pub movesGood : Geometry → Bool
-movesGood g = leb (g .new) 16 && leb (g .moves) (totalOf g)
+movesGood g = addedGood (g .new) && leb (g .moves) (totalOf g)
 
 -- "the out disk is below N"
 abbrev pub healthGood : ℕ → Health → Bool

@@ -1,7 +1,8 @@
 // Which records are good. The limits of single fields are functions of their own: format and grow are held to them too.
 ghost use Prim.Native.Nat.{_≤_};
 ghost use mathlib.Core.Path.{_≡_};
-ghost use Rattle.state.specs.Good.{geometry, within, oldGood, newGood, blockGood, stripesGood, movesGood, healthGood, good};
+ghost use Rattle.state.specs.Good.{geometry, within, oldGood, newGood, addedGood, blockGood, stripesGood};
+ghost use Rattle.state.specs.Good.{movesGood, healthGood, good};
 use crate::Health;
 use crate::Record;
 use layout::Geometry;
@@ -57,13 +58,24 @@ pub fn stripes_are_good(stripes: u64) -> bool
     is_within(1, stripes, 1048576)
 }
 
-// Can the array have come this far?
+// May an array have m new disks, or none?
+fn added_is_good(m: u64) -> bool
+    ensures { λ r. ⌜ r ≡ addedGood m ⌝ }
+{
+    if m == 0 {
+        return true;
+    }
+    new_is_good(m)
+}
+
+// Can the array have come this far? (With no new disk the total is 0. To ask for it there too costs less than to ask for m first: the
+// compiler then makes one division of this total and of the capacity's.)
 fn moves_are_good(r: Record) -> bool
     requires { ⌜ (3 ≤ r .old) × (r .old ≤ 16) × (r .stripes ≤ 1048576) ⌝ }
     ensures { λ x. ⌜ x ≡ movesGood (geometry r) ⌝ }
 {
     let g = geometry_of(r);
-    if 16 < g.new {
+    if !added_is_good(g.new) {
         return false;
     }
     moves_fit(g)

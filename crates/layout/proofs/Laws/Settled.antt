@@ -112,7 +112,7 @@ module _ (n m : ℕ) (pn : 2 ≤ n) (S t : ℕ) (before : t ≤ awaited n m S) w
   pub awaited-below : (e : ℕ) → taken n m t S e ≡ false → e - n ≡ length (blanksBelow n m t S e)
   awaited-below e f = elim (le-or-lt n e) [ inl l ↦ new-below e l | inr l ↦ absurd (true≢false (sym (old-taken e l) ∙ f)) ]
 
--- ---- so where no move of its zone is left to be made: what a program picks that has seen if all are made
+-- ---- so with all moves of its zone made, or none: what a program picks that has seen which
 
 module _ (n m : ℕ) (pn : 2 ≤ n) (S t : ℕ) (rest : Resting n m t S) (test : Bool) (e : test ≡ leb (settled n m S) t) where
   pub resting-nth : (j lift r : ℕ) → j + lift ≡ getD (blanks n m (settled n m S) S) j 0 → r ≡ cond test lift n → j < m → j + r ≡ getD (blanks n m t S) j 0

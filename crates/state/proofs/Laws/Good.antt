@@ -1,17 +1,19 @@
 -- The limits of a record, from the tests to the facts and back. Assumes nothing.
 use Prim.Native.Nat.{ℕ, _+_, _≤_, _<_}
-use mathlib.Core.Path.{_≡_, refl, _∙_, subst}
+use mathlib.Core.Path.{_≡_, refl, sym, _∙_, subst}
 use mathlib.Core.Bool.{true, false}
-use lib.Dec.{leb}
-use borrow.Author.Tests.{ltb-true, leb-true, lt-ltb, le-leb, lt-leb}
+use native.Mathlib.Decide.{ℕ-discrete}
+use native.Mathlib.Omega.{arith}
+use lib.Dec.{leb, eqb}
+use borrow.Author.Tests.{ltb-true, leb-true, lt-ltb, le-leb, eq-eqb, ne-eqb}
 use Rattle.layout.specs.declared.Geometry.{Geometry}
 use Rattle.layout.specs.Layout.{totalOf}
 use Rattle.state.specs.declared.Health.the-variants.{Whole, Out, Lost}
 use Rattle.state.specs.declared.Health.{Health}
 use Rattle.state.specs.declared.Record.{Record}
 use Rattle.state.specs.Update.{withHealth}
-use Rattle.state.specs.Good.{geometry, within, movesGood, healthGood, good, OutBelow, GoodRecord}
-use Rattle.conditions.proofs.Tests.{both, and-true}
+use Rattle.state.specs.Good.{geometry, within, newGood, addedGood, movesGood, healthGood, good, OutBelow, GoodRecord}
+use Rattle.conditions.proofs.Tests.{both, and-true, and-false, second}
 
 -- ---- between two bounds
 
@@ -21,26 +23,34 @@ within-true low x high e = let p = both _ _ e in (leb-true _ _ (p .0), leb-true 
 pub true-within : (low x high : ℕ) → low ≤ x → x ≤ high → within low x high ≡ true
 true-within low x high p q = and-true _ _ (le-leb _ _ p) ∙ le-leb _ _ q
 
+-- ---- new disks
+
+pub added-high : (m : ℕ) → addedGood m ≡ true → m ≤ 16
+added-high m e = elim (ℕ-discrete m 0) [ yes z ↦ omega arith | no z ↦ within-true 1 m 16 (second (eqb m 0) (newGood m) e (ne-eqb m 0 z)) .1 ]
+
+high-added : (m : ℕ) → m ≤ 16 → addedGood m ≡ true
+high-added m h = elim (ℕ-discrete m 0) [ yes z ↦ rw (eq-eqb m 0 z) refl | no z ↦ rw (ne-eqb m 0 z) (true-within 1 m 16 (omega arith) h) ]
+
 -- ---- moves
 
 module _ (g : Geometry) where
   moves-good : movesGood g ≡ true → (g .new ≤ 16) × (g .moves ≤ totalOf g)
   unfolding movesGood
-  moves-good e = let p = both _ _ e in (leb-true _ _ (p .0), leb-true _ _ (p .1))
+  moves-good e = let p = both _ _ e in (added-high (g .new) (p .0), leb-true _ _ (p .1))
 
   good-moves : g .new ≤ 16 → g .moves ≤ totalOf g → movesGood g ≡ true
   unfolding movesGood
-  good-moves p q = and-true _ _ (le-leb _ _ p) ∙ le-leb _ _ q
+  good-moves p q = and-true _ _ (high-added (g .new) p) ∙ le-leb _ _ q
 
   -- what a program says that asks for new disks, and then for the count
 
-  pub new-refused : 16 < g .new → false ≡ movesGood g
+  pub new-refused : addedGood (g .new) ≡ false → false ≡ movesGood g
   unfolding movesGood
-  new-refused h = simp (lt-leb _ _ h)
+  new-refused h = sym (and-false _ _ h)
 
-  pub count-asked : g .new ≤ 16 → leb (g .moves) (totalOf g) ≡ movesGood g
+  pub count-asked : addedGood (g .new) ≡ true → leb (g .moves) (totalOf g) ≡ movesGood g
   unfolding movesGood
-  count-asked h = simp (le-leb _ _ h)
+  count-asked h = sym (and-true _ _ h)
 
 -- ---- health
 
