@@ -10,7 +10,7 @@ ghost use lib.Dec.{leb};
 ghost use lib.ListN.{length, getD};
 ghost use Rattle.layout.specs.Closed.{taken};
 ghost use Rattle.layout.specs.Blanks.{blanks, blanksBelow};
-ghost use Rattle.layout.specs.Runs.{settled, Resting, firstLag, endLag, runsOf};
+ghost use Rattle.layout.specs.Runs.{settled, Resting, firstLag, endLag, runsOf, liftOf};
 ghost use Rattle.layout.specs.Limits.{TakenApart};
 use crate::Runs;
 use crate::Stripe;
@@ -52,27 +52,33 @@ fn runs_of(n: u64, m: u64, x: Stripe) -> Runs
 }
 
 // How far a blank's disk is above the blank's number, once all moves of the stripe's zone have been made. All along a run that is the same,
-// and it is picked: by the number ..
-fn nth_lift(n: u64, m: u64, x: Stripe, j: u64) -> u64
-    requires { ⌜ TakenApart n m x × (j < m) ⌝ }
-    ensures { λ r. ⌜ j + r ≡ getD (blanks n m (settled n m (x .number)) (x .number)) j 0 ⌝ }
+// and it is picked: is the blank on an old disk, and if so in the first run; and if not, in the third?
+fn lift(n: u64, m: u64, x: Stripe, r: Runs, old: bool, low: bool, early: bool) -> u64
+    requires { ⌜ TakenApart n m x × (r ≡ runsOf n m (x .within) (x .home)) ⌝ }
+    ensures { λ u. ⌜ u ≡ liftOf n (x .within) r old low early ⌝ }
 {
-    let r = runs_of(n, m, x);
-    let new = pick(j < r.early, n - r.left, x.within + n - r.early);
-    let old = pick(j < r.some, r.low, r.high - r.some);
-    pick(j < r.left, old, new)
+    let left = pick(low, r.low, r.high - r.some);
+    let new = pick(early, n - r.left, x.within + n - r.early);
+    pick(old, left, new)
 }
 
-// .. and by the disk.
-fn disk_lift(n: u64, m: u64, x: Stripe, e: u64) -> u64
-    requires { ⌜ TakenApart n m x × (e < n + m) ⌝ }
-    ensures { λ r. ⌜ (taken n m (settled n m (x .number)) (x .number) e ≡ false →
-        e - r ≡ length (blanksBelow n m (settled n m (x .number)) (x .number) e)) ⌝ }
+// That of blank place j ..
+fn nth_lift(n: u64, m: u64, x: Stripe, j: u64) -> u64
+    requires { ⌜ TakenApart n m x × (j < m) ⌝ }
+    ensures { λ u. ⌜ j + u ≡ getD (blanks n m (settled n m (x .number)) (x .number)) j 0 ⌝ }
 {
     let r = runs_of(n, m, x);
-    let new = pick(e < x.within, n - r.left, x.within + n - r.early);
-    let old = pick(e <= x.home, r.low, r.high - r.some);
-    pick(e < n, old, new)
+    lift(n, m, x, r, j < r.left, j < r.some, j < r.early)
+}
+
+// .. and that of disk e, if that is blank.
+fn disk_lift(n: u64, m: u64, x: Stripe, e: u64) -> u64
+    requires { ⌜ TakenApart n m x × (e < n + m) ⌝ }
+    ensures { λ u. ⌜ (taken n m (settled n m (x .number)) (x .number) e ≡ false →
+        e - u ≡ length (blanksBelow n m (settled n m (x .number)) (x .number) e)) ⌝ }
+{
+    let r = runs_of(n, m, x);
+    lift(n, m, x, r, e < n, e <= x.home, e < x.within)
 }
 
 // Have all moves of the stripe's zone been made?
