@@ -149,7 +149,9 @@ fn kind(words: &str) -> Option<Kind> {
         ])
     {
         Some(Kind::Shape)
-    } else if starts(&["`omega`: the goal does not follow from what it read. All of that holds, and the goal fails, at "]) {
+    } else if starts(&["`omega`: the goal does not follow from what it read. All of that holds, and the goal fails, at "])
+        || starts(&["`omega`: the part `"]) && has(&["All of that holds, and the part fails, at "])
+    {
         Some(Kind::Refuted)
     } else if starts(&["`search`: no proof of `"]) {
         Some(Kind::Unproved)
