@@ -1,6 +1,6 @@
 /*
  * The peers against the library: random histories of all calls, refused ones among them, on random images, from every kind
- * of record; and locate and owner of every block and place, for every n and m.
+ * of record; and locate and owner of every block and place, for every n and m. Both with and without a tail.
  */
 #include "agree.h"
 
@@ -14,10 +14,10 @@
 
 enum { ROOM = 2 * PBM_RECORD_LEN }; /* for a record that is lent at another length */
 
-enum op { FORMAT, READ, VIEW, WRITE, GROW, ADVANCE, OUT, REBUILD, LOCATE, OWNER, OPS };
+enum op { FORMAT, READ, VIEW, WRITE, GROW, ADVANCE, OUT, REBUILD, STATUS, LOCATE, OWNER, OPS };
 
-static const char *const names[OPS] = {"format", "read",    "view",   "write", "grow",
-                                       "advance", "out", "rebuild", "locate", "owner"};
+static const char *const names[OPS] = {"format", "read", "view",    "write",  "grow",   "advance",
+                                       "out",    "rebuild", "status", "locate", "owner"};
 
 static const uint32_t BEFORE_GROWTH = UINT32_MAX; /* in place of the moves done */
 
@@ -31,7 +31,7 @@ struct call {
 struct world {
     uint8_t record[ROOM];
     uint8_t *images, *block;
-    uint64_t first, second;
+    uint64_t beside[5]; /* numbers that a call sets beside its answer */
     uint8_t answer;
 };
 
@@ -41,17 +41,19 @@ static void run_ours(struct world *w, const struct call *c)
 {
     uint8_t *r = w->record, *i = w->images, *b = w->block;
     size_t rl = c->record_len, il = c->images_len, bl = c->block_len;
+    uint64_t *x = w->beside;
     switch (c->op) {
     case FORMAT: w->answer = pbm_format(r, rl, i, il, c->x, c->y, c->z); break;
     case READ:
     case VIEW: w->answer = pbm_read(r, rl, i, il, c->x, b, bl); break;
     case WRITE: w->answer = pbm_write(r, rl, i, il, c->x, b, bl); break;
     case GROW: w->answer = pbm_grow(r, rl, i, il, c->x); break;
-    case ADVANCE: w->answer = pbm_advance(r, rl, i, il, c->x, &w->first); break;
+    case ADVANCE: w->answer = pbm_advance(r, rl, i, il, c->x, &x[0]); break;
     case OUT: w->answer = pbm_out(r, rl, c->x); break;
     case REBUILD: w->answer = pbm_rebuild(r, rl, i, il, c->x); break;
-    case LOCATE: w->answer = pbm_locate(r, rl, c->x, &w->first, &w->second); break;
-    default: w->answer = pbm_owner(r, rl, c->x, c->y, &w->first, &w->second);
+    case STATUS: w->answer = pbm_status(r, rl, &x[0], &x[1], &x[2], &x[3], &x[4]); break;
+    case LOCATE: w->answer = pbm_locate(r, rl, c->x, &x[0], &x[1]); break;
+    default: w->answer = pbm_owner(r, rl, c->x, c->y, &x[0], &x[1]);
     }
 }
 
@@ -69,17 +71,19 @@ static void run_peer(struct world *w, const struct call *c)
 {
     uint8_t *r = w->record, *i = w->images, *b = w->block;
     size_t rl = c->record_len, il = c->images_len, bl = c->block_len;
+    uint64_t *x = w->beside;
     switch (c->op) {
     case FORMAT: w->answer = peer_format(r, rl, i, il, c->x, c->y, c->z); break;
     case READ: w->answer = peer_read(r, rl, i, il, c->x, b, bl); break;
     case VIEW: w->answer = view_as_read(w, c); break;
     case WRITE: w->answer = peer_write(r, rl, i, il, c->x, b, bl); break;
     case GROW: w->answer = peer_grow(r, rl, i, il, c->x); break;
-    case ADVANCE: w->answer = peer_advance(r, rl, i, il, c->x, &w->first); break;
+    case ADVANCE: w->answer = peer_advance(r, rl, i, il, c->x, &x[0]); break;
     case OUT: w->answer = peer_out(r, rl, c->x); break;
     case REBUILD: w->answer = peer_rebuild(r, rl, i, il, c->x); break;
-    case LOCATE: w->answer = peer_locate(r, rl, c->x, &w->first, &w->second); break;
-    default: w->answer = peer_owner(r, rl, c->x, c->y, &w->first, &w->second);
+    case STATUS: w->answer = peer_status(r, rl, &x[0], &x[1], &x[2], &x[3], &x[4]); break;
+    case LOCATE: w->answer = peer_locate(r, rl, c->x, &x[0], &x[1]); break;
+    default: w->answer = peer_owner(r, rl, c->x, c->y, &x[0], &x[1]);
     }
 }
 
@@ -99,6 +103,9 @@ struct shape {
 
 static size_t size(struct shape h, uint32_t disks) { return (size_t)disks * h.stripes * h.block_len; }
 
+static uint32_t group_len(struct shape h) { return h.n * (h.n + h.m); }
+static uint32_t total_of(struct shape h) { return h.stripes / group_len(h) * h.n * h.n * h.m; }
+
 /* A call that the record lets through, if the health and t do; arguments run a little over their limits. */
 static struct call likely_call(struct random *r, struct shape h, const uint8_t *record)
 {
@@ -116,6 +123,7 @@ static struct call likely_call(struct random *r, struct shape h, const uint8_t *
     case ADVANCE: c.x = random_below(r, 3 * h.n); break;
     case OUT: c.x = health == 0 || random_below(r, 9) == 0 ? random_below(r, disks + 1) : out; break;
     case REBUILD: c.x = out; break;
+    case STATUS: break;
     default: c.x = random_below(r, h.stripes + 1), c.y = random_below(r, disks + 1);
     }
     return c;
@@ -143,7 +151,7 @@ static struct call odd_call(struct random *r, struct shape h, uint8_t *record)
 
 static bool same(const struct world *a, const struct world *b, size_t images_len)
 {
-    return a->answer == b->answer && a->first == b->first && a->second == b->second &&
+    return a->answer == b->answer && memcmp(a->beside, b->beside, sizeof a->beside) == 0 &&
            memcmp(a->record, b->record, sizeof a->record) == 0 && memcmp(a->block, b->block, 4096) == 0 &&
            memcmp(a->images, b->images, images_len) == 0;
 }
@@ -174,7 +182,8 @@ static bool history(struct random *r, struct shape h, struct world *a, struct wo
         memcpy(kept, a->record, sizeof kept);
         random_fill(r, a->block, 4096);
         memcpy(b->block, a->block, 4096);
-        a->first = b->first = a->second = b->second = random_next(r);
+        random_fill(r, (uint8_t *)a->beside, sizeof a->beside);
+        memcpy(b->beside, a->beside, sizeof a->beside);
         struct call c = i % 3 == 0 ? odd_call(r, h, a->record) : likely_call(r, h, a->record);
         if (c.images_len > all)
             c.images_len = all + 1; /* refused by its length: nothing behind the images is touched */
@@ -183,8 +192,8 @@ static bool history(struct random *r, struct shape h, struct world *a, struct wo
         run_ours(a, &c);
         peer(b, &c);
         if (!same(a, b, all)) {
-            fprintf(stderr, "%u + %u, B %u: %s (%llu, %llu) at t = %u: %u and %u\n", h.n, h.m, h.block_len, names[c.op],
-                    (unsigned long long)c.x, (unsigned long long)c.y, moves, a->answer, b->answer);
+            fprintf(stderr, "%u + %u, B %u, T %u: %s (%llu, %llu) at t = %u: %u and %u\n", h.n, h.m, h.block_len, h.stripes,
+                    names[c.op], (unsigned long long)c.x, (unsigned long long)c.y, moves, a->answer, b->answer);
             return false;
         }
         if (spoilt)
@@ -195,11 +204,11 @@ static bool history(struct random *r, struct shape h, struct world *a, struct wo
 
 static bool histories(struct random *r, struct shape h, runner *peer)
 {
-    uint32_t total = h.stripes / (h.n + h.m) * h.n * h.m;
+    uint32_t total = total_of(h), last = total > 0 ? total - 1 : 0;
     size_t all = size(h, h.n + h.m) + 1;
     struct world a = {.images = aligned_alloc(4096, (all + 4095) / 4096 * 4096), .block = aligned_alloc(4096, 4096)};
     struct world b = {.images = aligned_alloc(4096, (all + 4095) / 4096 * 4096), .block = aligned_alloc(4096, 4096)};
-    const uint32_t moves[] = {BEFORE_GROWTH, 0, 1, h.n * h.m / 2, total / 2, total - 1, total};
+    const uint32_t moves[] = {BEFORE_GROWTH, 0, 1, h.n * h.m / 2, total / 2, last, total, total + 1}; /* the last is too many */
     bool agreed = a.images && b.images && a.block && b.block;
     for (size_t i = 0; agreed && i < sizeof moves / sizeof moves[0]; i++)
         for (uint8_t health = 0; agreed && health < 3; health++)
@@ -208,17 +217,21 @@ static bool histories(struct random *r, struct shape h, runner *peer)
     return agreed;
 }
 
-static bool same_layout(struct random *r, struct shape h, uint32_t moves)
+static bool same_blocks(struct shape h, const uint8_t *record)
 {
-    uint8_t record[ROOM];
     uint64_t x[2], y[2];
-    start_record(r, h, record, moves, 0);
     for (uint64_t b = 0; b <= (uint64_t)h.stripes * (h.n + h.m - 1); b++)
         if (pbm_locate(record, PBM_RECORD_LEN, b, &x[0], &x[1]) != peer_locate(record, PBM_RECORD_LEN, b, &y[0], &y[1]) ||
             x[0] != y[0] || x[1] != y[1])
             return false;
-    for (uint64_t s = 0; s < h.stripes; s++)
-        for (uint64_t d = 0; d < h.n + h.m; d++)
+    return true;
+}
+
+static bool same_places(struct shape h, const uint8_t *record)
+{
+    uint64_t x[2], y[2];
+    for (uint64_t s = 0; s <= h.stripes; s++)
+        for (uint64_t d = 0; d <= h.n + h.m; d++)
             if (pbm_owner(record, PBM_RECORD_LEN, s, d, &x[0], &x[1]) !=
                     peer_owner(record, PBM_RECORD_LEN, s, d, &y[0], &y[1]) ||
                 x[0] != y[0] || x[1] != y[1])
@@ -226,25 +239,51 @@ static bool same_layout(struct random *r, struct shape h, uint32_t moves)
     return true;
 }
 
+/* At the start, in the middle and at the end of the growth, one move before that, and before the growth. */
+static bool same_layout(struct random *r, struct shape h)
+{
+    uint32_t total = total_of(h), last = total > 0 ? total - 1 : 0;
+    const uint32_t moves[] = {BEFORE_GROWTH, 0, (uint32_t)random_below(r, last + 1), last, total};
+    for (size_t i = 0; i < sizeof moves / sizeof moves[0]; i++) {
+        uint8_t record[ROOM];
+        start_record(r, h, record, moves[i], 0);
+        if (!same_blocks(h, record) || !same_places(h, record)) {
+            fprintf(stderr, "%u + %u, T %u, t %u: layouts differ\n", h.n, h.m, h.stripes, moves[i]);
+            return false;
+        }
+    }
+    return true;
+}
+
+/* Whole groups; tails of one stripe, of a zone, and the longest; no whole group. */
+static bool same_layouts(struct random *r, uint32_t n, uint32_t m)
+{
+    uint32_t zone = n + m, group = n * zone;
+    const uint32_t stripes[] = {group, group + 1, group + zone, 2 * group - 1, 2 * group + zone + 1, group - 1, zone, 1};
+    for (size_t i = 0; i < sizeof stripes / sizeof stripes[0]; i++)
+        if (!same_layout(r, (struct shape){n, m, 64, stripes[i]}))
+            return false;
+    return true;
+}
+
 static bool layouts(struct random *r)
 {
     for (uint32_t n = 3; n <= 16; n++)
-        for (uint32_t m = 1; m <= 16; m++) {
-            struct shape h = {n, m, 64, n * (n + m)};
-            uint32_t total = n * n * m;
-            if (!same_layout(r, h, total) || !same_layout(r, h, (uint32_t)random_below(r, total))) {
-                fprintf(stderr, "%u + %u: layouts differ\n", n, m);
+        for (uint32_t m = 1; m <= 16; m++)
+            if (!same_layouts(r, n, m))
                 return false;
-            }
-        }
     return true;
 }
+
+/* n, m, B, T: whole groups, then tails of several lengths, then no whole group. */
+static const struct shape shapes[] = {
+    {5, 3, 64, 40},  {5, 3, 4096, 40}, {16, 16, 64, 512}, {3, 2, 7, 15},   {4, 1, 1, 20},   {5, 3, 33, 40},
+    {5, 3, 64, 41},  {5, 3, 4096, 61}, {16, 16, 64, 769}, {3, 2, 7, 29},   {4, 1, 1, 25},   {5, 3, 32, 79},
+    {5, 3, 96, 48},  {5, 3, 64, 39},   {16, 16, 32, 511}, {3, 2, 7, 14},   {4, 1, 1, 19},   {16, 1, 32, 1}};
 
 bool peers_agree(uint64_t seed)
 {
     struct random r = {seed};
-    const struct shape shapes[] = {{5, 3, 64, 40}, {5, 3, 4096, 40}, {16, 16, 64, 512},
-                                   {3, 2, 7, 15},  {4, 1, 1, 20},    {5, 3, 33, 40}};
     for (size_t i = 0; i < sizeof shapes / sizeof shapes[0]; i++) {
         if (!histories(&r, shapes[i], run_peer))
             return false;

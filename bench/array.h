@@ -18,7 +18,9 @@ struct array {
     uint32_t n, m, disks;
     uint32_t block_len, stripes, moves;
     uint32_t health, out;
-    bool grown; /* every move is made; also before growth, when there is none */
+    uint32_t moving; /* stripes of whole groups, which alone move: those below this number; the rest are the tail */
+    uint32_t total;  /* of the moves */
+    bool grown;      /* every move is made; also where there is none: before growth, and with no whole group */
 };
 
 struct stripe {
@@ -43,29 +45,27 @@ static inline bool health_is_good(const struct array *a)
     return a->health <= PBM_HEALTH_LOST && a->out == 0;
 }
 
-static inline bool growth_is_good(uint32_t n, uint64_t m, uint32_t stripes)
-{
-    return m - 1 < 16 && stripes % (n * (n + (uint32_t)m)) == 0;
-}
-
-/* The total is T * n * m / (n + m): t is held against it without the division. */
-static inline bool moves_are_good(struct array *a)
-{
-    if (a->m == 0) {
-        a->grown = true;
-        return a->moves == 0;
-    }
-    if (!growth_is_good(a->n, a->m, a->stripes))
-        return false;
-    uint64_t done = (uint64_t)a->moves * a->disks;
-    uint64_t all = (uint64_t)a->stripes * (a->n * a->m);
-    a->grown = done == all;
-    return done <= all;
-}
-
 static inline bool old_is_good(uint64_t n) { return n - 3 < 14; }
+static inline bool new_is_good(uint64_t m) { return m - 1 < 16; }
 static inline bool block_is_good(uint64_t len) { return len - 1 < 4096; }
 static inline bool stripes_are_good(uint64_t stripes) { return stripes - 1 < 1048576; }
+
+/* A group is n zones of n + m stripes, and n * m moves are made in each zone. Divides once, for all that is asked later. */
+static inline void measure_growth(struct array *a)
+{
+    uint32_t groups = a->m == 0 ? 0 : a->stripes / (a->n * a->disks);
+    a->moving = groups * (a->n * a->disks);
+    a->total = groups * (a->n * a->n * a->m);
+    a->grown = a->moves == a->total;
+}
+
+static inline bool moves_are_good(struct array *a)
+{
+    if (a->m != 0 && !new_is_good(a->m))
+        return false;
+    measure_growth(a);
+    return a->moves <= a->total;
+}
 
 /* The record, or refusal 1. */
 static inline uint8_t array_open(struct array *a, const uint8_t *record, size_t record_len)
@@ -157,7 +157,7 @@ static inline uint32_t behind(const struct array *a, struct stripe x, uint32_t i
 static inline bool is_moved(const struct array *a, struct stripe x, uint32_t lag)
 {
     uint32_t nth = x.within + lag - a->n; /* of the new disks; to an old one goes no move, and this wraps */
-    return (nth < a->m) & (a->grown | ((x.zone * a->m + nth) * a->n + lag < a->moves));
+    return (nth < a->m) & ((x.zone * a->m + nth) * a->n + lag < a->moves); /* in the tail no index is below the total */
 }
 
 static inline uint32_t disk_now(const struct array *a, struct stripe x, uint32_t disk)
@@ -169,7 +169,7 @@ static inline uint32_t disk_now(const struct array *a, struct stripe x, uint32_t
 /*
  * The blanks of a stripe once all moves are made, rising: four runs of disks, some of them empty. The old disks that were
  * left are those of lag n - s up to n + m - s, around the ring of old disks; new disks below s and from s + n on got
- * nothing.
+ * nothing. A stripe of the tail has the blanks of s = 0, where no move is either: all new disks.
  */
 struct run {
     uint32_t first, end;
@@ -177,7 +177,7 @@ struct run {
 
 static inline void blank_runs(const struct array *a, struct stripe x, struct run runs[4])
 {
-    uint32_t n = a->n, s = x.within, next = x.parity + 1;
+    uint32_t n = a->n, s = only_if(x.number < a->moving, x.within), next = x.parity + 1;
     uint32_t lo = n - min(s, n), hi = a->disks - max(s, a->m);
     uint32_t split = min(max(next, lo), hi); /* lags below are on disks up to the parity's, the others behind it */
     runs[0] = (struct run){next - split, next - lo};

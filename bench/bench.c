@@ -12,7 +12,7 @@ static const size_t OUT_OF_CACHE = (size_t)1 << 30;
 static const uint32_t SHORT_BLOCK = 32; /* the shortest that ISA-L takes */
 static const size_t OUT_OF_CACHE_QUICK = (size_t)1 << 26;
 
-static struct report report;
+static struct report report, beside;
 
 static const char notes[] =
     "A ratio is the peer's time by ours, for the same calls: 2 means that we have twice the peer's speed, 0.5 half of it.\n"
@@ -30,31 +30,53 @@ static const char notes[] =
     "- Buffers are aligned to 4096 bytes and touched before, with no wish for huge pages; all contestants share them.\n"
     "- *Out of cache*: each contestant goes once through all blocks of the images, in one random order; they begin at\n"
     "  different points of it. 5 + 3 at B = 64 has 512 MiB at most, by the limit of T.\n"
-    "- *In cache*: images of about 1 MiB, visited over and over. 16 + 16 at B = 4096 has 64 MiB at least: there 8 random\n"
+    "- *In cache*: images of about 1 MiB, visited over and over. One group of 16 + 16 at B = 4096 has 64 MiB: there 8 random\n"
     "  stripes, 1 MiB together, are visited, and what takes the whole array, growth and rebuild, is not measured.\n"
+    "- *With a tail*: one whole group, and the same with a tail of half a group and one stripe, which does not move; visited\n"
+    "  over and over as in cache, in turn with the array without the tail. The stripes are drawn from all, so that moved ones\n"
+    "  and those of the tail mix. A tail is less than a group: of an array out of cache it is a small part, and not measured.\n"
     "- Targets are set for B = 4096. locate and owner read the record alone.\n"
     "- view returns a reference and is not exported to C. A read of a block of 32 bytes makes the same tests and finds the\n"
     "  same place; it also copies 32 bytes, which view does not. It is given against C's read of the same and C's view.\n";
 
-static void run_all(bool quick, uint64_t seed)
+static const uint32_t shapes[2][2] = {{5, 3}, {16, 16}}, blocks[2] = {4096, 64};
+
+static void run_all(bool quick, struct settings set, uint64_t seed)
 {
-    const uint32_t shapes[2][2] = {{5, 3}, {16, 16}}, blocks[2] = {4096, 64};
-    const struct settings set = quick ? (struct settings){5, 1000000} : (struct settings){15, 10000000};
     for (int in_cache = 0; in_cache < 2; in_cache++)
         for (size_t h = 0; h < 2; h++)
             for (size_t b = 0; b < 2; b++) {
                 size_t len = in_cache ? IN_CACHE : quick ? OUT_OF_CACHE_QUICK : OUT_OF_CACHE;
                 static struct stage s;
-                stage_open(&s, (struct plan){shapes[h][0], shapes[h][1], blocks[b], len, in_cache}, seed);
+                stage_open(&s, (struct plan){shapes[h][0], shapes[h][1], blocks[b], len, in_cache, 0, 0}, seed);
                 cases_run(&s, set, &report);
                 stage_close(&s);
             }
     for (size_t h = 0; h < 2; h++) {
         static struct stage s;
-        stage_open(&s, (struct plan){shapes[h][0], shapes[h][1], SHORT_BLOCK, IN_CACHE, true}, seed);
+        stage_open(&s, (struct plan){shapes[h][0], shapes[h][1], SHORT_BLOCK, IN_CACHE, true, 0, 0}, seed);
         cases_view(&s, set, &report);
         stage_close(&s);
     }
+}
+
+/* A third of the stripes, which no branch foretells, and zones that the end cuts. */
+static uint32_t tail_len(uint32_t n, uint32_t m) { return n * (n + m) / 2 + 1; }
+
+static void run_with_tails(struct settings set, uint64_t seed)
+{
+    for (size_t h = 0; h < 2; h++)
+        for (size_t b = 0; b < 2; b++) {
+            static struct stage whole, tailed;
+            uint32_t n = shapes[h][0], m = shapes[h][1];
+            stage_open(&whole, (struct plan){n, m, blocks[b], IN_CACHE, true, 1, 0}, seed);
+            stage_open(&tailed, (struct plan){n, m, blocks[b], IN_CACHE, true, 1, tail_len(n, m)}, seed);
+            cases_beside(&whole, &tailed, set, &beside);
+            if (b == 0)
+                cases_asking_beside(&whole, &tailed, set, &beside);
+            stage_close(&whole);
+            stage_close(&tailed);
+        }
 }
 
 static void print_notes(bool quick, uint64_t seed)
@@ -70,12 +92,16 @@ int main(int argc, char **argv)
     bool quick = argc > 1 && strcmp(argv[1], "quick") == 0;
     const char *wish = getenv("SEED");
     uint64_t seed = wish ? strtoull(wish, NULL, 0) : 20131;
+    const struct settings set = quick ? (struct settings){5, 1000000} : (struct settings){15, 10000000};
     must(peers_agree(seed), "a peer and the library differ");
-    run_all(quick, seed);
+    run_all(quick, set, seed);
+    run_with_tails(set, seed);
     print_notes(quick, seed);
     printf("\n## Out of cache\n\n");
     report_print(&report, false);
     printf("\n## In cache\n\n");
     report_print(&report, true);
+    printf("\n## With a tail\n\n");
+    report_print_beside(&beside);
     return 0;
 }

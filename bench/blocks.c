@@ -78,16 +78,17 @@ static void print_row(const struct growth *g)
 
 int main(void)
 {
-    static const uint32_t shapes[4][2] = {{3, 2}, {5, 3}, {16, 16}, {4, 1}};
+    /* n, m, T: whole groups; whole ones and a tail; no whole one */
+    static const uint32_t shapes[6][3] = {{3, 2, 15}, {5, 3, 40}, {16, 16, 512}, {4, 1, 20}, {5, 3, 61}, {4, 1, 19}};
     static struct growth g;
     printf("| shape | T | read | written | and the places left zeroed | and the new disks zeroed | reshape: read "
            "| reshape: written |\n");
     printf("|---|--:|--:|--:|--:|--:|--:|--:|\n");
-    for (size_t i = 0; i < 4; i++) {
+    for (size_t i = 0; i < sizeof shapes / sizeof shapes[0]; i++) {
         memset(&g, 0, sizeof g);
         g.n = shapes[i][0];
         g.m = shapes[i][1];
-        g.stripes = g.n * (g.n + g.m);
+        g.stripes = shapes[i][2];
         grow(&g, 1 + i);
         print_row(&g);
     }

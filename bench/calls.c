@@ -1,4 +1,4 @@
-/* Makes one named call N times, for counting instructions: calls NAME ours|peer N n m block_len. */
+/* Makes one named call N times, for counting instructions: calls NAME ours|peer N n m block_len tail. */
 #include <stdio.h>
 #include <stdlib.h>
 
@@ -86,6 +86,10 @@ static bool run(struct stage *s, const struct set *c, const char *name, size_t t
         writes(s, c, s->half, list_blocks(s), times);
     else if (strcmp(name, "write-out") == 0)
         writes(s, c, s->degraded, list_on_disk_out(s), times);
+    else if (strcmp(name, "read-new") == 0)
+        stage_grown(s), reads(s, c, s->grown, list_some_blocks(s, old, all), times);
+    else if (strcmp(name, "write-new") == 0)
+        stage_grown(s), writes(s, c, s->grown, list_some_blocks(s, old, all), times);
     else if (strcmp(name, "rebuild") == 0)
         rebuilds(s, c, times);
     else if (strcmp(name, "growth") == 0)
@@ -105,12 +109,15 @@ static bool run(struct stage *s, const struct set *c, const char *name, size_t t
     return true;
 }
 
+static uint32_t number(const char *word) { return (uint32_t)atoi(word); }
+
+/* On the smallest array that moves: one group, and the tail. */
 int main(int argc, char **argv)
 {
     static struct stage s;
-    must(argc == 7, "calls NAME ours|peer N n m block_len");
-    uint32_t n = (uint32_t)atoi(argv[4]), m = (uint32_t)atoi(argv[5]), len = (uint32_t)atoi(argv[6]);
-    stage_open(&s, (struct plan){n, m, len, (size_t)(n + m) * n * (n + m) * len, true}, 1); /* the smallest that grows */
+    must(argc == 8, "calls NAME ours|peer N n m block_len tail");
+    struct plan plan = {number(argv[4]), number(argv[5]), number(argv[6]), SIZE_MAX, true, 1, number(argv[7])};
+    stage_open(&s, plan, 1);
     must(run(&s, &sets[strcmp(argv[2], "peer") == 0], argv[1], strtoul(argv[3], NULL, 0)), "no such call");
     return 0;
 }

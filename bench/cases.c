@@ -53,14 +53,32 @@ static struct contestant owner(const char *name, owner_call *call, struct list l
     return (struct contestant){.name = name, .turn = owners, .list = l, .owner = call};
 }
 
-static void reading(struct stage *s, struct settings set, struct report *report)
+/* With the places of the blocks also against memcpy. */
+static void reading_from(struct stage *s, struct settings set, struct report *report, const char *name,
+                         const uint8_t record[PBM_RECORD_LEN], struct list l, struct list places)
 {
-    struct list l = list_blocks(s), places = list_place_numbers(s, l);
-    struct series x = {"read", {reader("library", pbm_read, l), held(reader("C", peer_read, l), 0.95, 0.6),
-                                {.name = "memcpy alone", .turn = copies, .list = places}}, 3, 1};
-    lend(s, s->half);
+    struct series x = {name, {reader("library", pbm_read, l), held(reader("C", peer_read, l), 0.95, 0.6),
+                              {.name = "memcpy alone", .turn = copies, .list = places}}, places.count > 0 ? 3 : 2, 1};
+    lend(s, record);
     series_run(&x, s, set, report);
     free(l.items), free(places.items);
+}
+
+static void reading(struct stage *s, struct settings set, struct report *report)
+{
+    struct list l = list_blocks(s);
+    reading_from(s, set, report, "read", s->half, l, list_place_numbers(s, l));
+}
+
+static void reading_plainly(struct stage *s, struct settings set, struct report *report)
+{
+    reading_from(s, set, report, "read", s->half, list_blocks(s), (struct list){0});
+}
+
+static void reading_grown(struct stage *s, struct settings set, struct report *report)
+{
+    stage_grown(s);
+    reading_from(s, set, report, "read, any block, grown", s->grown, list_all_blocks(s), (struct list){0});
 }
 
 /*
@@ -88,14 +106,25 @@ static void reading_degraded(struct stage *s, struct settings set, struct report
     free(l.items);
 }
 
-static void writing(struct stage *s, struct settings set, struct report *report)
+static void writing_to(struct stage *s, struct settings set, struct report *report, const char *name,
+                       const uint8_t record[PBM_RECORD_LEN], struct list l)
 {
-    struct list l = list_blocks(s);
-    struct series x = {"write", {writer("library", pbm_write, l), held(writer("C", peer_write, l), 0.95, 0.8)}, 2, 1};
-    lend(s, s->half);
+    struct series x = {name, {writer("library", pbm_write, l), held(writer("C", peer_write, l), 0.95, 0.8)}, 2, 1};
+    lend(s, record);
     series_run(&x, s, set, report);
     parity_must_hold(s);
     free(l.items);
+}
+
+static void writing(struct stage *s, struct settings set, struct report *report)
+{
+    writing_to(s, set, report, "write", s->half, list_blocks(s));
+}
+
+static void writing_grown(struct stage *s, struct settings set, struct report *report)
+{
+    stage_grown(s);
+    writing_to(s, set, report, "write, any block, grown", s->grown, list_all_blocks(s));
 }
 
 static void writing_degraded(struct stage *s, struct settings set, struct report *report)
@@ -123,7 +152,9 @@ static void rebuilding(struct stage *s, struct settings set, struct report *repo
     parity_must_hold(s);
 }
 
-static void growing(struct stage *s, struct settings set, struct report *report, const char *name, uint32_t step)
+/* Against C, and against restripes if those play too. */
+static void growing_by(struct stage *s, struct settings set, struct report *report, const char *name, uint32_t step,
+                       bool restripes_too)
 {
     struct list l = {&step, 1};
     struct series x = {name,
@@ -131,19 +162,35 @@ static void growing(struct stage *s, struct settings set, struct report *report,
                         held(grower("C", peer_grow, peer_advance, l), 0.95, 0.8),
                         held((struct contestant){.name = "restripe", .turn = restripes, .list = l, .in_place = true}, 3, 3),
                         {.name = "restripe, out of place", .turn = restripes, .list = l}},
-                       4, s->total};
+                       restripes_too ? 4 : 2, s->total};
     series_run(&x, s, set, report);
     for (size_t i = 0; i < 2; i++) { /* one more growth of either, to look at */
         growths(s, &x.who[i], &step, 1);
         must(memcmp(s->record, s->grown, PBM_RECORD_LEN) == 0, "a growth did not come to its end");
         parity_must_hold(s);
     }
+}
+
+static void restripes_must_be_right(struct stage *s)
+{
     for (int in_place = 0; in_place < 2; in_place++) {
         struct restripe r = restripe_of(s, in_place);
         memcpy(s->images, s->home, s->home_len);
         restripe(&r);
         must(restripe_is_right(&r, s->home), "a restripe is wrong");
     }
+}
+
+static void growing(struct stage *s, struct settings set, struct report *report)
+{
+    growing_by(s, set, report, "grow + advance at once, per move", s->total, true);
+    growing_by(s, set, report, "grow + advance by 64, per move", 64, true);
+    restripes_must_be_right(s);
+}
+
+static void growing_plainly(struct stage *s, struct settings set, struct report *report)
+{
+    growing_by(s, set, report, "grow + advance at once, per move", s->total, false);
 }
 
 /* No target is set for old and new blocks mixed. */
@@ -168,18 +215,48 @@ static void owning(struct stage *s, struct settings set, struct report *report, 
     free(l.items);
 }
 
+static uint32_t old_blocks(const struct stage *s) { return s->stripes * (s->plan.n - 1); }
+static uint32_t all_blocks(const struct stage *s) { return s->stripes * (s->disks - 1); }
+
+static void locating_old(struct stage *s, struct settings set, struct report *report)
+{
+    locating(s, set, report, "locate, old block, half grown", s->half, 0, old_blocks(s));
+}
+
+static void locating_new(struct stage *s, struct settings set, struct report *report)
+{
+    locating(s, set, report, "locate, new block, grown", s->grown, old_blocks(s), all_blocks(s));
+}
+
+static void locating_any(struct stage *s, struct settings set, struct report *report)
+{
+    locating(s, set, report, "locate, any block, grown", s->grown, 0, all_blocks(s));
+}
+
+static void owning_half(struct stage *s, struct settings set, struct report *report)
+{
+    owning(s, set, report, "owner, half grown", s->half);
+}
+
+static void owning_grown(struct stage *s, struct settings set, struct report *report)
+{
+    owning(s, set, report, "owner, grown", s->grown);
+}
+
+typedef void one_case(struct stage *s, struct settings set, struct report *report);
+
 /* These read the record alone: no image is touched, whatever its size. */
-static void asking(struct stage *s, struct settings set, struct report *report)
+static one_case *const asking[] = {locating_old, locating_new, locating_any, owning_half, owning_grown};
+
+enum { ASKING = sizeof asking / sizeof asking[0] };
+
+static void ask(struct stage *s, struct settings set, struct report *report)
 {
     bool in_cache = s->plan.in_cache;
-    uint32_t old = s->stripes * (s->plan.n - 1), all = s->stripes * (s->disks - 1);
     s->plan.in_cache = true; /* repeated as any small case */
     size_t first = report->count;
-    locating(s, set, report, "locate, old block, half grown", s->half, 0, old);
-    locating(s, set, report, "locate, new block, grown", s->grown, old, all);
-    locating(s, set, report, "locate, any block, grown", s->grown, 0, all);
-    owning(s, set, report, "owner, half grown", s->half);
-    owning(s, set, report, "owner, grown", s->grown);
+    for (size_t i = 0; i < ASKING; i++)
+        asking[i](s, set, report);
     s->plan.in_cache = in_cache;
     for (; first < report->count; first++)
         report->rows[first].plan.in_cache = in_cache;
@@ -193,8 +270,28 @@ void cases_run(struct stage *s, struct settings set, struct report *report)
     writing_degraded(s, set, report);
     if (!s->few_stripes) {
         rebuilding(s, set, report);
-        growing(s, set, report, "grow + advance at once, per move", s->total);
-        growing(s, set, report, "grow + advance by 64, per move", 64);
+        growing(s, set, report);
     }
-    asking(s, set, report);
+    ask(s, set, report);
+}
+
+static void play_beside(one_case *play, struct stage *whole, struct stage *tailed, struct settings set, struct report *report)
+{
+    play(whole, set, report);
+    play(tailed, set, report);
+}
+
+void cases_beside(struct stage *whole, struct stage *tailed, struct settings set, struct report *report)
+{
+    static one_case *const blocks[] = {reading_plainly, writing, reading_grown, writing_grown};
+    for (size_t i = 0; i < sizeof blocks / sizeof blocks[0]; i++)
+        play_beside(blocks[i], whole, tailed, set, report);
+    if (!whole->few_stripes)
+        play_beside(growing_plainly, whole, tailed, set, report);
+}
+
+void cases_asking_beside(struct stage *whole, struct stage *tailed, struct settings set, struct report *report)
+{
+    for (size_t i = 0; i < ASKING; i++)
+        play_beside(asking[i], whole, tailed, set, report);
 }

@@ -7,6 +7,13 @@
 /* Plays every case on one array, and adds their rows. */
 void cases_run(struct stage *s, struct settings set, struct report *report);
 
+/*
+ * Plays the cases that a tail can matter to, on an array of whole groups and on the same with a tail behind them, in turn: two
+ * rows each. Those that reach blocks; those that read the record alone, to which the length of a block is all the same.
+ */
+void cases_beside(struct stage *whole, struct stage *tailed, struct settings set, struct report *report);
+void cases_asking_beside(struct stage *whole, struct stage *tailed, struct settings set, struct report *report);
+
 /* What stands for view, on an array of short blocks. */
 void cases_view(struct stage *s, struct settings set, struct report *report);
 

@@ -105,7 +105,7 @@ uint8_t peer_grow(uint8_t *record, size_t record_len, uint8_t *images, size_t im
         return PBM_DEGRADED;
     if (a.m != 0)
         return PBM_GROWN;
-    if (!growth_is_good(a.n, m, a.stripes))
+    if (!new_is_good(m))
         return PBM_GEOMETRY;
     if (images_len != (a.n + m) * disk_len(&a))
         return PBM_IMAGES;
@@ -154,7 +154,7 @@ uint8_t peer_advance(uint8_t *record, size_t record_len, uint8_t *images, size_t
         return PBM_NOTHING_TO_MOVE;
     if (images_len != images_size(&a))
         return PBM_IMAGES;
-    uint32_t left = a.stripes / a.disks * a.n * a.m - a.moves;
+    uint32_t left = a.total - a.moves;
     uint32_t count = k < left ? (uint32_t)k : left;
     make_moves(&a, images, count);
     memcpy(record + PBM_AT_MOVES, &(uint32_t){a.moves + count}, 4);
@@ -184,6 +184,22 @@ uint8_t peer_rebuild(uint8_t *record, size_t record_len, uint8_t *images, size_t
     for (uint32_t s = 0; s < a.stripes; s++)
         sum_others(&a, images, s, a.out, images + offset_of(&a, s, a.out));
     set_health(record, PBM_HEALTH_WHOLE, 0);
+    return PBM_DONE;
+}
+
+uint8_t peer_status(const uint8_t *record, size_t record_len, uint64_t *capacity_now, uint64_t *moves, uint64_t *total,
+                    uint64_t *health, uint64_t *out_disk)
+{
+    struct array a;
+    *capacity_now = *moves = *total = *health = *out_disk = 0;
+    uint8_t refused = array_open(&a, record, record_len);
+    if (refused)
+        return refused;
+    *capacity_now = capacity(&a);
+    *moves = a.moves;
+    *total = a.total;
+    *health = a.health;
+    *out_disk = a.out;
     return PBM_DONE;
 }
 

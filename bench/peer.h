@@ -19,6 +19,8 @@ uint8_t peer_advance(uint8_t *record, size_t record_len, uint8_t *images, size_t
                      uint64_t *made);
 uint8_t peer_out(uint8_t *record, size_t record_len, uint64_t disk);
 uint8_t peer_rebuild(uint8_t *record, size_t record_len, uint8_t *images, size_t images_len, uint64_t disk);
+uint8_t peer_status(const uint8_t *record, size_t record_len, uint64_t *capacity_now, uint64_t *moves, uint64_t *total,
+                    uint64_t *health, uint64_t *out_disk);
 uint8_t peer_locate(const uint8_t *record, size_t record_len, uint64_t block, uint64_t *stripe, uint64_t *disk);
 uint8_t peer_owner(const uint8_t *record, size_t record_len, uint64_t stripe, uint64_t disk, uint64_t *role,
                    uint64_t *block);

@@ -59,6 +59,7 @@ static void add_row(struct report *report, const struct series *x, const struct 
 {
     double target = s->plan.block_len != 4096 ? 0 : s->plan.in_cache ? peer->target_in : peer->target_out;
     struct row row = {.call = x->name, .peer = peer->name, .plan = s->plan, .images_len = s->images_len};
+    row.stripes = s->stripes;
     row.ns = ns;
     row.target = target;
     row.median = median(ratios, rounds);
@@ -90,6 +91,8 @@ void series_run(const struct series *x, struct stage *s, struct settings set, st
     }
 }
 
+static int digits(double ns) { return ns < 100 ? 1 : 0; }
+
 void report_print(const struct report *report, bool in_cache)
 {
     printf("| call | shape | B | images | peer | ratio | lowest quartile | highest quartile | ours, ns | target | met |\n");
@@ -100,10 +103,29 @@ void report_print(const struct report *report, bool in_cache)
             continue;
         printf("| %s | %u + %u | %u | %.2f MiB | %s | %.3f | %.2f | %.2f | %.*f |", r->call, r->plan.n, r->plan.m,
                r->plan.block_len, (double)r->images_len / 1048576, r->peer, r->median, r->low, r->high,
-               r->ns < 100 ? 1 : 0, r->ns);
+               digits(r->ns), r->ns);
         if (r->target > 0)
             printf(" %.2f | %s |\n", r->target, r->median >= r->target ? "yes" : "**no**");
         else
             printf(" - | - |\n");
+    }
+}
+
+static void print_measured(const struct row *r)
+{
+    printf(" %u | %.3f | %.2f to %.2f | %.*f |", r->stripes, r->median, r->low, r->high, digits(r->ns), r->ns);
+}
+
+void report_print_beside(const struct report *report)
+{
+    printf("| call | shape | B | peer | T, whole groups | ratio | quartiles | ours, ns | T, with a tail | ratio | quartiles "
+           "| ours, ns |\n");
+    printf("|---|---|--:|---|--:|--:|--:|--:|--:|--:|--:|--:|\n");
+    for (size_t i = 0; i < report->count; i += 2) {
+        const struct row *r = &report->rows[i];
+        printf("| %s | %u + %u | %u | %s |", r->call, r->plan.n, r->plan.m, r->plan.block_len, r->peer);
+        print_measured(r);
+        print_measured(r + 1);
+        printf("\n");
     }
 }

@@ -51,6 +51,7 @@ struct settings {
 struct row {
     const char *call, *peer;
     struct plan plan;
+    uint32_t stripes;
     size_t images_len;
     double low, median, high, ns, target;
 };
@@ -62,5 +63,7 @@ struct report {
 
 void series_run(const struct series *x, struct stage *s, struct settings set, struct report *report);
 void report_print(const struct report *report, bool in_cache);
+/* Of cases played on two arrays in turn: either's row in one line. */
+void report_print_beside(const struct report *report);
 
 #endif

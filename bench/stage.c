@@ -26,15 +26,16 @@ static void *buffer(size_t len)
     return bytes;
 }
 
-/* The most stripes that fit, in the unit that a growth asks for. */
-static uint32_t stripes_for(struct plan p)
+static uint32_t group_len(struct plan p) { return p.n * (p.n + p.m); }
+
+/* The most whole groups that fit. */
+static uint32_t groups_for(struct plan p)
 {
-    uint32_t disks = p.n + p.m, unit = p.n * disks;
-    size_t most = p.images_len / ((size_t)disks * p.block_len);
+    size_t most = p.images_len / ((size_t)(p.n + p.m) * p.block_len);
     if (most > MAX_STRIPES)
         most = MAX_STRIPES;
-    size_t units = (most + (p.in_cache ? unit / 2 : 0)) / unit; /* a small array is rounded, a big one cut */
-    return (uint32_t)(units > 0 ? units : 1) * unit;
+    size_t groups = (most + (p.in_cache ? group_len(p) / 2 : 0)) / group_len(p); /* a small array is rounded, a big one cut */
+    return groups > 0 ? (uint32_t)groups : 1;
 }
 
 static void fill_home(struct stage *s)
@@ -48,18 +49,26 @@ static void fill_home(struct stage *s)
     must(isal_check(s->home, s->plan.n, s->stripes, s->plan.block_len), "a parity does not hold before growth");
 }
 
-void stage_half(struct stage *s)
+/* From the images of before; into its record. */
+static void grow_to(struct stage *s, uint8_t record[PBM_RECORD_LEN], uint32_t moves)
 {
     uint64_t made;
     memcpy(s->images, s->home, s->home_len);
-    memcpy(s->half, s->formatted, PBM_RECORD_LEN);
-    must(pbm_grow(s->half, PBM_RECORD_LEN, s->images, s->images_len, s->plan.m) == 0, "grow");
-    must(pbm_advance(s->half, PBM_RECORD_LEN, s->images, s->images_len, s->total / 2, &made) == 0, "advance");
+    memcpy(record, s->formatted, PBM_RECORD_LEN);
+    must(pbm_grow(record, PBM_RECORD_LEN, s->images, s->images_len, s->plan.m) == 0, "grow");
+    must(pbm_advance(record, PBM_RECORD_LEN, s->images, s->images_len, moves, &made) == 0 && made == moves, "advance");
+}
+
+void stage_half(struct stage *s)
+{
+    grow_to(s, s->half, s->total / 2);
     memcpy(s->degraded, s->half, PBM_RECORD_LEN);
     must(pbm_out(s->degraded, PBM_RECORD_LEN, OUT_DISK) == 0, "out");
     memcpy(s->grown, s->half, PBM_RECORD_LEN);
     memcpy(s->grown + PBM_AT_MOVES, &s->total, 4);
 }
+
+void stage_grown(struct stage *s) { grow_to(s, s->grown, s->total); }
 
 static bool block_on_disk_out(const struct stage *s, uint32_t block)
 {
@@ -87,9 +96,11 @@ static void choose_stripes(struct stage *s)
 
 void stage_open(struct stage *s, struct plan plan, uint64_t seed)
 {
-    *s = (struct stage){.plan = plan, .disks = plan.n + plan.m, .stripes = stripes_for(plan), .random = {seed}};
+    uint32_t groups = plan.groups > 0 ? plan.groups : groups_for(plan);
+    *s = (struct stage){.plan = plan, .disks = plan.n + plan.m, .random = {seed}};
+    s->stripes = groups * group_len(plan) + plan.tail;
+    s->total = groups * plan.n * plan.n * plan.m;
     size_t disk_len = (size_t)s->stripes * plan.block_len;
-    s->total = s->stripes / s->disks * plan.n * plan.m;
     s->home_len = plan.n * disk_len;
     s->images_len = s->disks * disk_len;
     s->home = buffer(s->home_len);
@@ -100,7 +111,7 @@ void stage_open(struct stage *s, struct plan plan, uint64_t seed)
     random_fill(&s->random, s->data, (size_t)DATA_BLOCKS * plan.block_len);
     fill_home(s);
     stage_half(s);
-    s->few_stripes = plan.in_cache && s->images_len > 2 * plan.images_len;
+    s->few_stripes = plan.in_cache && s->images_len / 2 > plan.images_len;
     if (s->few_stripes)
         choose_stripes(s);
 }
@@ -117,16 +128,24 @@ static struct list list_of(size_t most)
     return l;
 }
 
-struct list list_blocks(struct stage *s)
+/* The old blocks of each stripe that is visited, and `added` new ones. */
+static struct list blocks_of_stripes(struct stage *s, uint32_t added)
 {
     uint32_t data = s->plan.n - 1, stripes = s->few_stripes ? s->visited_count : s->stripes;
-    struct list l = list_of((size_t)stripes * data);
-    for (uint32_t i = 0; i < stripes; i++)
+    struct list l = list_of((size_t)stripes * (data + added));
+    for (uint32_t i = 0; i < stripes; i++) {
+        uint32_t stripe = s->few_stripes ? s->visited[i] : i;
         for (uint32_t b = 0; b < data; b++)
-            l.items[l.count++] = (s->few_stripes ? s->visited[i] : i) * data + b;
+            l.items[l.count++] = stripe * data + b;
+        for (uint32_t b = 0; b < added; b++)
+            l.items[l.count++] = s->stripes * data + stripe * added + b;
+    }
     random_shuffle(&s->random, l.items, l.count);
     return l;
 }
+
+struct list list_blocks(struct stage *s) { return blocks_of_stripes(s, 0); }
+struct list list_all_blocks(struct stage *s) { return blocks_of_stripes(s, s->plan.m); }
 
 struct list list_on_disk_out(struct stage *s)
 {

@@ -11,8 +11,10 @@
 
 struct plan {
     uint32_t n, m, block_len;
-    size_t images_len; /* wished for: the array has as many stripes as fit it and are lawful, or the fewest lawful */
+    size_t images_len; /* wished for: the array has as many whole groups as fit it, or one */
     bool in_cache;
+    uint32_t groups; /* so many, whatever was wished for; 0: by the wish */
+    uint32_t tail;   /* stripes behind the whole groups */
 };
 
 /* Numbers in random order: blocks, or places as 32 * S + d. */
@@ -42,11 +44,13 @@ enum { OUT_DISK = 1, DATA_BLOCKS = 16 };
 void stage_open(struct stage *s, struct plan plan, uint64_t seed);
 void stage_close(struct stage *s);
 
-/* The images again as they were in the middle of the growth. */
+/* The images as they are in the middle of the growth; as they are once all moves are made. */
 void stage_half(struct stage *s);
+void stage_grown(struct stage *s);
 
-struct list list_blocks(struct stage *s);     /* all blocks of before the growth */
-struct list list_on_disk_out(struct stage *s); /* those that stand on OUT_DISK */
+struct list list_blocks(struct stage *s);      /* all blocks of before the growth */
+struct list list_all_blocks(struct stage *s);  /* and the new ones */
+struct list list_on_disk_out(struct stage *s); /* those of before the growth that stand on OUT_DISK */
 struct list list_some_blocks(struct stage *s, uint32_t first, uint32_t end);
 struct list list_some_places(struct stage *s);
 /* The number of the place on which each block stands: d * T + S. */

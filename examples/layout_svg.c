@@ -3,10 +3,11 @@
  *
  *     layout_svg n m t [T [first [last]]] > picture.svg
  *
- * T is the number of stripes: without it one group, n * (n + m). Drawn are the stripes from `first` to `last`, both of them
- * included; without `last`, from `first` (without it, from 0) as many as a group has, or as there are. With m = 0 it is an
- * array before its growth. All that the picture shows is asked of pbm_owner, place by place, by a record that is written
- * here as pbm.h describes it. A bad argument is named in one line on standard error, and the exit status is 1.
+ * T is the number of stripes, 1 to 1048576: without it one group, n * (n + m). Drawn are the stripes from `first` to `last`,
+ * both of them included; without `last`, from `first` (without it, from 0) as many as a group has, or as there are. Each zone
+ * has a frame, and so has the tail, the stripes behind the last whole group. With m = 0 it is an array before its growth. What
+ * stands on a place is asked of pbm_owner, by a record that is written here as pbm.h describes it. A bad argument is named in
+ * one line on standard error, and the exit status is 1.
  */
 #include "pbm.h"
 
@@ -19,12 +20,12 @@
 /* The limits of pbm.h; and the stripes of one picture, which is large enough then: the largest group has 512. */
 enum { OLD_MIN = 3, DISKS_MAX = 16, STRIPES_MAX = 1048576, DRAWN_MAX = 1024 };
 
-/* n old and m new disks, T stripes, t moves done; the stripes drawn; the record of that, and that before the first move */
+/* n old and m new disks, T stripes, t moves done; the stripes drawn; the record of that, and that before the growth */
 static unsigned n, m, T, t, first, last;
-static uint8_t now[PBM_RECORD_LEN], at_first[PBM_RECORD_LEN];
+static uint8_t now[PBM_RECORD_LEN], before[PBM_RECORD_LEN];
 
 static unsigned group(void) { return n * (n + m); }
-static unsigned total(void) { return T * n * m / (n + m); }
+static unsigned total(void) { return T / group() * n * n * m; }
 static unsigned lesser(unsigned a, unsigned b) { return a < b ? a : b; }
 
 /* ---- the arguments */
@@ -48,16 +49,6 @@ static unsigned argument(const char *name, const char *text, unsigned from, unsi
     return (unsigned)value;
 }
 
-static unsigned stripes(const char *text)
-{
-    char why[80] = "";
-    unsigned from = m > 0 ? group() : 1, to = m > 0 ? STRIPES_MAX / group() * group() : STRIPES_MAX;
-    if (m > 0) snprintf(why, sizeof why, ", a multiple of n * (n + m), which is %u", group());
-    unsigned value = argument("T", text, from, to, why);
-    if (value % from != 0) refuse("T", text, from, to, why);
-    return value;
-}
-
 static void take(int argc, char **argv)
 {
     if (argc < 4 || argc > 7) {
@@ -66,8 +57,8 @@ static void take(int argc, char **argv)
     }
     n = argument("n", argv[1], OLD_MIN, DISKS_MAX, "");
     m = argument("m", argv[2], 0, DISKS_MAX, "");
-    T = argc > 4 ? stripes(argv[4]) : group();
-    t = argument("t", argv[3], 0, total(), ", which is T * n * m / (n + m)");
+    T = argc > 4 ? argument("T", argv[4], 1, STRIPES_MAX, "") : group();
+    t = argument("t", argv[3], 0, total(), ", n * n * m for each whole group of n * (n + m) stripes");
     first = argc > 5 ? argument("first", argv[5], 0, T - 1, ", which is T - 1") : 0;
     last = argc > 6 ? argument("last", argv[6], first, lesser(T - 1, first + DRAWN_MAX - 1),
                                ": below T, and at most 1024 stripes in a picture")
@@ -83,10 +74,10 @@ static void put(uint8_t *bytes, int count, unsigned value)
 }
 
 /* All other bytes are 0. The block length, 1 here, has no part in the layout. */
-static void set_record(uint8_t *record, unsigned moves)
+static void set_record(uint8_t *record, unsigned new_disks, unsigned moves)
 {
     put(record + PBM_AT_N, 1, n);
-    put(record + PBM_AT_M, 1, m);
+    put(record + PBM_AT_M, 1, new_disks);
     put(record + PBM_AT_BLOCK_LEN, 2, 1);
     put(record + PBM_AT_STRIPES, 4, T);
     put(record + PBM_AT_MOVES, 4, moves);
@@ -105,22 +96,22 @@ static struct owner owner_by(const uint8_t *record, unsigned stripe, unsigned di
     return owner;
 }
 
-/* What stands on a disk of a stripe, and the disk on which that stood before the first move: n + m if on none. */
+/* What stands on a disk of a stripe, and the disk on which that stood before the growth: n if on none. */
 struct place { unsigned role, block, disk, home; };
 
 static struct place place_at(unsigned stripe, unsigned disk)
 {
     struct owner owner = owner_by(now, stripe, disk);
     unsigned home = 0; /* a move stays in its stripe: look there */
-    for (; home < n + m; home++) {
-        struct owner old = owner_by(at_first, stripe, home);
-        if (old.role == owner.role && old.block == owner.block && old.role != PBM_BLANK) break;
+    for (; home < n; home++) {
+        struct owner old = owner_by(before, stripe, home);
+        if (old.role == owner.role && old.block == owner.block) break;
     }
     return (struct place){(unsigned)owner.role, (unsigned)owner.block, disk, home};
 }
 
-static int is_new(struct place p) { return p.role == PBM_DATA && p.home == n + m; }
-static int is_moved(struct place p) { return p.home < n + m && p.home != p.disk; }
+static int is_new(struct place p) { return p.role == PBM_DATA && p.home == n; }
+static int is_moved(struct place p) { return p.home < n && p.home != p.disk; }
 
 /* ---- the picture: disks across, stripes down */
 
@@ -134,13 +125,15 @@ static unsigned wide(void) { return 54 + 9 * digits(T * (n + m - 1)); }
 /* The room left of the places, for the numbers of zones and stripes. */
 static unsigned left(void) { return LEFT + (digits(last) > 3 ? LETTER * (digits(last) - 3) : 0); }
 
-/* The stripes that are drawn together: those of a zone; without a growth, all. */
+/* In one frame are the stripes of a zone, or those of the tail, which begins behind the last whole group; without a growth, all. */
 static unsigned zone(void) { return m > 0 ? n + m : T; }
+static unsigned tail(void) { return m > 0 ? T / group() * group() : T; }
+static unsigned frame_of(unsigned stripe) { return lesser(stripe, tail()) / zone(); }
 
 static unsigned x_of(unsigned disk) { return left() + disk * (wide() + GAP) + (disk < n ? 0 : BETWEEN); }
 static unsigned y_of(unsigned stripe)
 {
-    return TOP + (stripe - first) * (HIGH + GAP) + (stripe / zone() - first / zone()) * BETWEEN;
+    return TOP + (stripe - first) * (HIGH + GAP) + (frame_of(stripe) - frame_of(first)) * BETWEEN;
 }
 
 #define NOTE "<text x=\"%u\" y=\"17\" font-size=\"10\" text-anchor=\"end\">"
@@ -170,25 +163,25 @@ static void draw_place(unsigned stripe, unsigned disk)
     draw(x_of(disk), y_of(stripe), p, title);
 }
 
-/* The name of a zone, upright beside its rows: as much of it as has room there. */
-static void draw_zone_name(unsigned number, int is_cut, unsigned middle, unsigned room)
+/* The name of a zone or of the tail, upright beside its rows: as much of it as has room there, and "tail" always has. */
+static void draw_name(unsigned number, int is_tail, int is_cut, unsigned middle, unsigned room)
 {
-    const char *forms[] = {"zone %u, cut", "zone %u", "%u"};
+    const char *forms[][3] = {{"zone %u, cut", "zone %u", "%u"}, {"tail, cut", "tail", "tail"}};
     char name[32];
     for (int i = is_cut ? 0 : 1; i < 3; i++)
-        if ((unsigned)snprintf(name, sizeof name, forms[i], number) * LETTER <= room) break;
+        if ((unsigned)snprintf(name, sizeof name, forms[is_tail][i], number) * LETTER <= room) break;
     printf("<text transform=\"translate(26,%u) rotate(-90)\" text-anchor=\"middle\">%s</text>\n", middle, name);
 }
 
-/* A zone, or what of it is among the stripes drawn. */
-static void draw_zone(unsigned number)
+/* A zone, or the tail, or what of it is among the stripes drawn. */
+static void draw_frame(unsigned number)
 {
-    unsigned begin = number * zone(), end = begin + zone() - 1;
+    unsigned begin = number * zone(), end = begin < tail() ? begin + zone() - 1 : T - 1;
     unsigned from = begin > first ? begin : first, to = lesser(end, last);
     unsigned top = y_of(from) - GAP, high = (to - from + 1) * (HIGH + GAP) + GAP;
     printf("<rect x=\"%u\" y=\"%u\" width=\"%u\" height=\"%u\" rx=\"4\" fill=\"#eee\"/>\n", left() - GAP, top,
            x_of(n + m - 1) + wide() + GAP - (left() - GAP), high);
-    if (m > 0) draw_zone_name(number, from > begin || to < end, top + high / 2, high);
+    if (m > 0) draw_name(number, begin == tail(), from > begin || to < end, top + high / 2, high);
     for (unsigned stripe = from; stripe <= to; stripe++) {
         printf("<text x=\"%u\" y=\"%u\" text-anchor=\"end\">%u</text>\n", left() - 16, y_of(stripe) + 18, stripe);
         for (unsigned disk = 0; disk < n + m; disk++) draw_place(stripe, disk);
@@ -217,8 +210,8 @@ static void draw_legend(unsigned x)
         {{PBM_PARITY, 0, 0, 0}, "parity, not moved"},
         {{PBM_DATA, 4, 3, 1}, "a block, moved from disk 1"},
         {{PBM_PARITY, 0, 3, 0}, "parity, moved from disk 0"},
-        {{PBM_DATA, 30, 3, n + m}, "a new block"},
-        {{PBM_BLANK, 0, 3, n + m}, "blank: zeroes"},
+        {{PBM_DATA, 30, 3, n}, "a new block"},
+        {{PBM_BLANK, 0, 3, n}, "blank: zeroes"},
     };
     for (unsigned i = 0; i < LEGEND_ROWS; i++) {
         unsigned y = TOP + i * (HIGH + GAP);
@@ -230,8 +223,8 @@ static void draw_legend(unsigned x)
 int main(int argc, char **argv)
 {
     take(argc, argv);
-    set_record(now, t);
-    set_record(at_first, 0);
+    set_record(now, m, t);
+    set_record(before, 0, 0);
 
     unsigned legend = x_of(n + m) + 6 * GAP, width = legend + wide() + LEGEND;
     unsigned bottom = y_of(last), least = TOP + (LEGEND_ROWS - 1) * (HIGH + GAP);
@@ -240,7 +233,7 @@ int main(int argc, char **argv)
            "font-family=\"sans-serif\" font-size=\"14\">\n", width, height, width, height);
     printf("<rect width=\"%u\" height=\"%u\" fill=\"#fff\"/>\n", width, height);
     draw_heads();
-    for (unsigned number = first / zone(); number <= last / zone(); number++) draw_zone(number);
+    for (unsigned number = frame_of(first); number <= frame_of(last); number++) draw_frame(number);
     draw_legend(legend);
     printf("</svg>\n");
     if (fflush(stdout) != 0 || ferror(stdout)) {

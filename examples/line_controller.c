@@ -2,8 +2,9 @@
  * line_controller.c - a sawmill line on an array that grows while the line runs.
  *
  * The scanner writes each log's cutting solution to a numbered block, the saw reads it. Meanwhile three disks are added
- * to five; in the middle of that growth a disk is lost, and rebuilt later. Each block that the saw reads is compared
- * with what the scanner last wrote to it, which this program keeps in a plain array of its own.
+ * to five; in the middle of that growth a disk is lost, and rebuilt later. The disks are of no round size: a tail is left
+ * behind the groups that move. Each block that the saw reads is compared with what the scanner last wrote to it, which
+ * this program keeps in a plain array of its own.
  *
  *     line_controller [seed]
  *
@@ -20,11 +21,14 @@
 enum {
     OLD = 5, NEW = 3, /* disks */
     BLOCK = 4096,
-    STRIPES = 400, /* a multiple of OLD * (OLD + NEW), else the array could not grow by NEW disks */
+    STRIPES = 417, /* ten groups, and a tail of 17 stripes */
     DISK = STRIPES * BLOCK,
+    GROUP = OLD * (OLD + NEW), /* stripes */
+    TAIL = STRIPES % GROUP,
     BLOCKS_BEFORE = STRIPES * (OLD - 1),
     BLOCKS_AFTER = STRIPES * (OLD + NEW - 1),
-    MOVES = STRIPES * OLD * NEW / (OLD + NEW)
+    BLOCKS_TAIL = TAIL * NEW, /* the last of the new ones */
+    MOVES = STRIPES / GROUP * OLD * OLD * NEW
 };
 
 /* What the library is lent: the record, and the images of all disks one behind the other. */
@@ -149,6 +153,20 @@ static void logs_pass(int logs)
     }
 }
 
+/* In the tail no block has moved: the new ones stand on the new disks, stripe by stripe. */
+static void tail_is_used(void)
+{
+    for (uint64_t k = 0; k < BLOCKS_TAIL; k++) {
+        uint64_t block = BLOCKS_AFTER - BLOCKS_TAIL + k, stripe, disk;
+        must("locate", pbm_locate(record, sizeof record, block, &stripe, &disk));
+        must_be("stripe of a new block in the tail", stripe, STRIPES - TAIL + k / NEW);
+        must_be("disk of a new block in the tail", disk, OLD + k % NEW);
+        scanner_writes(block);
+        saw_reads(block);
+    }
+    printf("    all %d new blocks of the tail are written and read\n", BLOCKS_TAIL);
+}
+
 /* ---- what happens to the array meanwhile */
 
 static void grow(void)
@@ -241,9 +259,11 @@ int main(int argc, char **argv)
     printf("the growth is over: %d blocks\n", BLOCKS_AFTER);
     saw_reads_all();
     logs_pass(2000);
+    tail_is_used();
 
     lose(OLD); /* a new disk this time */
     saw_reads_all();
+    tail_is_used();
     rebuild(OLD);
     saw_reads_all();
 

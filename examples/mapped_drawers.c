@@ -19,7 +19,7 @@
 #include <sys/mman.h>
 #include <unistd.h>
 
-enum { OLD = 3, NEW = 2, BLOCK = 512, STRIPES = 120 }; /* 120 is a multiple of 3 * (3 + 2); 120 * 512 of 4096 */
+enum { OLD = 3, NEW = 2, BLOCK = 512, STRIPES = 128 }; /* 128 * 512 is a multiple of 4096 */
 
 static const char *folder;
 static uint8_t record[PBM_RECORD_LEN], *images;

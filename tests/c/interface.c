@@ -1,6 +1,6 @@
 /*
- * Every call, word and length of pbm.h from C: n = 3, m = 2, T = 15, B = 4. Prints what each returns and leaves;
- * tests/tests/c_interface.rs has the values.
+ * Every call, word and length of pbm.h from C: n = 3, m = 2, T = 15, B = 4; and the growth of n = 4, m = 1, T = 19, which grow
+ * itself ends. Prints what each returns and leaves; tests/tests/c_interface.rs has the values.
  */
 #include "pbm.h"
 
@@ -162,6 +162,42 @@ static void show_words(void)
     printf("word 255: %s\n", pbm_word(255));
 }
 
+/* No whole group: 57 blocks, and with the grow itself 76. */
+static void show_growth_at_once(void)
+{
+    enum { OLD = 4, TAIL = 19 };
+    uint64_t number;
+    uint8_t *more;
+    free(images);
+    images_len = pbm_images_len(OLD, BLOCK, TAIL);
+    images = take(images_len);
+    printf("format, 4 disks of 19 blocks: %d\n", pbm_format(record, PBM_RECORD_LEN, images, images_len, OLD, BLOCK, TAIL));
+    show_write(56, "old!");
+    show_read(57);
+    more = take(pbm_images_len_by(record, 1));
+    memcpy(more, images, images_len);
+    free(images);
+    images = more;
+    images_len = pbm_images_len_by(record, 1);
+    printf("grow by 1: %d\n", pbm_grow(record, PBM_RECORD_LEN, images, images_len, 1));
+    show_status();
+    show_advance(1);
+    for (number = 57; number < 76; number++) {
+        int answer = pbm_read(record, PBM_RECORD_LEN, images, images_len, number, block, BLOCK);
+        if (answer != PBM_DONE || memcmp(block, "\0\0\0\0", BLOCK) != 0) printf("block %d is not zero\n", (int)number);
+    }
+    show_write(57, "5757");
+    show_write(75, "7575");
+    show_write(76, "past");
+    show_read(57);
+    show_read(75);
+    show_read(56);
+    show_place(57);
+    show_place(75);
+    show_owner(18, 4);
+    show_record();
+}
+
 int main(void)
 {
     record = take(PBM_RECORD_LEN);
@@ -216,6 +252,7 @@ int main(void)
     show_status();
     show_place(59);
 
+    show_growth_at_once();
     free(images);
     free(block);
     free(record);

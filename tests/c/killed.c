@@ -1,6 +1,7 @@
 /*
  * What a kill leaves (pbm.h, "A call that is killed"): calls are stopped inside by a page that they may not touch, in a process
- * that shares record and images with this one, and this one looks at what is left. Every place is one page.
+ * that shares record and images with this one, and this one looks at what is left. Every place is one page. 15 stripes are a group,
+ * two are a tail.
  */
 #define _GNU_SOURCE
 #include "pbm.h"
@@ -13,7 +14,7 @@
 #include <sys/wait.h>
 #include <unistd.h>
 
-enum { OLD = 3, NEW = 2, DISKS = OLD + NEW, STRIPES = 15, BLOCK = 4096, PLACES = DISKS * STRIPES, MOVES = 18, STOPPED = 9 };
+enum { OLD = 3, NEW = 2, DISKS = OLD + NEW, STRIPES = 17, BLOCK = 4096, PLACES = DISKS * STRIPES, MOVES = 18, STOPPED = 9 };
 
 typedef uint8_t array_t[PLACES][BLOCK];
 

@@ -4,7 +4,7 @@
 use crate::flat::owned;
 use crate::images::{disk, place, xor};
 use crate::layout::Layout;
-use crate::moves::moves;
+use crate::moves::of_growth;
 use crate::pbm::{Answer, Bytes, Call};
 use crate::record::{Health, Record};
 
@@ -120,8 +120,8 @@ fn write(images: &mut [u8], record: &Record, layout: &Layout, number: u64, data:
 /// "makes moves in order until k are made or none is left": how many. "A move copies the block to its new place, then zeroes the
 /// place it left."
 fn make_moves(images: &mut [u8], record: &Record, k: u64) -> u64 {
-    let zones = record.stripes / record.disks();
-    let all = moves(record.n as i64, record.m as i64, zones as i64 - 1);
+    let [n, m, stripes] = [record.n, record.m, record.stripes].map(|x| x as i64);
+    let all = of_growth(n, m, stripes);
     let next = &all[record.moves as usize..];
     let made = k.min(next.len() as u64);
     for x in &next[..made as usize] {

@@ -3,11 +3,11 @@
 use crate::flat::Flat;
 use crate::pbm::{Bytes, Call, NAMES};
 use crate::random::Random;
-use crate::record::{Health, Record, RECORD_LEN};
+use crate::record::{tails, Health, Record, RECORD_LEN};
 
 pub struct Caller {
     pub random: Random,
-    /// The new disks that the stripes were drawn for.
+    /// The new disks that groups and tail were drawn for.
     planned: u64,
     /// Numbers that calls were given before.
     old: Vec<u64>,
@@ -35,7 +35,7 @@ impl Caller {
         }
     }
 
-    /// A format that is accepted, if the images have the length; mostly with stripes that let it grow.
+    /// A format that is accepted, if the images have the length: no whole group or some, and no tail or one of any kind.
     pub fn good_format(&mut self) -> Call {
         let random = &mut self.random;
         let large = random.one_in(20);
@@ -46,11 +46,12 @@ impl Caller {
             _ => (3 + random.below(14), 1 + random.below(16)),
         };
         let group = n * (n + m);
-        let stripes = match random.below(5) {
-            _ if large => group,
-            0 => 1 + random.below(64),
-            _ => group * (1 + random.below(1 + 64 / group)),
+        let groups = match random.below(4) {
+            0 => 0,
+            _ if large => 1,
+            _ => 1 + random.below(1 + 64 / group),
         };
+        let stripes = (groups * group + any_tail(random, n, m)).max(1);
         let longest = match large {
             true => 4096,
             false => *random.pick(&[4, 16, 64, SMALL / ((n + m) * stripes)]),
@@ -169,6 +170,11 @@ impl Caller {
             0..=3 if capacity > old_capacity => {
                 old_capacity + self.random.below(capacity - old_capacity)
             }
+            // one of the last old or of the last new ones: of the tail, if there is one
+            4 | 5 => {
+                let end = *self.random.pick(&[old_capacity, capacity]);
+                end - 1 - self.random.below(end.min(2 * n))
+            }
             0..=12 => self.random.below(capacity),
             13 => capacity + self.random.below(stripes * m + 1),
             _ => self.odd(capacity),
@@ -278,6 +284,15 @@ impl Caller {
         let more = self.random.bytes(len - stretched.len());
         stretched.extend(more);
         stretched
+    }
+}
+
+/// None, one of some kind, or any.
+pub fn any_tail(random: &mut Random, n: u64, m: u64) -> u64 {
+    match random.below(8) {
+        0..=2 => 0,
+        3 => random.below(n * (n + m)),
+        _ => *random.pick(&tails(n, m)),
     }
 }
 

@@ -60,6 +60,7 @@ impl Flat {
             Call::Grow { m } => {
                 numbers.m = m;
                 self.layout.grow(m);
+                self.lengthen();
             }
             Call::Advance { k } => {
                 let made = k.min(numbers.total() - numbers.moves);
@@ -85,7 +86,7 @@ impl Flat {
         Answer::done(&[])
     }
 
-    /// "puts T × m zero blocks behind the list" once t is the total. A growth has at least one move, so grow need not look.
+    /// "A grow or advance that brings t to the total puts T × m zero blocks behind the list."
     fn lengthen(&mut self) {
         let Record {
             m,

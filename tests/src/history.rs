@@ -7,7 +7,7 @@ use crate::images;
 use crate::memory::Memory;
 use crate::pbm::{Answer, Bytes, Call, Loan, NAMES};
 use crate::random::Random;
-use crate::record::{Health, RECORD_LEN};
+use crate::record::{tails, Health, Record, RECORD_LEN};
 use crate::table::{rows, Lent, LAST};
 use std::collections::BTreeMap;
 use std::fmt;
@@ -229,24 +229,52 @@ pub struct Tally {
 const SIGHTS: &[&str] = &[
     "advance: the growth is complete",
     "advance: the growth is under way",
+    "advance: the growth with a tail is complete",
+    "advance: the growth with a tail is under way",
     "grow: 16 + 16 disks",
     "grow: 3 + 1 disks",
     "grow: blocks of 1 byte",
     "grow: blocks of 4,096 bytes",
+    "grow: no whole group and 1 stripe",
+    "grow: no whole group and a group but for 1 stripe",
+    "grow: no whole group and a zone",
+    "grow: no whole group and a zone but for 1 stripe",
+    "grow: no whole group and n stripes",
+    "grow: the growth is complete",
+    "grow: whole groups and 1 stripe",
+    "grow: whole groups and a group but for 1 stripe",
+    "grow: whole groups and a zone",
+    "grow: whole groups and a zone but for 1 stripe",
+    "grow: whole groups and n stripes",
     "out: the growth is under way",
+    "out: the growth with a tail is under way",
     "read: a block of the disk out",
+    "read: a block of the tail",
+    "read: a block of the tail on the disk out",
     "read: a moved block",
     "read: a new block",
+    "read: a new block of no whole group",
     "read: a new block of the disk out",
+    "read: a new block of the tail",
+    "read: a new block of the tail on the disk out",
     "read: the growth is under way",
+    "rebuild: no whole group",
     "rebuild: the growth is complete",
     "rebuild: the growth is under way",
+    "rebuild: the growth with a tail is complete",
+    "rebuild: the growth with a tail is under way",
     "write: a block of the disk out",
+    "write: a block of the tail",
+    "write: a block of the tail on the disk out",
     "write: a moved block",
     "write: a new block",
+    "write: a new block of no whole group",
     "write: a new block of the disk out",
+    "write: a new block of the tail",
+    "write: a new block of the tail on the disk out",
     "write: a moved parity",
     "write: a parity of the disk out",
+    "write: a parity of the tail on the disk out",
     "write: the growth is under way",
 ];
 
@@ -258,21 +286,46 @@ impl Tally {
     /// Notes what is remarkable about an accepted call, by the numbers behind it.
     fn note(&mut self, call: Call, flat: &Flat) {
         let numbers = &flat.numbers;
-        let under_way = numbers.moves > 0 && !numbers.is_grown();
-        let shape = (numbers.n, numbers.m);
+        let (is_grown, shape) = (numbers.is_grown(), (numbers.n, numbers.m));
+        let under_way = numbers.moves > 0 && !is_grown;
+        // of whole groups and a tail
+        let has_tail = numbers.total() > 0 && numbers.tail() > 0;
         self.sights(
             call,
             &[
-                (numbers.is_grown(), "the growth is complete"),
+                (is_grown, "the growth is complete"),
                 (under_way, "the growth is under way"),
+                (is_grown && has_tail, "the growth with a tail is complete"),
+                (under_way && has_tail, "the growth with a tail is under way"),
+                (is_grown && numbers.moves == 0, "no whole group"),
                 (shape == (3, 1), "3 + 1 disks"),
                 (shape == (16, 16), "16 + 16 disks"),
                 (numbers.block_len == 1, "blocks of 1 byte"),
                 (numbers.block_len == 4096, "blocks of 4,096 bytes"),
             ],
         );
-        if let Call::Read { block } | Call::Write { block } = call {
-            self.note_block(call, block, flat);
+        match call {
+            Call::Grow { .. } => self.note_tail(call, numbers),
+            Call::Read { block } | Call::Write { block } => self.note_block(call, block, flat),
+            _ => {}
+        }
+    }
+
+    fn note_tail(&mut self, call: Call, numbers: &Record) {
+        let groups = match numbers.total() {
+            0 => "no whole group",
+            _ => "whole groups",
+        };
+        let kinds = [
+            "1 stripe",
+            "n stripes",
+            "a zone but for 1 stripe",
+            "a zone",
+            "a group but for 1 stripe",
+        ];
+        for (len, kind) in tails(numbers.n, numbers.m).into_iter().zip(kinds) {
+            let words = format!("{groups} and {kind}");
+            self.sights(call, &[(numbers.tail() == len, words.as_str())]);
         }
     }
 
@@ -281,6 +334,8 @@ impl Tally {
         let (stripe, disk) = flat.layout.place(block);
         let parity = flat.layout.parity(stripe);
         let is_new = block >= numbers.stripes * (numbers.n - 1);
+        // behind whole groups
+        let in_tail = numbers.total() > 0 && stripe >= numbers.stripes - numbers.tail();
         let out = |disk| numbers.health == Health::Out(disk);
         self.sights(
             call,
@@ -289,8 +344,23 @@ impl Tally {
                 (!is_new && disk >= numbers.n, "a moved block"),
                 (out(disk), "a block of the disk out"),
                 (is_new && out(disk), "a new block of the disk out"),
+                (
+                    is_new && numbers.total() == 0,
+                    "a new block of no whole group",
+                ),
+                (in_tail, "a block of the tail"),
+                (in_tail && is_new, "a new block of the tail"),
+                (in_tail && out(disk), "a block of the tail on the disk out"),
+                (
+                    in_tail && is_new && out(disk),
+                    "a new block of the tail on the disk out",
+                ),
                 (parity >= numbers.n, "a moved parity"),
                 (out(parity), "a parity of the disk out"),
+                (
+                    in_tail && out(parity),
+                    "a parity of the tail on the disk out",
+                ),
             ],
         );
     }

@@ -1,6 +1,6 @@
 //! Who stands where: the layout before growth, with the moves made on it one by one. No closed form.
 
-use crate::moves::{moves, Move};
+use crate::moves::{of_growth, Move};
 use crate::record::Record;
 
 #[derive(Clone, Copy, Debug, PartialEq, Eq)]
@@ -87,7 +87,7 @@ impl Layout {
         self.moves.len() as u64
     }
 
-    /// Adds m disks, all blank.
+    /// Adds m disks, all blank. "With no whole group the total is 0 and grow itself ends the growth."
     pub fn grow(&mut self, m: u64) {
         let old = std::mem::take(&mut self.owners);
         for stripe in old.chunks(self.n as usize) {
@@ -95,17 +95,24 @@ impl Layout {
             self.owners.extend((0..m).map(|_| Owner::Blank));
         }
         self.m = m;
-        let zones = self.stripes / self.disks();
-        self.moves = moves(self.n as i64, m as i64, zones as i64 - 1);
+        self.moves = of_growth(self.n as i64, m as i64, self.stripes as i64);
+        self.end_if_over();
     }
 
-    /// Makes the next moves. The last of all turns the blanks into new blocks, in all stripes.
+    /// Makes the next moves.
     pub fn advance(&mut self, count: u64) {
         for _ in 0..count {
             self.make_move(self.made);
             self.made += 1;
         }
-        if count > 0 && self.made == self.moves.len() {
+        if count > 0 {
+            self.end_if_over();
+        }
+    }
+
+    /// Behind the last move the blanks turn into new blocks, in all stripes, those of no whole group too.
+    fn end_if_over(&mut self) {
+        if self.made == self.moves.len() {
             self.fill_blanks();
         }
     }

@@ -27,6 +27,13 @@ pub fn moves(n: i64, m: i64, last: i64) -> Vec<Move> {
     all
 }
 
+/// The moves of a growth over so many stripes: "Only whole groups move now", and a group is n zones of n + m stripes.
+pub fn of_growth(n: i64, m: i64, stripes: i64) -> Vec<Move> {
+    let zones = stripes / (n + m);
+    let in_whole_groups = zones - zones % n;
+    moves(n, m, in_whole_groups - 1)
+}
+
 /// The lines that `zone_moves` prints for a good request.
 pub fn listing(n: i64, m: i64, z: i64) -> String {
     moves(n, m, z)

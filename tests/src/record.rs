@@ -1,4 +1,4 @@
-//! The record of document 01: its fields, its bytes, when it is good, and the numbers that follow from it.
+//! The record of document 01, with request (a) of document 02: its fields, its bytes, when it is good, and the numbers that follow from it.
 
 use std::ops::Range;
 
@@ -128,8 +128,19 @@ impl Record {
         self.n + self.m
     }
 
+    /// The stripes of a group.
+    pub fn group(&self) -> u64 {
+        self.n * (self.n + self.m)
+    }
+
+    /// The stripes behind the last whole group.
+    pub fn tail(&self) -> u64 {
+        self.stripes % self.group()
+    }
+
+    /// "The total becomes (T div (n × (n + m))) × n × n × m."
     pub fn total(&self) -> u64 {
-        self.stripes * self.n * self.m / (self.n + self.m)
+        self.stripes / self.group() * self.n * self.n * self.m
     }
 
     pub fn is_grown(&self) -> bool {
@@ -149,9 +160,15 @@ impl Record {
     }
 }
 
+/// Tails of all kinds: the least, one with a parity on each old disk, a zone but for one stripe, a zone, a group but for one stripe.
+pub fn tails(n: u64, m: u64) -> [u64; 5] {
+    [1, n, n + m - 1, n + m, n * (n + m) - 1]
+}
+
 /// "A record is good exactly if ..", read off its bytes.
 pub fn good(bytes: [u8; RECORD_LEN]) -> bool {
     let [health, out, zero] = [at::HEALTH, at::OUT, at::ZERO].map(|at| field(&bytes, at));
+    let record = Record::of(bytes);
     let Record {
         n,
         m,
@@ -159,7 +176,7 @@ pub fn good(bytes: [u8; RECORD_LEN]) -> bool {
         stripes,
         moves,
         ..
-    } = Record::of(bytes);
+    } = record;
     let limits = (3..=16).contains(&n)
         && m <= 16
         && health <= 2
@@ -167,11 +184,5 @@ pub fn good(bytes: [u8; RECORD_LEN]) -> bool {
         && zero == 0
         && (1..=1_048_576).contains(&stripes);
     let out_good = if health == 1 { out < n + m } else { out == 0 };
-    limits
-        && out_good
-        && if m == 0 {
-            moves == 0
-        } else {
-            stripes.is_multiple_of(n * (n + m)) && moves <= stripes * n * m / (n + m)
-        }
+    limits && out_good && moves <= record.total() && (m > 0 || moves == 0)
 }

@@ -1,4 +1,4 @@
-//! Document 01's table of refusals, row by row.
+//! Document 01's table of refusals, row by row, 1 and 6 as request (a) of document 02 leaves them.
 
 use crate::pbm::Call::{self, *};
 use crate::record::{Health, Record, RECORD_LEN};
@@ -55,9 +55,7 @@ pub fn holds(row: u8, record: &Record, call: Call, lent: &Lent) -> bool {
                 || !(1..=4096).contains(&block_len)
                 || !(1..=1_048_576).contains(&stripes)
         }
-        (6, Grow { m }) => {
-            !(1..=16).contains(&m) || !record.stripes.is_multiple_of(record.n * (record.n + m))
-        }
+        (6, Grow { m }) => !(1..=16).contains(&m),
         (
             7,
             Format {

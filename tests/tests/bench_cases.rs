@@ -1,4 +1,5 @@
-//! "Drawers on the bench" of document 01, through the exported calls. The cases of the program are in zone_moves.rs.
+//! "Drawers on the bench" of document 01, with what request (a) of document 02 makes of them, through the exported calls; and the
+//! first of them with other stripes, by hand. The cases of the program are in zone_moves.rs.
 
 use yuzkamide_tests::array::Array;
 use yuzkamide_tests::pbm::{Answer, Call};
@@ -152,11 +153,124 @@ fn new_blocks_open_with_the_last_move() {
 }
 
 #[test]
-fn four_and_one() {
+fn four_and_one_of_20_stripes() {
     let mut array = Array::format(4, 1, 20);
     assert_eq!(array.grow(1), Answer::done(&[]));
     assert_eq!(array.call(Call::Status), Answer::done(&[60, 0, 16, 0, 0]));
-    assert_eq!(Array::format(4, 1, 19).grow(1), refused(6));
+    assert_eq!(array.advance(100), Answer::done(&[16]));
+    assert_eq!(array.call(Call::Status), Answer::done(&[80, 16, 16, 0, 0]));
+}
+
+/// "The bench case T = 19 passes now, with total 0": the growth is over at once, with its last block on the last new place.
+#[test]
+fn four_and_one_of_19_stripes() {
+    let data = |block: u64| [9, 8, block as u8];
+    let mut array = Array::format(4, 3, 19);
+    for block in 0..57 {
+        array.write(block, &data(block));
+    }
+    assert_eq!(array.call(Call::Status), Answer::done(&[57, 0, 0, 0, 0]));
+    assert_eq!(array.locate(57), PAST_THE_END);
+    let old = array.0.images.clone();
+    assert_eq!(array.grow(1), Answer::done(&[]));
+    assert_eq!(array.call(Call::Status), Answer::done(&[76, 0, 0, 0, 0]));
+    assert_eq!(array.0.images, [old, vec![0; 19 * 3]].concat());
+    for k in [0, 1, 16, u64::MAX] {
+        assert_eq!(array.advance(k), refused(5));
+    }
+    assert_eq!(array.grow(1), refused(4));
+    for block in 57..76 {
+        assert_eq!(array.locate(block), at(block - 57, 4));
+        assert_eq!(array.owner(block - 57, 4), Answer::done(&[2, block]));
+        assert_eq!(array.read(block), [0; 3]);
+        array.write(block, &data(block));
+    }
+    assert_eq!(array.locate(76), PAST_THE_END);
+    assert_eq!(
+        array.0.images[4 * 57..],
+        (57..76).flat_map(data).collect::<Vec<u8>>()
+    );
+    for disk in 0..5 {
+        assert_eq!(array.call(Call::Out { disk }), Answer::done(&[]));
+        array.0.images[disk as usize * 57..][..57].fill(0xff);
+        for block in 0..76 {
+            assert_eq!(array.read(block), data(block), "disk {disk} out");
+        }
+        assert_eq!(array.call(Call::Rebuild { disk }), Answer::done(&[]));
+    }
+}
+
+/// T = 17: stripes 15 and 16 keep their places, and their new ones are numbered with all others.
+#[test]
+fn three_and_two_of_two_stripes_more() {
+    let mut array = Array::format(3, 4, 17);
+    assert_eq!(array.grow(2), Answer::done(&[]));
+    for moves in 0..18 {
+        assert_eq!(
+            array.call(Call::Status),
+            Answer::done(&[34, moves, 18, 0, 0])
+        );
+        assert_eq!(
+            owners(&mut array, 15),
+            [PARITY, data(31), data(30), BLANK, BLANK]
+        );
+        assert_eq!(
+            owners(&mut array, 16),
+            [data(33), PARITY, data(32), BLANK, BLANK]
+        );
+        assert_eq!(array.locate(34), PAST_THE_END);
+        assert_eq!(array.advance(1), Answer::done(&[1]));
+    }
+    assert_eq!(array.advance(1), refused(5));
+    assert_eq!(array.call(Call::Status), Answer::done(&[68, 18, 18, 0, 0]));
+    assert_eq!(
+        owners(&mut array, 15),
+        [PARITY, data(31), data(30), data(64), data(65)]
+    );
+    assert_eq!(
+        owners(&mut array, 16),
+        [data(33), PARITY, data(32), data(66), data(67)]
+    );
+    for (block, place) in [
+        (34, at(0, 3)),
+        (36, at(1, 2)),
+        (63, at(14, 3)),
+        (64, at(15, 3)),
+        (67, at(16, 4)),
+    ] {
+        assert_eq!(array.locate(block), place);
+    }
+    assert_eq!(array.locate(68), PAST_THE_END);
+}
+
+/// T = 14: no stripe moves, though two zones are whole.
+#[test]
+fn three_and_two_of_a_stripe_less() {
+    let mut array = Array::format(3, 4, 14);
+    assert_eq!(array.grow(2), Answer::done(&[]));
+    assert_eq!(array.call(Call::Status), Answer::done(&[56, 0, 0, 0, 0]));
+    assert_eq!(array.advance(1), refused(5));
+    assert_eq!(
+        owners(&mut array, 3),
+        [PARITY, data(7), data(6), data(34), data(35)]
+    );
+    assert_eq!(
+        owners(&mut array, 13),
+        [data(27), PARITY, data(26), data(54), data(55)]
+    );
+    assert_eq!(array.locate(55), at(13, 4));
+    assert_eq!(array.locate(56), PAST_THE_END);
+}
+
+/// T = 1, the least: 2 blocks, and 16 more.
+#[test]
+fn three_and_sixteen_of_one_stripe() {
+    let mut array = Array::format(3, 4, 1);
+    assert_eq!(array.grow(16), Answer::done(&[]));
+    assert_eq!(array.call(Call::Status), Answer::done(&[18, 0, 0, 0, 0]));
+    let new = (2..18).map(data);
+    let wanted: Vec<_> = [PARITY, data(1), data(0)].into_iter().chain(new).collect();
+    assert_eq!(owners(&mut array, 0), wanted);
 }
 
 #[test]

@@ -15,6 +15,10 @@ fn printed() -> String {
         moves: 2,
         ..GROWING
     });
+    let at_once = listed(Record {
+        m: 1,
+        ..Record::new(4, 4, 19)
+    });
     format!(
         "\
 word 0: done
@@ -91,6 +95,22 @@ out 1: 0
 read 59: 2 five
 status 0: capacity 60, moves 18 of 18, health 2, out 0
 locate 59: 0 (14, 3)
+format, 4 disks of 19 blocks: 0
+write 56: 0
+read 57: 8 five
+grow by 1: 0
+status 0: capacity 76, moves 0 of 0, health 0, out 0
+advance 1: 5 made 0
+write 57: 0
+write 75: 0
+write 76: 8
+read 57: 0 5757
+read 75: 0 7575
+read 56: 0 old!
+locate 57: 0 (0, 4)
+locate 75: 0 (18, 4)
+owner (18, 4): 0 role 2, block 75
+record {at_once}
 "
     )
 }
@@ -214,8 +234,8 @@ fn a_call_that_is_killed() {
     )));
     let printed = "\
 advance, stopped 258 times: the old record, at most k moves in doubt
-write, stopped 60 times: the old record, one block and its parity in doubt
-rebuild, grow and format, each stopped 15 times: the old record, and right when made again
+write, stopped 68 times: the old record, one block and its parity in doubt
+rebuild, grow and format, each stopped 17 times: the old record, and right when made again
 ";
     assert_eq!(text(&output.stdout), printed);
 }

@@ -1,15 +1,16 @@
-//! README.md and docs/: links and commands name what is there, the numbers of docs/LAYOUT.md are the library's and the replay's, and
-//! the ratios of docs/SPEED.md those of the report at its end.
+//! README.md and docs/: links and commands name what is there, the numbers of docs/LAYOUT.md are the library's and the replay's,
+//! and the ratios of docs/SPEED.md those of the report at its end; and what include/pbm.h says of a growth is the library's too.
 
 use std::fs;
 use std::path::{Path, PathBuf};
 use std::process::Command;
+use yuzkamide_tests::array::Array;
 use yuzkamide_tests::compile::{run, text};
 use yuzkamide_tests::layout::{Layout, Owner};
 use yuzkamide_tests::moves::moves;
 use yuzkamide_tests::pbm::{Answer, Bytes, Call};
 use yuzkamide_tests::program::target;
-use yuzkamide_tests::record::{Record, BENCH, RECORD_LEN};
+use yuzkamide_tests::record::{Record, RECORD_LEN};
 
 fn root() -> PathBuf {
     target().join("..")
@@ -95,22 +96,111 @@ fn the_toolchain_is_the_one_named() {
     assert!(readme.contains(&says), "README.md does not say: {says}");
 }
 
-// ---- docs/LAYOUT.md: 3 + 2 disks, 15 stripes, blocks of 4 bytes, after 9 moves
+/// A sentence may go on in the next line, behind what begins a line of a comment.
+fn says(document: &str, line_begin: &str, what: &str) {
+    let text = fs::read_to_string(root().join(document)).unwrap();
+    let lines = text
+        .lines()
+        .map(|l| l.strip_prefix(line_begin).unwrap_or(l));
+    let words = |text: &str| text.split_whitespace().collect::<Vec<_>>().join(" ");
+    let text = words(&lines.collect::<Vec<_>>().join("\n"));
+    let what = words(what);
+    assert!(text.contains(&what), "{document} does not say: {what}");
+}
+
+/// After so many moves of a growth from n to n + m disks, made one by one.
+fn grown(n: u64, m: u64, stripes: u64, moves: u64) -> Layout {
+    Layout::of(&Record {
+        m,
+        moves,
+        ..Record::new(n, 1, stripes)
+    })
+}
+
+/// The same array, made by the library: it answers what the replay has.
+fn made(n: u64, m: u64, stripes: u64, moves: u64) -> Array {
+    let mut array = Array::format(n, 1, stripes);
+    assert_eq!(array.grow(m), Answer::done(&[]));
+    if moves > 0 {
+        assert_eq!(array.advance(moves), Answer::done(&[moves]));
+    }
+    let layout = grown(n, m, stripes, moves);
+    let figures = [layout.capacity(), moves, layout.total()];
+    assert_eq!(status(&mut array), figures);
+    for (stripe, disk) in places(stripes, n + m) {
+        let owned = match layout.owner(stripe, disk) {
+            Owner::Blank => [0, 0],
+            Owner::Parity => [1, 0],
+            Owner::Data(block) => [2, block],
+        };
+        assert_eq!(array.owner(stripe, disk), Answer::done(&owned));
+    }
+    array
+}
+
+fn places(stripes: u64, disks: u64) -> impl Iterator<Item = (u64, u64)> {
+    (0..stripes).flat_map(move |s| (0..disks).map(move |d| (s, d)))
+}
+
+// ---- include/pbm.h
+
+fn header_says(what: &str) {
+    says("include/pbm.h", " *", what);
+}
+
+/// Capacity, moves and total of a whole array.
+fn status(array: &mut Array) -> [u64; 3] {
+    let answer = array.call(Call::Status);
+    let [capacity, moves, total, ..] = answer.beside;
+    assert_eq!(answer, Answer::done(&[capacity, moves, total]));
+    [capacity, moves, total]
+}
+
+/// "any T will do": the total, the blocks, and with which call the growth is over.
+#[test]
+fn the_growth_of_the_header() {
+    header_says(
+        "There are T * (n - 1), and T * (n + m - 1) once a growth is over; the new ones are zero.",
+    );
+    header_says("goes by groups of n * (n + m) stripes, with n * n * m moves each.");
+    header_says(
+        "So any T will do, whatever m is, and the total of moves is T / (n * (n + m)) * n * n * m, \
+         with a division as C has it.",
+    );
+    header_says(
+        "The growth is over exactly when t is the total: with the last move, or, where T is below \
+         n * (n + m) and the total 0, with pbm_grow itself.",
+    );
+    header_says("6  geometry  n, B or T outside its limits: format; m outside its limits: grow");
+    for (n, m) in [(3, 2), (4, 1), (16, 1), (3, 16)] {
+        let group = n * (n + m);
+        for stripes in [1, n + m, group - 1, group, group + 1, 2 * group - 1] {
+            let total = stripes / (n * (n + m)) * n * n * m;
+            let (before, after) = (stripes * (n - 1), stripes * (n + m - 1));
+            let mut array = Array::format(n, 1, stripes);
+            assert_eq!(status(&mut array), [before, 0, 0]);
+            assert_eq!(array.grow(m), Answer::done(&[]));
+            if stripes >= group {
+                assert_eq!(status(&mut array), [before, 0, total]);
+                assert_eq!(array.advance(total - 1), Answer::done(&[total - 1]));
+                assert_eq!(status(&mut array), [before, total - 1, total]);
+                assert_eq!(array.advance(1), Answer::done(&[1]));
+            }
+            assert_eq!(status(&mut array), [after, total, total]);
+            assert_eq!(array.advance(1), Answer::refused(5));
+            assert!((before..after).all(|block| array.read(block) == [0]));
+        }
+    }
+}
+
+// ---- docs/LAYOUT.md: 3 + 2 disks, 15 stripes, blocks of 4 bytes, after 9 moves; with 21 stripes; and 4 + 1 disks with 19
 
 fn layout_says(what: &str) {
-    let text = fs::read_to_string(root().join("docs/LAYOUT.md")).unwrap();
-    // a sentence may go on in the next line
-    let text = text.split_whitespace().collect::<Vec<_>>().join(" ");
-    let what = what.split_whitespace().collect::<Vec<_>>().join(" ");
-    assert!(text.contains(&what), "docs/LAYOUT.md does not say: {what}");
+    says("docs/LAYOUT.md", "", what);
 }
 
 fn after(moves: u64) -> Layout {
-    Layout::of(&Record {
-        m: 2,
-        moves,
-        ..BENCH
-    })
+    grown(3, 2, 15, moves)
 }
 
 #[test]
@@ -136,13 +226,82 @@ fn the_moves_of_the_layout() {
             x.to
         ));
     }
+    layout_says("All 18 of the growth from 3 to 5 disks with 15 stripes:");
+    layout_says(
+        "in a zone by the new disk p, from n to n + m − 1; for each new disk by i, from 0 to n − 1. Move (Z, p, i) \
+         - is in stripe s = p − i of its zone, that is in stripe S = Z × (n + m) + p − i; \
+         - takes what stands on disk (p + Z × m − 2i) mod n (if the bracket is below 0, add n until it is not); \
+         - to disk p; \
+         - and has the number (Z × m + p − n) × n + i. Moves are counted from 0. \
+         i = 0 is always a parity, all others are blocks.",
+    );
+    layout_says("Moves 6 to 11 are the paper's table 2.");
+    layout_says("echo '3 2 1' | target/bin/zone_moves");
+    layout_says("After 9 moves zone 0 is finished, zone 1 is half done, and zone 2 has not begun:");
+}
+
+/// The words of each picture go by the name of its file: n, m and t; and T, the first stripe and the last, if it is not one group.
+#[test]
+fn the_pictures_of_the_layout() {
+    let text = fs::read_to_string(root().join("docs/LAYOUT.md")).unwrap();
+    let mut seen = 0;
+    for picture in text.split("![").skip(1) {
+        let (words, rest) = picture.split_once("](pictures/").unwrap();
+        let (name, _) = rest.split_once(".svg)").unwrap();
+        let numbers: Vec<u64> = name.split('-').map(|word| word.parse().unwrap()).collect();
+        let [n, m, t] = numbers[..3].try_into().unwrap();
+        let stripes = *numbers.get(3).unwrap_or(&(n * (n + m)));
+        let total = grown(n, m, stripes, t).total();
+        let done = match t {
+            0 => "no move done".to_string(),
+            t if t == total => format!("all {total} moves done"),
+            t => format!("{t} of {total} moves done"),
+        };
+        let wanted = match numbers[3..] {
+            [] => format!("{n} + {m} disks, {done}"),
+            [stripes, first, last] => {
+                assert_eq!((first % (n + m), last), (0, stripes - 1));
+                let zone = first / (n + m);
+                format!("{n} + {m} disks, {stripes} stripes, {done}: zone {zone} and the tail")
+            }
+            _ => panic!("{name}"),
+        };
+        assert_eq!(words, wanted);
+        seen += 1;
+    }
+    let files = fs::read_dir(root().join("docs/pictures")).unwrap();
+    assert_eq!(seen, files.count(), "each picture is shown once");
+}
+
+/// "(T div (n × (n + m))) × n × n × m": those that the replay makes, at every size up to two groups and more.
+#[test]
+fn the_number_of_moves() {
+    layout_says("A group has n × n × m moves, so there are (T div (n × (n + m))) × n × n × m.");
+    for (n, m) in [(3, 2), (4, 1), (3, 1), (5, 3)] {
+        for stripes in 1..=2 * n * (n + m) + 2 {
+            let total = stripes / (n * (n + m)) * n * n * m;
+            assert_eq!(grown(n, m, stripes, 0).total(), total);
+            made(n, m, stripes, total);
+        }
+    }
 }
 
 #[test]
 fn the_places_of_the_layout() {
     let (home, now, end) = (after(0), after(9), after(18));
-    assert_eq!(home.place(5), (2, 0));
-    layout_says("So block 5 is in stripe 2 on disk 0.");
+    assert_eq!((home.place(5), home.parity(2)), ((2, 0), 2));
+    layout_says(
+        "The parity of stripe S is on disk S mod n. Block b is in stripe b div (n − 1). There go through the disks \
+         from the highest down, leave out the disk of the parity, and count from 0: the block is on the disk at which \
+         you say b mod (n − 1).",
+    );
+    layout_says(
+        "Block 5 of 3 disks: stripe 5 div 2 = 2; its parity is on disk 2 mod 3 = 2; left are disk 1 (\"0\") and disk 0 \
+         (\"1\"); 5 mod 2 = 1. So block 5 is in stripe 2 on disk 0.",
+    );
+    assert_eq!(home.capacity(), 30);
+    layout_says("a growth from 3 to 5 disks, with 15 stripes (one group) and 30 blocks.");
+    layout_says("| After 9 moves | before the growth |");
 
     assert_eq!((home.place(15), now.place(15)), ((7, 0), (7, 3)));
     layout_says("| block 15 | stripe 7, disk 0; Z = 1, s = 2 | i = 10 mod 3 = 1, p = 3: number (1 × 2 + 0) × 3 + 1 = 7, done | disk 3 |");
@@ -161,32 +320,217 @@ fn the_places_of_the_layout() {
     layout_says("with t = 7 for block 15 on disk 0, where there are zeroes now, and once the growth is over block 44.");
 }
 
-/// The closed form by which the document finds a place, at every block and count of moves.
+/// The closed forms by which the document goes from number to place and from place to number, at every block, place and count
+/// of moves: of groups alone, with tails of less than a zone, of a zone and more, and with nothing but a tail.
 #[test]
-fn the_rule_of_the_layout() {
-    let (n, m, stripes) = (3, 2, 15);
-    let home = after(0);
-    for t in 0..=18 {
-        let now = after(t);
-        let carried = |stripe: u64, disk: u64| {
-            let (zone, s, i) = (stripe / (n + m), stripe % (n + m), (stripe + n - disk) % n);
-            let p = s + i;
-            let is_done = (n..n + m).contains(&p) && (zone * m + p - n) * n + i < t;
-            if is_done {
-                p
-            } else {
-                disk
-            }
-        };
-        for block in 0..home.capacity() {
-            let (stripe, disk) = home.place(block);
-            assert_eq!(now.place(block), (stripe, carried(stripe, disk)));
-        }
-        for stripe in 0..stripes {
-            assert_eq!(now.parity(stripe), carried(stripe, home.parity(stripe)));
+fn the_rules_of_the_layout() {
+    let arrays = [
+        (3, 2, 15),
+        (3, 2, 21),
+        (3, 2, 32),
+        (4, 1, 20),
+        (4, 1, 23),
+        (4, 1, 19),
+        (5, 3, 49),
+        (3, 16, 56),
+    ];
+    for (n, m, stripes) in arrays {
+        for t in 0..=grown(n, m, stripes, 0).total() {
+            check_rules(n, m, stripes, t);
         }
     }
     layout_says("with i = (S + n − d) mod n and p = s + i it is move (Z, p, i), if p is one of the new disks n to n + m − 1");
+    layout_says("(In the tail that number is never below t, since the moves end before it.)");
+    layout_says(
+        "On an old disk stands what stood there before the growth, unless its move is done: then the place is blank. \
+         On a new disk p stands what move (Z, p, p − s) brought, if p − s is from 0 to n − 1 and that move is done; \
+         else the place is blank.",
+    );
+    layout_says(
+        "block T × (n − 1) + k is in stripe k div m, on the blank place at which you say k mod m, \
+         counting that stripe's blanks from the lowest disk, from 0.",
+    );
+    layout_says("in a stripe of the tail, block T × (n − 1) + k is on disk n + k mod m.");
+}
+
+fn check_rules(n: u64, m: u64, stripes: u64, t: u64) {
+    let (home, now) = (Layout::home(n, stripes), grown(n, m, stripes, t));
+    let group = n * (n + m);
+    let in_tail = |stripe: u64| stripe >= stripes / group * group;
+    let number = |zone: u64, p: u64, i: u64| (zone * m + p - n) * n + i;
+    let is_new = |disk: u64| (n..n + m).contains(&disk);
+
+    // from number to place
+    let carried = |stripe: u64, disk: u64| {
+        let (zone, s, i) = (stripe / (n + m), stripe % (n + m), (stripe + n - disk) % n);
+        let p = s + i;
+        let is_done = is_new(p) && number(zone, p, i) < t;
+        assert!(!(is_done && in_tail(stripe)), "nothing moves in the tail");
+        if is_done {
+            p
+        } else {
+            disk
+        }
+    };
+    for block in 0..home.capacity() {
+        let (stripe, disk) = home.place(block);
+        assert_eq!(now.place(block), (stripe, carried(stripe, disk)));
+    }
+    for stripe in 0..stripes {
+        assert_eq!(now.parity(stripe), carried(stripe, home.parity(stripe)));
+    }
+
+    // from place to number
+    let stands = |stripe: u64, disk: u64| {
+        let (zone, s) = (stripe / (n + m), stripe % (n + m));
+        if !is_new(disk) {
+            let is_left = carried(stripe, disk) != disk;
+            return if is_left {
+                Owner::Blank
+            } else {
+                home.owner(stripe, disk)
+            };
+        }
+        match disk.checked_sub(s) {
+            Some(i) if i < n && number(zone, disk, i) < t => {
+                home.owner(stripe, (disk + zone * m + 2 * n - 2 * i) % n)
+            }
+            _ => Owner::Blank,
+        }
+    };
+    let is_over = t == now.total();
+    let mut k = 0;
+    for (stripe, disk) in places(stripes, n + m) {
+        let mut owner = stands(stripe, disk);
+        if is_over && owner == Owner::Blank {
+            let block = stripes * (n - 1) + k;
+            assert_eq!(now.place(block), (stripe, disk));
+            assert_eq!(stripe, k / m);
+            assert!(!in_tail(stripe) || disk == n + k % m);
+            owner = Owner::Data(block);
+            k += 1;
+        }
+        assert_eq!(now.owner(stripe, disk), owner);
+    }
+    assert_eq!(now.capacity(), stripes * (n - 1) + k);
+}
+
+/// 3 + 2 disks with 21 stripes: one group and a tail.
+#[test]
+fn the_tail_of_the_layout() {
+    let (n, m, stripes) = (3, 2, 21);
+    let (home, end) = (Layout::home(n, stripes), grown(n, m, stripes, 18));
+    let (total, before, blocks) = (end.total(), home.capacity(), end.capacity());
+    assert_eq!((total, before, blocks), (18, 42, 84));
+    let mut array = made(n, m, stripes, 18);
+    assert_eq!(array.advance(1), Answer::refused(5));
+    made(n, m, stripes, 17);
+
+    // a group ends with a stripe from which the parity moves
+    let moves_in = |&stripe: &u64| home.parity(stripe) != end.parity(stripe);
+    let first = (0..stripes).filter(moves_in).max().unwrap() + 1;
+    let group = n * (n + m);
+    layout_says(&format!(
+        "With {stripes} stripes the growth from 3 to 5 disks has {stripes} div {group} = {} group, with the {total} moves of the \
+         table above, and a tail of {stripes} mod {group} = {} stripes, {first} to {}.",
+        stripes / group,
+        stripes - first,
+        stripes - 1
+    ));
+    assert_eq!(stripes % group, stripes - first);
+    let zone = first..first + n + m;
+    assert!((zone.start.is_multiple_of(n + m)) && zone.end <= stripes);
+    layout_says(&format!(
+        "(Stripes {} to {} are a whole zone, but zones move in whole groups only.)",
+        zone.start,
+        zone.end - 1
+    ));
+    layout_says(&format!(
+        "There are {before} blocks, and with the last move {blocks}."
+    ));
+    // it begins with the last zone that moves
+    let begin = first - (n + m);
+    layout_says(&format!(
+        "This is what zone {} and the tail are then: \
+         ![{n} + {m} disks, {stripes} stripes, all {total} moves done: zone {} and the tail]\
+         (pictures/{n}-{m}-{total}-{stripes}-{begin}-{}.svg)",
+        begin / (n + m),
+        begin / (n + m),
+        stripes - 1
+    ));
+
+    let its_move = |stripe: u64, disk: u64| {
+        let (zone, s, sum) = (stripe / (n + m), stripe % (n + m), stripe + n - disk);
+        let i = sum % n;
+        let p = s + i;
+        let number = (zone * m + p - n) * n + i;
+        assert!((n..n + m).contains(&p) && number >= total);
+        format!(
+            "disk {disk}; Z = {zone}, s = {s} | i = {sum} mod {n} = {i}, p = {p}: \
+             number ({zone} × {m} + {}) × {n} + {i} = {number}, but the last is {} | disk {disk} |",
+            p - n,
+            total - 1
+        )
+    };
+    layout_says(&format!("| After {total} moves | before the growth |"));
+    let (stripe, disk) = home.place(34);
+    assert_eq!(end.place(34), (stripe, disk));
+    let says = its_move(stripe, disk);
+    layout_says(&format!("| block 34 | stripe {stripe}, {says}"));
+    let disk = home.parity(18);
+    assert_eq!(end.parity(18), disk);
+    let says = its_move(18, disk);
+    layout_says(&format!("| the parity of stripe 18 | {says}"));
+
+    let (stripe, disk) = end.place(77);
+    assert_eq!(array.locate(77), Answer::done(&[stripe, disk]));
+    let last = grown(n, m, stripes, 17);
+    let blanks: Vec<u64> = (0..n + m)
+        .filter(|&d| last.owner(stripe, d) == Owner::Blank)
+        .collect();
+    let k = 77 - before;
+    assert_eq!((k / m, blanks[(k % m) as usize]), (stripe, disk));
+    layout_says(&format!(
+        "Block 77 of these {blocks}: k = 77 − {before} = {k}, stripe {k} div {m} = {stripe}, whose blanks are on disks {} and {}; \
+         {k} mod {m} = {}. So block 77 is on disk {disk}.",
+        blanks[0],
+        blanks[1],
+        k % m
+    ));
+}
+
+/// 4 + 1 disks with 19 stripes: no whole group.
+#[test]
+fn drawers_smaller_than_one_group() {
+    let (n, m, stripes) = (4, 1, 19);
+    let (home, end) = (Layout::home(n, stripes), grown(n, m, stripes, 0));
+    let (before, blocks) = (home.capacity(), end.capacity());
+    let mut array = made(n, m, stripes, 0);
+    assert_eq!(array.advance(1), Answer::refused(5));
+    let record = array.record();
+    let [_, moves, total] = status(&mut array);
+    let at = |block| {
+        let (stripe, disk) = end.place(block);
+        format!("stripe {stripe} on disk {disk}")
+    };
+    for block in 0..blocks {
+        let (stripe, disk) = end.place(block);
+        assert_eq!(array.locate(block), Answer::done(&[stripe, disk]));
+    }
+    assert_eq!(array.locate(blocks), Answer::refused(8));
+    layout_says(&format!(
+        "A group of a growth from {n} to {} disks has {} stripes; with {stripes} there is nothing to move. There are {before} blocks, \
+         and with the grow itself {blocks}: block {before} is in {}, block {} in {}. In the record m is {} and t is {} then, and yet \
+         the growth is over: {moves} of {total} moves are done.",
+        n + m,
+        n * (n + m),
+        at(before),
+        blocks - 1,
+        at(blocks - 1),
+        record.m,
+        record.moves
+    ));
+    assert_eq!((before, blocks, total), (57, 76, 0));
 }
 
 fn call(loan: &mut Bytes, call: Call) {
@@ -225,11 +569,25 @@ fn the_drawer_of_the_layout() {
     loan.images.resize(5 * 15 * 4, 0xff);
     call(&mut loan, Call::Grow { m: 2 });
     call(&mut loan, Call::Advance { k: 9 });
+    layout_says(
+        "This array has blocks of 4 bytes; block 14 was given the word \"pine\", block 15 \"fir \" (with a space behind), \
+         and 9 moves are done.",
+    );
     layout_says(&hex(&loan.record));
+    layout_says("n = 3, m = 2, health 0 (whole), B = 4, T = 15, t = 9. If health, byte 2, is 1, byte 3 is the disk that is out");
     let list: Vec<String> = loan.record.iter().map(u8::to_string).collect();
     layout_says(&format!("uint8_t record[] = {{{}}};", list.join(", ")));
+    layout_says("build/layout_svg 3 2 9 15 > picture.svg");
+    layout_says(
+        "here stripes 5 to 9 (1,024 at most): ```sh build/layout_svg 3 2 9 15 5 9 > picture.svg",
+    );
     let asked = loan.call(Call::Owner { stripe: 7, disk: 3 });
     assert_eq!(asked, Answer::done(&[2, 15]));
+    layout_says("Or ask for one place, here disk 3 of stripe 7:");
+    layout_says("pbm_owner(record, PBM_RECORD_LEN, 7, 3, &role, &block); /* number is 0 (done), role is 2 (PBM_DATA), block is 15 */");
+    layout_says(
+        "Stripe 7 is: disk 0 blank, disk 1 parity, disk 2 block 14, disk 3 block 15, disk 4 blank.",
+    );
 
     let says = [
         "blank (block 15 stood here until move 7)",
@@ -249,7 +607,11 @@ fn the_drawer_of_the_layout() {
         layout_says(&line);
     }
     assert_eq!(&loan.images[208..212], b"fir ");
-    layout_says("(3 × 15 + 7) × 4 = 208");
+    layout_says(
+        "For stripe 7 and disk 3 that is (3 × 15 + 7) × 4 = 208. If each drawer is a file of its own, it is byte S × B \
+         of file d: 28 of disk 3's.",
+    );
+    layout_says("With disk 3 out, block 15 is");
     layout_says("od -A d -t x1 -j 208 -N 4 images");
 
     call(&mut loan, Call::Out { disk: 3 });
@@ -273,6 +635,9 @@ fn four_and_one() {
         assert_eq!(all.iter().filter(|x| x.from == disk).count(), 4);
     }
     layout_says("zone 0 takes two from disk 0 and two from disk 2, zone 1 two each from disks 1 and 3. In a whole group each old disk gives four.");
+    made(4, 1, 20, 16);
+    assert_eq!(grown(4, 1, 20, 0).total(), 16);
+    layout_says("One zone is 5 stripes, one group 4 zones, so 20 stripes and 16 moves.");
 }
 
 // ---- docs/SPEED.md

@@ -16,8 +16,8 @@ use yuzkamide_tests::record::Record;
 /// What the line prints, and examples/run.
 const PRINTED: &str = "\
 seed 1
-5 disks are formatted: 1600 blocks of 4096 bytes
-    all 1600 blocks are as last written
+5 disks are formatted: 1668 blocks of 4096 bytes
+    all 1668 blocks are as last written
 3 disks are added: 750 moves to make
     a read with the old disks alone is refused: 7 images
     a read of the first new block is refused: 8 past the end
@@ -25,19 +25,21 @@ seed 1
     400 of 750 moves, 2212 logs so far
 disk 2 is lost
     advance is refused: 3 degraded
-    all 1600 blocks are as last written
+    all 1668 blocks are as last written
 disk 2 is rebuilt
     600 of 750 moves, 3311 logs so far
     750 of 750 moves, 3384 logs so far
     advance is refused: 5 nothing to move
-the growth is over: 2800 blocks
-    all 2800 blocks are as last written
+the growth is over: 2919 blocks
+    all 2919 blocks are as last written
+    all 51 new blocks of the tail are written and read
 disk 5 is lost
-    all 2800 blocks are as last written
+    all 2919 blocks are as last written
+    all 51 new blocks of the tail are written and read
 disk 5 is rebuilt
-    all 2800 blocks are as last written
-writes 5384, of these 137 to a lost disk
-reads 22368, of these 937 from a lost disk
+    all 2919 blocks are as last written
+writes 5486, of these 170 to a lost disk
+reads 22963, of these 966 from a lost disk
 moves 750, refusals met 4
 every read gave what was last written
 ";
@@ -223,7 +225,7 @@ fn drawn(picture: &str) -> Vec<((u64, u64), Drawn)> {
         .collect()
 }
 
-/// The place as it is to be drawn, by the moves made one by one on the layout before the first.
+/// The place as it is to be drawn, by the moves made one by one on the layout before the growth.
 fn wanted(first: &Layout, now: &Layout, stripe: u64, disk: u64) -> Drawn {
     let owner = now.owner(stripe, disk);
     let came_from = match owner {
@@ -262,12 +264,16 @@ struct Shown {
 
 impl Shown {
     fn of(n: u64, m: u64, stripes: u64, moves: u64) -> Shown {
-        let mut record = Record::new(n, 1, stripes);
-        record.m = m;
-        let first = Layout::of(&record);
-        record.moves = moves;
-        let now = Layout::of(&record);
-        Shown { record, first, now }
+        let record = Record {
+            m,
+            moves,
+            ..Record::new(n, 1, stripes)
+        };
+        Shown {
+            record,
+            first: Layout::home(n, stripes),
+            now: Layout::of(&record),
+        }
     }
 
     /// The picture that these arguments draw is of these stripes, and right.
@@ -280,7 +286,7 @@ impl Shown {
             ..
         } = self.record;
         let text = picture(arguments);
-        let total = self.first.total();
+        let total = self.now.total();
         assert!(text.contains(&format!(">{n} + {m} disks: {moves} of {total} moves done<")));
         let (first, last) = (*range.start(), *range.end());
         let part = match last - first + 1 < stripes {
@@ -312,16 +318,60 @@ impl Shown {
             let number = format!("y=\"{}\" text-anchor=\"end\">{stripe}</text>", y + 18);
             assert!(text.contains(&number), "{arguments:?}: {number}");
         }
-        let zone_len = if m > 0 { n + m } else { stripes };
-        check_zones(&text, zone_len, m > 0, &rows);
+        check_frames(&text, &self.record, &rows);
     }
 }
 
-/// A frame for each zone, around just the rows of it that are drawn, with its number beside it.
-fn check_zones(picture: &str, zone_len: u64, is_named: bool, rows: &BTreeMap<u64, u64>) {
-    let mut zones: BTreeMap<u64, Vec<u64>> = BTreeMap::new();
+/// What has a frame, and its name: a zone of a whole group, the tail; without a growth, all.
+#[derive(PartialEq, Eq, PartialOrd, Ord)]
+enum Frame {
+    Zone(u64),
+    Tail,
+    Whole,
+}
+
+impl Frame {
+    fn of(record: &Record, stripe: u64) -> Frame {
+        let zone_len = record.n + record.m;
+        let group_len = record.n * zone_len;
+        match record.m {
+            0 => Frame::Whole,
+            _ if stripe >= record.stripes - record.stripes % group_len => Frame::Tail,
+            _ => Frame::Zone(stripe / zone_len),
+        }
+    }
+
+    fn len(&self, record: &Record) -> u64 {
+        let zone_len = record.n + record.m;
+        match self {
+            Frame::Zone(_) => zone_len,
+            Frame::Tail => record.stripes % (record.n * zone_len),
+            Frame::Whole => record.stripes,
+        }
+    }
+
+    /// From the longest on. What is drawn in part is said to be cut, if there is room.
+    fn names(&self, is_cut: bool) -> Vec<String> {
+        match (self, is_cut) {
+            (Frame::Zone(zone), true) => vec![
+                format!("zone {zone}, cut"),
+                format!("zone {zone}"),
+                format!("{zone}"),
+            ],
+            (Frame::Zone(zone), false) => vec![format!("zone {zone}")],
+            (Frame::Tail, true) => vec!["tail, cut".to_string(), "tail".to_string()],
+            (Frame::Tail, false) => vec!["tail".to_string()],
+            (Frame::Whole, _) => vec![],
+        }
+    }
+}
+
+/// Each frame is around just the rows of it that are drawn, with its name beside it.
+fn check_frames(picture: &str, record: &Record, rows: &BTreeMap<u64, u64>) {
+    let mut parts: BTreeMap<Frame, Vec<u64>> = BTreeMap::new();
     for (&stripe, &y) in rows {
-        zones.entry(stripe / zone_len).or_default().push(y);
+        let part = Frame::of(record, stripe);
+        parts.entry(part).or_default().push(y);
     }
     let number = |line: &str, name: &str| -> u64 {
         let (_, rest) = line.split_once(&format!("{name}=\"")).unwrap();
@@ -343,24 +393,16 @@ fn check_zones(picture: &str, zone_len: u64, is_named: bool, rows: &BTreeMap<u64
                 .1
         })
         .collect();
-    assert_eq!(frames.len(), zones.len());
-    assert_eq!(names.len(), if is_named { zones.len() } else { 0 });
-    for (i, (zone, ys)) in zones.iter().enumerate() {
+    assert_eq!(frames.len(), parts.len());
+    assert_eq!(names.len(), if record.m > 0 { parts.len() } else { 0 });
+    for (i, (part, ys)) in parts.iter().enumerate() {
         let (top, high) = frames[i];
         assert_eq!(
             (top, high),
             (ys[0] - 6, ys[ys.len() - 1] + 26 + 6 - (ys[0] - 6))
         );
         if let Some(name) = names.get(i) {
-            let is_cut = (ys.len() as u64) < zone_len;
-            let forms = match is_cut {
-                true => vec![
-                    format!("zone {zone}, cut"),
-                    format!("zone {zone}"),
-                    format!("{zone}"),
-                ],
-                false => vec![format!("zone {zone}")],
-            };
+            let forms = part.names((ys.len() as u64) < part.len(record));
             // the first that has room
             let fits = |form: &&String| 8 * form.len() as u64 <= high;
             assert_eq!(
@@ -368,6 +410,10 @@ fn check_zones(picture: &str, zone_len: u64, is_named: bool, rows: &BTreeMap<u64
                 forms.iter().find(fits).unwrap_or(&forms[forms.len() - 1])
             );
         }
+    }
+    // the frames are apart
+    for pair in frames.windows(2) {
+        assert_eq!(pair[0].0 + pair[0].1 + 12, pair[1].0);
     }
 }
 
@@ -378,8 +424,25 @@ fn check(arguments: &[u64], n: u64, m: u64, stripes: u64, moves: u64) {
 #[test]
 fn a_picture_shows_the_layout_after_every_move() {
     for (n, m, total) in [(3, 2, 18), (4, 1, 16)] {
+        let group = n * (n + m);
         for moves in 0..=total {
-            check(&[n, m, moves], n, m, n * (n + m), moves);
+            check(&[n, m, moves], n, m, group, moves);
+            // with a tail, the longest that there is and one of a zone and more
+            for stripes in [2 * group - 1, group + n + m + 1] {
+                let arguments = [n, m, moves, stripes, 0, stripes - 1];
+                check(&arguments, n, m, stripes, moves);
+            }
+        }
+    }
+}
+
+/// No whole group: a tail and nothing else, with new blocks from the grow itself on.
+#[test]
+fn pictures_of_small_drawers() {
+    for (n, m) in [(3, 2), (4, 1), (5, 3), (16, 16)] {
+        let group = n * (n + m);
+        for stripes in [1, 2, n, n + m - 1, n + m, n + m + 1, group - 1] {
+            check(&[n, m, 0, stripes], n, m, stripes, 0);
         }
     }
 }
@@ -391,12 +454,15 @@ fn pictures_of_other_arrays() {
     check(&[5, 3, 40, 80, 0, 79], 5, 3, 80, 40);
     check(&[16, 16, 5, 512], 16, 16, 512, 5);
     check(&[16, 16, 8000, 1024, 0, 1023], 16, 16, 1024, 8000);
+    check(&[16, 16, 4095, 1023, 0, 1022], 16, 16, 1023, 4095);
+    check(&[16, 16, 4096, 1023, 0, 1022], 16, 16, 1023, 4096);
     // before a growth, with any number of stripes
     check(&[3, 0, 0], 3, 0, 9, 0);
     check(&[16, 0, 0, 1], 16, 0, 1, 0);
 }
 
-/// Without a last stripe, a group of them or what is left; and every part of two groups, zones cut anywhere.
+/// Without a last stripe, a group of them or what is left; and every part of two groups, and of a group and a tail, zones and tail
+/// cut anywhere.
 #[test]
 fn pictures_of_some_stripes() {
     let shown = Shown::of(3, 2, 30, 20);
@@ -408,14 +474,25 @@ fn pictures_of_some_stripes() {
             shown.check(&[3, 2, 20, 30, first, last], first..=last);
         }
     }
+    for moves in [17, 18] {
+        let shown = Shown::of(3, 2, 21, moves);
+        shown.check(&[3, 2, moves, 21], 0..=14);
+        shown.check(&[3, 2, moves, 21, 6], 6..=20);
+        shown.check(&[3, 2, moves, 21, 15], 15..=20);
+        for first in 0..21 {
+            for last in first..21 {
+                shown.check(&[3, 2, moves, 21, first, last], first..=last);
+            }
+        }
+    }
     Shown::of(3, 0, 100, 0).check(&[3, 0, 0, 100], 0..=8);
     Shown::of(3, 0, 100, 0).check(&[3, 0, 0, 100, 95], 95..=99);
 }
 
-/// The most stripes that an array of 3 + 2 disks can have: both ends, and where the growth stands.
+/// The most stripes that an array can have, 3 + 2 disks with a tail of one: both ends, and where the growth stands.
 #[test]
 fn pictures_of_the_largest_array() {
-    let (stripes, total) = (1_048_575, 1_258_290);
+    let (stripes, total) = (1_048_576, 1_258_290);
     for moves in [0, 700_001, total] {
         let shown = Shown::of(3, 2, stripes, moves);
         let next = moves / 6 * 5; // the zone of the next move
@@ -454,7 +531,8 @@ fn bad_arguments_are_named() {
     ] {
         is_refused(&DRAW, arguments, usage);
     }
-    let group = |of| format!("a multiple of n * (n + m), which is {of}");
+    let moves =
+        |total| format!("0 to {total}, n * n * m for each whole group of n * (n + m) stripes");
     let refused: &[(&[&str], &str, &str, &str)] = &[
         (&["2", "2", "0"], "n", "2", "3 to 16"),
         (&["17", "1", "0"], "n", "17", "3 to 16"),
@@ -464,113 +542,45 @@ fn bad_arguments_are_named() {
         (&["3", "17", "0"], "m", "17", "0 to 16"),
         (&["3", "258", "9"], "m", "258", "0 to 16"),
         (&["3", "-2", "9"], "m", "-2", "0 to 16"),
-        (
-            &["3", "2", "19"],
-            "t",
-            "19",
-            "0 to 18, which is T * n * m / (n + m)",
-        ),
-        (
-            &["3", "0", "1"],
-            "t",
-            "1",
-            "0 to 0, which is T * n * m / (n + m)",
-        ),
-        (
-            &["3", "2", "37", "30"],
-            "t",
-            "37",
-            "0 to 36, which is T * n * m / (n + m)",
-        ),
-        (
-            &["3", "2", ""],
-            "t",
-            "",
-            "0 to 18, which is T * n * m / (n + m)",
-        ),
-        (
-            &["3", "2", "-1"],
-            "t",
-            "-1",
-            "0 to 18, which is T * n * m / (n + m)",
-        ),
-        (
-            &["3", "2", "+1"],
-            "t",
-            "+1",
-            "0 to 18, which is T * n * m / (n + m)",
-        ),
-        (
-            &["3", "2", " 9"],
-            "t",
-            " 9",
-            "0 to 18, which is T * n * m / (n + m)",
-        ),
-        (
-            &["3", "2", "9x"],
-            "t",
-            "9x",
-            "0 to 18, which is T * n * m / (n + m)",
-        ),
-        (
-            &["3", "2", "0x9"],
-            "t",
-            "0x9",
-            "0 to 18, which is T * n * m / (n + m)",
-        ),
-        (
-            &["3", "2", "9\n9"],
-            "t",
-            "9?9",
-            "0 to 18, which is T * n * m / (n + m)",
-        ),
-        (
-            &["3", "2", "4294967305"],
-            "t",
-            "4294967305",
-            "0 to 18, which is T * n * m / (n + m)",
-        ),
+        (&["3", "2", "19"], "t", "19", &moves(18)),
+        (&["3", "0", "1"], "t", "1", &moves(0)),
+        (&["3", "0", "1", "1048576"], "t", "1", &moves(0)),
+        (&["3", "2", "37", "30"], "t", "37", &moves(36)),
+        // a tail has no moves: a second group is whole from 30 stripes on
+        (&["3", "2", "1", "14"], "t", "1", &moves(0)),
+        (&["3", "2", "19", "16"], "t", "19", &moves(18)),
+        (&["3", "2", "19", "29"], "t", "19", &moves(18)),
+        (&["4", "1", "1", "19"], "t", "1", &moves(0)),
+        (&["16", "16", "4097", "1023"], "t", "4097", &moves(4096)),
+        (&["3", "2", ""], "t", "", &moves(18)),
+        (&["3", "2", "-1"], "t", "-1", &moves(18)),
+        (&["3", "2", "+1"], "t", "+1", &moves(18)),
+        (&["3", "2", " 9"], "t", " 9", &moves(18)),
+        (&["3", "2", "9x"], "t", "9x", &moves(18)),
+        (&["3", "2", "0x9"], "t", "0x9", &moves(18)),
+        (&["3", "2", "9\n9"], "t", "9?9", &moves(18)),
+        (&["3", "2", "4294967305"], "t", "4294967305", &moves(18)),
         (
             &["3", "2", "18446744073709551625"],
             "t",
             "18446744073709551625",
-            "0 to 18, which is T * n * m / (n + m)",
+            &moves(18),
         ),
-        (
-            &["3", "2", "0", "14"],
-            "T",
-            "14",
-            &format!("15 to 1048575, {}", group(15)),
-        ),
-        (
-            &["3", "2", "0", "0"],
-            "T",
-            "0",
-            &format!("15 to 1048575, {}", group(15)),
-        ),
-        (
-            &["3", "2", "0", "31"],
-            "T",
-            "31",
-            &format!("15 to 1048575, {}", group(15)),
-        ),
+        (&["3", "2", "0", "0"], "T", "0", "1 to 1048576"),
+        (&["3", "2", "0", "-15"], "T", "-15", "1 to 1048576"),
+        (&["3", "2", "0", ""], "T", "", "1 to 1048576"),
+        (&["3", "2", "0", "1048577"], "T", "1048577", "1 to 1048576"),
         (
             &["3", "2", "9", "4294967311"],
             "T",
             "4294967311",
-            &format!("15 to 1048575, {}", group(15)),
-        ),
-        (
-            &["3", "1", "0", "1048584"],
-            "T",
-            "1048584",
-            &format!("12 to 1048572, {}", group(12)),
+            "1 to 1048576",
         ),
         (
             &["16", "16", "0", "1049088"],
             "T",
             "1049088",
-            &format!("512 to 1048576, {}", group(512)),
+            "1 to 1048576",
         ),
         (&["3", "0", "0", "0"], "T", "0", "1 to 1048576"),
         (&["3", "0", "0", "1048577"], "T", "1048577", "1 to 1048576"),
@@ -614,7 +624,11 @@ fn bad_arguments_are_named() {
         &[16, 16, 0, 1_048_576][..],
         &[3, 0, 0, 1_048_576],
         &[16, 0, 0, 1],
+        &[3, 1, 0, 1],
+        &[16, 16, 0, 511],
         &[3, 1, 786_429, 1_048_572],
+        &[3, 1, 786_429, 1_048_576],
+        &[16, 16, 8_388_608, 1_048_576],
     ] {
         picture(arguments);
     }
@@ -639,7 +653,7 @@ fn a_full_disk_is_told() {
     );
 }
 
-/// docs/pictures/n-m-t.svg
+/// docs/pictures/n-m-t.svg, and n-m-t-T-first-last.svg
 #[test]
 fn the_pictures_of_the_documents_are_those_drawn_today() {
     let mut seen = 0;
@@ -655,7 +669,7 @@ fn the_pictures_of_the_documents_are_those_drawn_today() {
         );
         seen += 1;
     }
-    assert!(seen >= 6);
+    assert!(seen >= 7);
 }
 
 // ---- drawers that are files
@@ -663,11 +677,11 @@ fn the_pictures_of_the_documents_are_those_drawn_today() {
 #[test]
 fn drawers_are_mapped() {
     let printed = "\
-3 drawers: 240 blocks are as written
-5 drawers, 50 moves made: 240 blocks are as written
-drawer 1 pulled: 240 blocks are as written
-all written anew: 240 blocks are as written
-drawer 1 replaced, the growth over: 240 blocks are as written
+3 drawers: 256 blocks are as written
+5 drawers, 50 moves made: 256 blocks are as written
+drawer 1 pulled: 256 blocks are as written
+all written anew: 256 blocks are as written
+drawer 1 replaced, the growth over: 256 blocks are as written
 ";
     let folder = empty(&target().join("c/drawers"));
     let made = run(Command::new(&*DRAWERS).current_dir(&folder));
@@ -851,8 +865,8 @@ fn nothing_is_run_that_is_not_proved() {
 fn pictures_are_drawn_anew() {
     let tree = Tree::new("draw");
     let right = pictures(&root());
-    assert!(right.len() >= 6 && tree.pictures() == right);
-    for name in ["3-2-9.svg", "4-1-16.svg"] {
+    assert!(right.len() >= 7 && tree.pictures() == right);
+    for name in ["3-2-9.svg", "4-1-16.svg", "3-2-18-21-10-20.svg"] {
         tree.put(&format!("docs/pictures/{name}"), "an old picture");
     }
     assert!(tree.pictures() != right);

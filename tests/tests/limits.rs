@@ -1,7 +1,7 @@
 //! Arrays at the limits, through all calls: the record's numbers need all of their bytes there, and images are large.
 
 use yuzkamide_tests::array::Array;
-use yuzkamide_tests::images::place;
+use yuzkamide_tests::images::{place, xor};
 use yuzkamide_tests::layout::Layout;
 use yuzkamide_tests::memory::{Guarded, Memory, Side};
 use yuzkamide_tests::pbm::{Answer, Call, Loan};
@@ -37,8 +37,8 @@ fn read_all(array: &mut Array) {
     }
 }
 
-/// Grows by these budgets, the last of which must complete it, and reads every block behind each; then loses and rebuilds the
-/// first and the last disk.
+/// Grows by these budgets, the last of which must complete it (none where grow does), and reads every block behind each; then
+/// loses and rebuilds the first and the last disk.
 fn grows(home: Record, m: u64, budgets: &[u64]) {
     let mut array = Array::format(home.n, home.block_len, home.stripes);
     write_all(&mut array, 0..home.capacity());
@@ -83,11 +83,11 @@ fn the_most_stripes() {
     assert_eq!(array.locate(2_097_152), Answer::refused(8));
 }
 
-/// T is the largest multiple of 3 × 4, and t passes 65,535.
+/// 87,381 groups of 3 × 4 stripes, each of 9 moves, and a tail of 4; t passes 65,535.
 #[test]
 fn the_most_stripes_that_grow() {
-    let home = Record::new(3, 1, 1_048_572);
-    grows(home, 1, &[65_535, 1, 720_000, u64::MAX]);
+    let home = Record::new(3, 1, 1_048_576);
+    grows(home, 1, &[65_535, 1, 720_000, 892, u64::MAX]);
 }
 
 #[test]
@@ -95,10 +95,17 @@ fn the_most_disks_with_the_longest_blocks() {
     grows(Record::new(16, 4096, 512), 16, &[1, 2000, 2095]);
 }
 
-/// Images of 17 GB, all zero at first. Each block is in a stripe of its own, so the parity is equal to it.
+/// A group but for one stripe, so that grow ends the growth.
+#[test]
+fn the_most_stripes_that_are_no_group() {
+    grows(Record::new(16, 64, 511), 16, &[]);
+}
+
+/// Images of 17 GB, all zero at first. Each block is in a stripe of its own, so the parity is equal to it: 4 stripes are those of
+/// the tail, 8 those of the last 6 moves.
 #[test]
 fn places_beyond_32_bits() {
-    let mut record = Record::new(3, 4096, 1_048_572);
+    let mut record = Record::new(3, 4096, 1_048_576);
     record.m = 1;
     record.moves = record.total() - 6;
     let mut layout = Layout::of(&record);
@@ -126,4 +133,21 @@ fn places_beyond_32_bits() {
             assert!(loan.block.bytes() == data, "block {block}");
         }
     }
+
+    // the last new block is on the last place of all, in the stripe of the last old one
+    let (new, stripe) = (3 * 1_048_576 - 1, 1_048_575);
+    let answer = loan.call(Call::Locate { block: new });
+    assert_eq!(answer, Answer::done(&[stripe, 3]));
+    loan.block.hold(&data(new, 4096));
+    assert_eq!(loan.call(Call::Write { block: new }), Answer::done(&[]));
+    let mut parity = data(last, 4096);
+    xor(&mut parity, &data(new, 4096));
+    let images = loan.images.bytes();
+    assert!(images[place(&record, stripe, 3)] == data(new, 4096));
+    assert!(images[place(&record, stripe, 0)] == parity);
+    loan.block.hold(&[0; 4096]);
+    assert_eq!(loan.call(Call::Read { block: new }), Answer::done(&[]));
+    assert!(loan.block.bytes() == data(new, 4096));
+    let answer = loan.call(Call::Read { block: new + 1 });
+    assert_eq!(answer, Answer::refused(8));
 }

@@ -22,6 +22,16 @@ const COMPUTED: &[(&str, &str, &[&str])] = &[
         ],
     ),
     (
+        "/proofs/Cases/Tail.antt:",
+        "`tails`",
+        &["layout/part_of_a_group", "layout/tail_without_numbers"],
+    ),
+    (
+        "/proofs/Cases/Bench.antt:",
+        "`unmarked`",
+        &["calls/tail_moves"],
+    ),
+    (
         "/proofs/Exact.antt:",
         "`computed`",
         &["zone_moves/thousands_dropped", "zone_moves/zone_of_three"],
@@ -61,11 +71,17 @@ const BY_LAW: &[(&str, &str, &[&str])] = &[
         "`kept`",
         &["calls/refusal_clears_block"],
     ),
-    // format is let through by what document 01 asks for
+    // format is refused 6 for what document 01 says, and nothing else
     (
-        "/proofs/Laws/Table.antt:",
-        "`facts-form`",
+        "/proofs/Laws/Reasons.antt:",
+        "`unformable`",
         &["calls/one_length_refused"],
+    ),
+    // which number a grow is given
+    (
+        "/proofs/Numbered.antt:",
+        "`of-grow`",
+        &["calls/limit_before_grown"],
     ),
     // the part of the images that is returned begins where the definition has it
     (
@@ -133,7 +149,9 @@ fn kind(words: &str) -> Option<Kind> {
         ])
     {
         Some(Kind::Shape)
-    } else if starts(&["`omega`: the goal does not follow from what it read. All of that holds, and the goal fails, at "]) {
+    } else if starts(&["`omega`: the goal does not follow from what it read. All of that holds, and the goal fails, at "])
+        || starts(&["`omega`: the part `"]) && has(&["All of that holds, and the part fails, at "])
+    {
         Some(Kind::Refuted)
     } else if starts(&["`search`: no proof of `"]) {
         Some(Kind::Unproved)

@@ -49,7 +49,7 @@ const STATEMENTS: &[&str] = &[
     "Demand1",
     "InOrder",
     "OnBytes",
-    "LetThrough",
+    "Numbered",
     "Alone",
     "OneMove",
     "RecordOnly",

@@ -1,6 +1,6 @@
-//! Every row of document 01's table of refusals, for every call that it names: alone, and with a lower row's condition holding
-//! as well, which then wins. A refused call changes no byte and sets every number beside its answer to 0. What an accepted one
-//! answers and leaves is held to a model that goes by the bytes.
+//! Every row of document 01's table of refusals, 1 and 6 as request (a) of document 02 leaves them, for every call that it names:
+//! alone, and with a lower row's condition holding as well, which then wins. A refused call changes no byte and sets every number
+//! beside its answer to 0. What an accepted one answers and leaves is held to a model that goes by the bytes.
 
 use std::collections::HashSet;
 use yuzkamide_tests::bytewise::Bytewise;
@@ -138,14 +138,14 @@ const SPOILS: &[Spoil] = &[
     spoil(BUT_FORMAT, 1, "T above 1,048,576", |c| {
         c.damage = Some(|r| set_field(r, at::STRIPES, 1_048_576 + 15))
     }),
-    spoil(BUT_FORMAT, 1, "T no multiple, m not 0", |c| {
-        c.damage = Some(|r| {
-            set_field(r, at::M, 2);
-            set_field(r, at::STRIPES, 14);
-        })
-    }),
     spoil(BUT_FORMAT, 1, "t above the total", |c| {
         c.damage = Some(|r| set_field(r, at::MOVES, 19))
+    }),
+    spoil(BUT_FORMAT, 1, "t above the total, with a tail", |c| {
+        c.damage = Some(|r| set_growth(r, 2, 29, 19))
+    }),
+    spoil(BUT_FORMAT, 1, "t = 1, no whole group", |c| {
+        c.damage = Some(|r| set_growth(r, 2, 14, 1))
     }),
     spoil(BUT_FORMAT, 1, "t = 1, m = 0", |c| {
         c.damage = Some(|r| {
@@ -167,12 +167,21 @@ const SPOILS: &[Spoil] = &[
     spoil(&["grow"], 4, "m = 2, complete", |c| {
         (c.record.m, c.record.moves) = (2, 18)
     }),
+    spoil(&["grow"], 4, "m = 2, no whole group", |c| {
+        (c.record.m, c.record.stripes, c.images_len) = (2, 14, 280)
+    }),
     spoil(&["advance"], 5, "m = 0", |c| {
         (c.record.m, c.record.moves, c.images_len) = (0, 0, 180)
     }),
     spoil(&["advance"], 5, "t is the total", |c| c.record.moves = 18),
     spoil(&["advance"], 5, "t is the total, k = 0", |c| {
         (c.record.moves, c.call) = (18, Call::Advance { k: 0 })
+    }),
+    spoil(&["advance"], 5, "t is the total, with a tail", |c| {
+        (c.record.moves, c.record.stripes, c.images_len) = (18, 29, 580)
+    }),
+    spoil(&["advance"], 5, "no whole group", |c| {
+        (c.record.moves, c.record.stripes, c.images_len) = (0, 14, 280)
     }),
     spoil(&["format"], 6, "n = 0", |c| format(c, 0, 4, 15)),
     spoil(&["format"], 6, "n = 2", |c| format(c, 2, 4, 15)),
@@ -202,16 +211,24 @@ const SPOILS: &[Spoil] = &[
     }),
     spoil(&["grow"], 6, "m = 0", |c| grow(c, 0, 180)),
     spoil(&["grow"], 6, "m = 17", |c| grow(c, 17, 1200)),
+    spoil(&["grow"], 6, "m = 255", |c| grow(c, 255, 15_480)),
+    spoil(&["grow"], 6, "m = 256", |c| grow(c, 256, 15_540)),
     spoil(&["grow"], 6, "m = 258", |c| grow(c, 258, 15_660)),
+    spoil(&["grow"], 6, "m = 258, as 2", |c| grow(c, 258, 300)),
+    spoil(&["grow"], 6, "m = 2^32 + 2, as 2", |c| {
+        grow(c, (1 << 32) + 2, 300)
+    }),
     spoil(&["grow"], 6, "m = 2^64 - 1", |c| grow(c, u64::MAX, 120)),
     spoil(&["grow"], 6, "m = 2^64 - 3: n + m = 0", |c| {
         grow(c, u64::MAX - 2, 0)
     }),
-    spoil(&["grow"], 6, "m = 1, of which T is no multiple", |c| {
-        grow(c, 1, 240)
+    spoil(&["grow"], 6, "m = 0, one stripe", |c| {
+        c.record.stripes = 1;
+        grow(c, 0, 12)
     }),
-    spoil(&["grow"], 6, "T is a multiple of n + m alone", |c| {
-        (c.record.stripes, c.images_len) = (20, 400)
+    spoil(&["grow"], 6, "m = 17, no whole group", |c| {
+        c.record.stripes = 59;
+        grow(c, 17, 4720)
     }),
     spoil(ON_IMAGES, 7, "a byte more", |c| c.images_len += 1),
     spoil(ON_IMAGES, 7, "a byte less", |c| {
@@ -238,6 +255,18 @@ const SPOILS: &[Spoil] = &[
         c.record.moves = 18;
         number(c, 60)
     }),
+    spoil(ON_NUMBERED, 8, "the capacity, with a tail", |c| {
+        (c.record.moves, c.record.stripes, c.images_len) = (17, 29, 580);
+        number(c, 58)
+    }),
+    spoil(ON_NUMBERED, 8, "the grown capacity, with a tail", |c| {
+        (c.record.moves, c.record.stripes, c.images_len) = (18, 29, 580);
+        number(c, 116)
+    }),
+    spoil(ON_NUMBERED, 8, "the grown capacity, no whole group", |c| {
+        (c.record.moves, c.record.stripes, c.images_len) = (0, 14, 280);
+        number(c, 56)
+    }),
     spoil(&["owner"], 8, "T", |c| stripe(c, 15)),
     spoil(&["owner"], 8, "2^32 + 2", |c| stripe(c, (1 << 32) + 2)),
     spoil(&["owner"], 8, "2^64 - 1", |c| stripe(c, u64::MAX)),
@@ -263,6 +292,12 @@ const SPOILS: &[Spoil] = &[
         disk(c, 0)
     }),
 ];
+
+fn set_growth(record: &mut [u8], m: u64, stripes: u64, moves: u64) {
+    set_field(record, at::M, m);
+    set_field(record, at::STRIPES, stripes);
+    set_field(record, at::MOVES, moves);
+}
 
 fn set_health(record: &mut [u8], health: u64, out: u64) {
     set_field(record, at::HEALTH, health);
@@ -365,6 +400,82 @@ fn each_call_is_accepted_unspoilt() {
         let case = accepted(name);
         assert_eq!(case.holding(), [], "{name}");
         case.gives(0, "unspoilt");
+    }
+}
+
+/// Whatever T is: with a tail of any length, with none, and with no whole group.
+#[test]
+fn every_growth_is_accepted() {
+    for stripes in 1..=60 {
+        for m in 1..=16 {
+            let record = Record { stripes, ..BENCH };
+            let mut case = Case {
+                record,
+                ..accepted("grow")
+            };
+            grow(&mut case, m, (3 + m) * stripes * 4);
+            assert_eq!(case.holding(), [], "{case:?}");
+            case.gives(0, "any T");
+        }
+    }
+}
+
+/// Growths of n + m disks over T stripes, and their totals: the record is good up to there and no further, for every call.
+#[test]
+fn a_record_is_good_up_to_its_total() {
+    let totals: &[(u64, u64, u64, u64)] = &[
+        (4, 1, 1, 0),
+        (4, 1, 19, 0),
+        (4, 1, 20, 16),
+        (4, 1, 21, 16),
+        (4, 1, 39, 16),
+        (4, 1, 40, 32),
+        (4, 2, 23, 0),
+        (4, 2, 29, 32),
+        (4, 2, 47, 32),
+        (4, 2, 48, 64),
+        (5, 3, 39, 0),
+        (5, 3, 47, 75),
+        (3, 16, 56, 0),
+        (3, 16, 57, 144),
+        (3, 16, 1_048_576, 2_649_024),
+        (3, 1, 1_048_576, 786_429),
+        (16, 15, 1_048_576, 8_117_760),
+        (16, 16, 511, 0),
+        (16, 16, 1023, 4096),
+        (16, 16, 1_048_576, 8_388_608),
+    ];
+    for &(n, m, stripes, total) in totals {
+        let (old, grown) = (stripes * (n - 1), stripes * (n + m - 1));
+        let mut record = Record::new(n, 4, stripes);
+        record.m = m;
+        let case = |name, record: Record| Case {
+            record,
+            images_len: record.images_len().min(1 << 18),
+            ..accepted(name)
+        };
+        for moves in [0, total / 2, total.saturating_sub(1), total] {
+            record.moves = moves;
+            let capacity = if moves == total { grown } else { old };
+            let answer = Answer::done(&[capacity, moves, total, 0, 0]);
+            let status = case("status", record).bytes().call(Call::Status);
+            assert_eq!(status, answer, "{record:?}");
+            // larger ones are not replayed
+            for name in BUT_FORMAT.iter().filter(|_| stripes < 2000) {
+                let case = case(name, record);
+                let row = case.holding().first().copied().unwrap_or(0);
+                assert_ne!(row, 1, "{case:?}");
+                case.gives(row, "t at most the total");
+            }
+        }
+        for moves in [total + 1, total + 2, stripes * n * m / (n + m) + 1] {
+            record.moves = moves;
+            for name in BUT_FORMAT {
+                let case = case(name, record);
+                assert_eq!(case.holding()[0], 1, "{case:?}");
+                case.gives(1, "t above the total");
+            }
+        }
     }
 }
 

@@ -10,7 +10,7 @@ use yuzkamide_tests::random::Random;
 use yuzkamide_tests::record::{Record, RECORD_LEN};
 use yuzkamide_tests::table::Lent;
 
-/// n, m, B and T: arrays whose disks are whole pages.
+/// n, m, B and T: arrays whose disks are whole pages, without a tail, with one, and of no whole group.
 const SHAPES: &[(u64, u64, u64, u64)] = &[
     (3, 0, 4096, 1),
     (3, 0, 256, 16),
@@ -23,6 +23,14 @@ const SHAPES: &[(u64, u64, u64, u64)] = &[
     (5, 3, 512, 40),
     (3, 13, 256, 48),
     (16, 16, 8, 512),
+    (3, 1, 1024, 16),
+    (3, 2, 4096, 16),
+    (4, 2, 512, 32),
+    (5, 3, 256, 48),
+    (3, 2, 4096, 14),
+    (4, 1, 4096, 19),
+    (3, 16, 4096, 1),
+    (16, 16, 128, 32),
 ];
 
 struct Array {
@@ -273,8 +281,10 @@ fn a_disk_that_is_out_is_not_touched() {
     on_fault_tell(seed);
     let mut calls = 0;
     for &shape in SHAPES {
-        let (n, m, _, stripes) = shape;
-        let total = stripes * n * m / (n + m);
+        let (n, m, block_len, stripes) = shape;
+        let mut record = Record::new(n, block_len, stripes);
+        record.m = m;
+        let total = record.total();
         let mut moves = vec![0, 1, total / 2, total.saturating_sub(1), total];
         moves.retain(|&t| t <= total);
         moves.dedup();

@@ -166,7 +166,7 @@ pub fn of_grow(r: Record, images: usize, m: u64) -> u8
     if r.new != 0 {
         return GROWN;
     }
-    if !new_is_good(r.old as u64, m, r.stripes as u64) {
+    if !new_is_good(m) {
         return GEOMETRY;
     }
     if images as u64 != size_with(r, m) {

@@ -6,6 +6,7 @@ pub mod Runs
 pub mod Rows
 pub mod Health
 pub mod Table
+pub mod Reasons
 pub mod Asked
 pub mod Passed
 pub mod Acting

@@ -1,7 +1,7 @@
 pub mod Cases
 pub mod Laws
 pub mod Theorem
-pub mod LetThrough
+pub mod Numbered
 pub mod Alone
 pub mod OneMove
 pub mod Acts

@@ -41,7 +41,7 @@ idle g = eqb (g .new) 0 || eqb (g .moves) (totalOf g)
 abbrev pub nothingToMove : Record → Row
 nothingToMove r = (5, idle (geometry r))
 
--- "format: n, B or T outside limits; grow: m outside, or T no multiple of n × (n + m)"
+-- "format: n, B or T outside limits; grow: m outside", and nothing else: "The divisor condition leaves refusal 6" (document 02, (a))
 unfoldable pub formable : ℕ → ℕ → ℕ → Bool
 formable n B T = oldGood n && (blockGood B && stripesGood T)
 
@@ -91,7 +91,7 @@ terms (read b) r = asking (lost r ∷ []) (those (size r)) (λ c room. pastEnd b
 terms (view b) r = asking (lost r ∷ []) (those (size r)) (λ c room. pastEnd b c ∷ blockLength r room ∷ [])
 terms (write b v) r = asking (lost r ∷ []) (those (size r)) (λ c room. pastEnd b c ∷ blockLength r (length v) ∷ [])
 terms (grow m) r =
-    asking (lost r ∷ degraded r ∷ grownAlready r ∷ badGeometry (newGood (r .old) m (r .stripes)) ∷ []) (those (sizeWith r m)) none
+    asking (lost r ∷ degraded r ∷ grownAlready r ∷ badGeometry (newGood m) ∷ []) (those (sizeWith r m)) none
 terms (advance k) r = asking (lost r ∷ degraded r ∷ nothingToMove r ∷ []) (those (size r)) none
 terms (out d) r = asking (lost r ∷ []) nothing (λ c room. disk (not (ltb d (disksOf r)) || isOut (r .health) d) ∷ [])
 terms (rebuild d) r = asking (lost r ∷ []) (those (size r)) (λ c room. disk (not (isOut (r .health) d)) ∷ [])

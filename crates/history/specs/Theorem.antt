@@ -3,7 +3,8 @@
 -- reported out holding any bytes, new ones before each call, until it is rebuilt or a new format is done: every answer and every
 -- refusal is exactly that of document 01's flat list, zero at first, of what each block was last given; each move keeps its
 -- stripe's parity value; and growth is over exactly when the moves reported since it began are T × n × m / (n + m) .. A second
--- disk out while the first is not rebuilt refuses all reads until a new format."
+-- disk out while the first is not rebuilt refuses all reads until a new format." (That number is the total, of which document 02, (a),
+-- says: "The total becomes (T div (n × (n + m))) × n × n × m".)
 -- The statement is `Demand3`; behind it stand `MayBeLent`, `FlatList`, `AlwaysFair`, `LastGiven`, `ZeroAtFirst` and
 -- `SecondOut`. `demand3`, `may-be-lent`, `flat-list`, `always-fair`, `last-given`, `zero-at-first` and `second-out` of proofs/Theorem.antt
 -- prove them, and assume nothing.

@@ -1,2 +1,3 @@
 -- The worked cases, computed.
 pub mod Paper
+pub mod Tail

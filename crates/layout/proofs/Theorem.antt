@@ -1,20 +1,22 @@
 -- Demand 2, proved: `demand2`. Assumes nothing.
-use Prim.Native.Nat.{ℕ, _+_, _*_, _≤_, _<_}
+use Prim.Native.Nat.{ℕ, _+_, _-_, _*_, _/_, _%_, _≤_, _<_}
 use mathlib.Core.Path.{_≡_, refl, sym, ap, ap₂, _∙_}
 use mathlib.Core.Bool.{Bool, true, false, true≢false}
 use mathlib.Core.Logic.{inl, inr, _≢_}
+use native.Mathlib.Nat.{div-lt-iff-lt-mul}
 use native.Mathlib.Omega.{arith}
 use lib.ListN.{length}
 use Rattle.layout.specs.declared.Geometry.{Geometry}
 use Rattle.layout.specs.declared.Role.the-variants.{Data, Parity, Blank}
 use Rattle.layout.specs.declared.Role.{Role}
-use Rattle.layout.specs.Home.{homeStripe, homeDisk}
-use Rattle.layout.specs.Moves.{stands}
+use Rattle.layout.specs.Home.{placeAt, dataDisk, homeStripe, homeDisk}
+use Rattle.layout.specs.Moves.{total, stands}
 use Rattle.layout.specs.Closed.{diskAt, source, taken}
 use Rattle.layout.specs.Blanks.{blanksBelow, newBlock}
+use Rattle.layout.specs.Runs.{awaited}
 use Rattle.layout.specs.Layout.{disks, totalOf, oldBlocks, capacity, home, layout, grownParity}
 use Rattle.layout.specs.Limits.{GoodArray}
-use Rattle.layout.specs.Theorem.{Ranks, Order, Replay, Numbers, Placed, Blanked, NextMove, Laid, Demand2, blank}
+use Rattle.layout.specs.Theorem.{Ranks, Order, Replay, WholeGroups, Numbers, Placed, Blanked, Tail, NextMove, Laid, Demand2, blank}
 use Rattle.layout.proofs.Laws.Basics.{le-or-lt}
 use Rattle.layout.proofs.Laws.Lag as moves
 use Rattle.layout.proofs.Laws.Order as orders
@@ -23,6 +25,7 @@ use Rattle.layout.proofs.Laws.Source.{source-lt, taken-disk, stands-the
 use Rattle.layout.proofs.Laws.Blanks.{blanks-length}
 use Rattle.layout.proofs.Laws.NewBlocks.{Listed, nth-listed, count-mono, count-lt, blank-there}
 use Rattle.layout.proofs.Laws.Zones.{total-none}
+use Rattle.layout.proofs.Laws.Settled.{waits, awaited-nth}
 use Rattle.layout.proofs.Laws.Numbers as counts
 use Rattle.layout.proofs.Laws.Lawful.Held.{a-block, the-parity}
 use Rattle.layout.proofs.Laws.Lawful.{Held}
@@ -80,12 +83,12 @@ module _ (g : Geometry) (good : GoodArray g) where
 
   numbers : Numbers g
   numbers = record {
+    groups = counts.some-groups g good;
+    total-is = counts.total-is g good;
     counted = counts.counted g good;
     no-more = counts.no-more g good;
-    whole-zones = counts.whole-zones g good;
-    whole-groups = counts.whole-groups g good;
-    total-is = counts.total-is g good;
-    inside = counts.inside g good;
+    inside = counts.in-groups g good;
+    no-group = counts.no-group g good;
     capacity-before = counts.capacity-before g;
     capacity-after = counts.capacity-after g (omega (arith, pn));
   }
@@ -194,6 +197,41 @@ module _ (g : Geometry) (good : GoodArray g) where
     none-left = λ over S e l he. none-left (home g) g pn over (home-full g good .no-blank) S e l;
   }
 
+  -- ---- the tail
+
+  module _ (G S : ℕ) (w : WholeGroups g G) (l : G * g .old * (g .old + g .new) ≤ S) (hS : S < g .stripes) where
+    still : g .moves ≤ awaited (g .old) (g .new) S
+    still = counts.tail-awaits g good G S w l
+
+    stays : (d : ℕ) → diskAt (g .old) (g .new) (g .moves) S d ≡ d
+    stays = waits (g .old) (g .new) pn S (g .moves) still
+
+    tail-blank : (j : ℕ) → j < g .new → blank g S j ≡ g .old + j
+    tail-blank j h = sym (awaited-nth (g .old) (g .new) pn S (g .moves) still j h)
+
+    data-stays : (b : ℕ) → b / (g .old - 1) ≡ S → layout g .place b ≡ placeAt S (dataDisk (g .old) S (b % (g .old - 1)))
+    unfolding homeStripe homeDisk
+    data-stays b q =
+        let p : 0 < g .old - 1 = omega (arith, pn) in
+        let under : b < oldBlocks g = div-lt-iff-lt-mul p .0 (rw q hS) in
+        low (home g) g b under
+        ∙ ap (λ s. placeAt s (diskAt (g .old) (g .new) (g .moves) s (dataDisk (g .old) s (b % (g .old - 1))))) q
+        ∙ ap (placeAt S) (stays _)
+
+    tail-new : g .moves ≡ totalOf g → (j : ℕ) → j < g .new → layout g .owner S (g .old + j) ≡ Data (oldBlocks g + (S * g .new + j))
+    tail-new over j h = rw (tail-blank j h) at (new-block over S j hS h)
+
+    tailed : Tail g S
+    unfolding grownParity
+    tailed = record {
+      data-stays = data-stays;
+      parity-stays = stays _;
+      blanks-are = tail-blank;
+      are-blank = λ more j h. rw (tail-blank j h) at (blanked .are-blank more S j h);
+      new-block = tail-new;
+      new-place = λ over j h. owned S (g .old + j) hS (omega arith) _ (tail-new over j h) .1;
+    }
+
   -- ---- one move
 
   next-move : g .moves < totalOf g → NextMove g
@@ -214,7 +252,7 @@ module _ (g : Geometry) (good : GoodArray g) where
 
   -- ---- all of it
 
-  laid : Laid g
+  pub laid : Laid g
   laid = record {
     ranks = ranked (g .old) pn;
     order = λ pm. ordered (g .old) (g .new) (omega (arith, pn)) pm;
@@ -222,8 +260,11 @@ module _ (g : Geometry) (good : GoodArray g) where
     numbers = numbers;
     placed = placed;
     blanked = blanked;
+    tail = tailed;
     next-move = next-move;
   }
 
 pub demand2 : Demand2
-demand2 = laid
+unfolding total
+demand2 g n-low n-high m-high T-low T-high moves =
+    laid g (record { disks = record { n-low = n-low; n-high = n-high; m-high = m-high }; stripes-low = T-low; stripes-high = T-high; moves = moves })

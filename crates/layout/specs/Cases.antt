@@ -1,2 +1,3 @@
 -- Worked cases over the definitions.
 pub mod Paper
+pub mod Tail

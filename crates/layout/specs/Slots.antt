@@ -10,7 +10,7 @@ use Rattle.layout.specs.declared.Slot.{Slot}
 use Rattle.layout.specs.Home.{homeStripe, homeDisk}
 use Rattle.layout.specs.Closed.{diskAt}
 use Rattle.layout.specs.Blanks.{blanks, newStripe}
-use Rattle.layout.specs.Runs.{settled}
+use Rattle.layout.specs.Runs.{Resting}
 use Rattle.layout.specs.Layout.{oldBlocks}
 
 -- a block of before the growth: its stripe, and the disk on which it stood; a new one: its stripe, and which of the blanks it is
@@ -24,10 +24,10 @@ slotOf g b =
 -- the disk of a slot in stripe S
 unfoldable pub slotDisk : Geometry → ℕ → Slot → ℕ
 slotDisk g S y =
-    cond (y .new) (getD (blanks (g .old) (g .new) (settled (g .old) (g .new) S) S) (y .nth) 0)
+    cond (y .new) (getD (blanks (g .old) (g .new) (g .moves) S) (y .nth) 0)
     (diskAt (g .old) (g .new) (g .moves) S (y .nth))
 
--- y is on an old disk, or one of the blanks
-pub record InSlot (g : Geometry) (y : Slot) : Type 0 where
+-- y is on an old disk of stripe S, or one of its blanks, with all moves of its zone made, or none
+pub record InSlot (g : Geometry) (S : ℕ) (y : Slot) : Type 0 where
   pub old : y .new ≡ false → y .nth < g .old
-  pub new : y .new ≡ true → y .nth < g .new
+  pub new : y .new ≡ true → (y .nth < g .new) × Resting (g .old) (g .new) (g .moves) S

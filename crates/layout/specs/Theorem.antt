@@ -8,11 +8,10 @@ use lib.ListN.{length, getD}
 use Rattle.layout.specs.declared.Geometry.{Geometry}
 use Rattle.layout.specs.declared.Role.the-variants.{Data, Parity, Blank}
 use Rattle.layout.specs.Home.{placeAt, dataDisk, rankOf}
-use Rattle.layout.specs.Moves.{zones, groups, moveIndex, moveZone, moveTo, moveLag, moveStripe, moveFrom, carry, stands}
+use Rattle.layout.specs.Moves.{moveIndex, moveZone, moveTo, moveLag, moveStripe, moveFrom, carry, stands}
 use Rattle.layout.specs.Closed.{diskAt}
 use Rattle.layout.specs.Blanks.{blanks}
 use Rattle.layout.specs.Layout.{disks, totalOf, capacity, layout, nextStripe, nextFrom, nextTo, after}
-use Rattle.layout.specs.Limits.{GoodArray}
 
 -- Where document 01 has a formula for a place of before the growth, it stands here in bare numbers, and not by its name, so that the name
 -- cannot come to mean another one.
@@ -50,10 +49,10 @@ pub record Order (n m : ℕ) : Type 0 where
   -- "i = 0 is the parity block", and no other i
   pub parity-first : (k : ℕ) → moveLag n k ≡ 0 → moveFrom n m k ≡ moveStripe n m k % n
   pub parity-only : (k : ℕ) → moveFrom n m k ≡ moveStripe n m k % n → moveLag n k ≡ 0
-  -- "A group is n zones": from one to the next the moves are the same, n zones further on
-  pub next-group : (k : ℕ) → let j = k + n * m * n in
-      (moveZone n m j ≡ moveZone n m k + n) × (moveTo n m j ≡ moveTo n m k)
-      × (moveLag n j ≡ moveLag n k) × (moveFrom n m j ≡ moveFrom n m k)
+  -- "A group is n zones": the moves of a group, n × n × m, are those of the group before, n × (n + m) stripes further on
+  pub next-group : (k : ℕ) → let j = k + n * n * m in
+      (moveZone n m j ≡ moveZone n m k + n) × (moveTo n m j ≡ moveTo n m k) × (moveLag n j ≡ moveLag n k)
+      × (moveStripe n m j ≡ moveStripe n m k + n * (n + m)) × (moveFrom n m j ≡ moveFrom n m k)
 
 -- ---- the replay of t moves, one by one, is the closed form; a move is done exactly if its index is below t
 
@@ -66,15 +65,23 @@ pub record Replay (n m t : ℕ) : Type 0 where
 
 -- ---- the numbers of an array
 
+-- G of its groups are whole, and no more: a group is n × (n + m) stripes
+pub record WholeGroups (g : Geometry) (G : ℕ) : Type 0 where
+  pub inside : G * g .old * (g .old + g .new) ≤ g .stripes
+  pub no-other : g .stripes < (G + 1) * g .old * (g .old + g .new)
+
 pub record Numbers (g : Geometry) : Type 0 where
-  -- the moves below the total are those of the array's zones, n × m each, and stay inside its stripes
-  pub counted : 0 < g .new → (Z p i : ℕ) → Z < zones (g .old) (g .new) (g .stripes) → p < disks g → i < g .old
+  pub groups : (G : ℕ) × WholeGroups g G
+  -- "Only whole groups move now": the moves below the total are those of their zones, n to a group and n × m moves to a zone, all of
+  -- them ..
+  pub total-is : (G : ℕ) → WholeGroups g G → totalOf g ≡ G * g .old * g .old * g .new
+  pub counted : 0 < g .new → (G Z p i : ℕ) → WholeGroups g G → Z < G * g .old → p < disks g → i < g .old
       → moveIndex (g .old) (g .new) Z p i < totalOf g
-  pub no-more : 0 < g .new → (k : ℕ) → k < totalOf g → moveZone (g .old) (g .new) k < zones (g .old) (g .new) (g .stripes)
-  pub whole-zones : 0 < g .new → zones (g .old) (g .new) (g .stripes) * disks g ≡ g .stripes
-  pub whole-groups : 0 < g .new → groups (g .old) (g .new) (g .stripes) * g .old ≡ zones (g .old) (g .new) (g .stripes)
-  pub total-is : totalOf g ≡ zones (g .old) (g .new) (g .stripes) * g .new * g .old
-  pub inside : 0 < g .new → (k : ℕ) → k < totalOf g → moveStripe (g .old) (g .new) k < g .stripes
+  pub no-more : 0 < g .new → (G k : ℕ) → WholeGroups g G → k < totalOf g → moveZone (g .old) (g .new) k < G * g .old
+  -- .. and stay inside their stripes
+  pub inside : 0 < g .new → (G k : ℕ) → WholeGroups g G → k < totalOf g → moveStripe (g .old) (g .new) k < G * g .old * (g .old + g .new)
+  -- "With no whole group the total is 0"
+  pub no-group : g .stripes < g .old * (g .old + g .new) → totalOf g ≡ 0
   -- "Capacity becomes T × (n + m − 1); before, it stays the old one"
   pub capacity-before : g .moves < totalOf g → capacity g ≡ g .stripes * (g .old - 1)
   pub capacity-after : g .moves ≡ totalOf g → capacity g ≡ g .stripes * (g .old + g .new - 1)
@@ -124,6 +131,20 @@ pub record Blanked (g : Geometry) : Type 0 where
       → layout g .owner S (blank g S j) ≡ Data (g .stripes * (g .old - 1) + (S * g .new + j))
   pub none-left : g .moves ≡ totalOf g → (S e : ℕ) → S < g .stripes → e < disks g → layout g .owner S e ≢ Blank
 
+-- ---- the tail: "stripes behind the last one" of the whole groups "keep old parity and data places, with all m new places blank",
+-- after any count of moves
+
+pub record Tail (g : Geometry) (S : ℕ) : Type 0 where
+  pub data-stays : (b : ℕ) → b / (g .old - 1) ≡ S → layout g .place b ≡ placeAt S (dataDisk (g .old) S (b % (g .old - 1)))
+  pub parity-stays : layout g .parity S ≡ S % g .old
+  pub blanks-are : (j : ℕ) → j < g .new → blank g S j ≡ g .old + j
+  -- while moves are left nobody owns them; then, "New numbers still run over all stripes", lowest disk first
+  pub are-blank : g .moves < totalOf g → (j : ℕ) → j < g .new → layout g .owner S (g .old + j) ≡ Blank
+  pub new-block : g .moves ≡ totalOf g → (j : ℕ) → j < g .new
+      → layout g .owner S (g .old + j) ≡ Data (g .stripes * (g .old - 1) + (S * g .new + j))
+  pub new-place : g .moves ≡ totalOf g → (j : ℕ) → j < g .new
+      → layout g .place (g .stripes * (g .old - 1) + (S * g .new + j)) ≡ placeAt S (g .old + j)
+
 -- ---- one move: a block or parity, never a blank, to a place that was blank, in its stripe; no other owner changes
 
 pub record NextMove (g : Geometry) : Type 0 where
@@ -152,8 +173,12 @@ pub record Laid (g : Geometry) : Type 0 where
   pub numbers : Numbers g
   pub placed : Placed g
   pub blanked : Blanked g
+  pub tail : (G S : ℕ) → WholeGroups g G → G * g .old * (g .old + g .new) ≤ S → S < g .stripes → Tail g S
   pub next-move : g .moves < totalOf g → NextMove g
 
--- .. and of every array in document 01's limits: every n, m, T and t together
+-- .. and of every array in document 01's limits, in bare numbers: every n, m, T and t together, t at most
+-- "(T div (n × (n + m))) × n × n × m"
 abbrev pub Demand2 : Type 0
-Demand2 = (g : Geometry) → GoodArray g → Laid g
+Demand2 =
+    (g : Geometry) → 3 ≤ g .old → g .old ≤ 16 → g .new ≤ 16 → 1 ≤ g .stripes → g .stripes ≤ 1048576
+    → g .moves ≤ g .stripes / (g .old * (g .old + g .new)) * g .old * g .old * g .new → Laid g

@@ -1,14 +1,16 @@
-// The blank places of a stripe whose moves have all been made, counted from the lowest disk. With s its place in the zone and P its
-// parity disk, its moves have the lags i with n <= s + i < n + m, and each leaves the old disk i below P, counted on from disk n - 1:
+// The blank places of a stripe, counted from the lowest disk. Once all moves of its zone have been made: with s its place in the zone and
+// P its parity disk, its moves have the lags i with n <= s + i < n + m, and each leaves the old disk i below P, counted on from disk n - 1:
 // what is left is one run of disks up to P and one above it. The new disks that no move goes to are one run below s and one from
-// s + n on. So the blanks are at most four runs of consecutive disks, and none of them has to be looked for.
-ghost use Prim.Native.Nat.{_<_, _≤_, _+_};
+// s + n on. So the blanks are at most four runs of consecutive disks, and none of them has to be looked for. While none of its moves has
+// been made, as in the tail for good, they are one run: the new disks.
+ghost use Prim.Native.Nat.{_<_, _≤_, _+_, _-_};
 ghost use mathlib.Core.Path.{_≡_};
 ghost use mathlib.Core.Bool.{false};
+ghost use lib.Dec.{leb};
 ghost use lib.ListN.{length, getD};
 ghost use Rattle.layout.specs.Closed.{taken};
 ghost use Rattle.layout.specs.Blanks.{blanks, blanksBelow};
-ghost use Rattle.layout.specs.Runs.{settled, firstLag, endLag, runsOf};
+ghost use Rattle.layout.specs.Runs.{settled, Resting, firstLag, endLag, runsOf, liftOf};
 ghost use Rattle.layout.specs.Limits.{TakenApart};
 use crate::Runs;
 use crate::Stripe;
@@ -49,25 +51,56 @@ fn runs_of(n: u64, m: u64, x: Stripe) -> Runs
     }
 }
 
-// The disk of blank place j. All along a run it is above j by one number; that number is picked.
-pub(crate) fn nth_blank(n: u64, m: u64, x: Stripe, j: u64) -> u64
+// How far a blank's disk is above the blank's number, once all moves of the stripe's zone have been made. All along a run that is the same,
+// and it is picked: is the blank on an old disk, and if so in the first run; and if not, in the third?
+fn lift(n: u64, m: u64, x: Stripe, r: Runs, old: bool, low: bool, early: bool) -> u64
+    requires { ⌜ TakenApart n m x × (r ≡ runsOf n m (x .within) (x .home)) ⌝ }
+    ensures { λ u. ⌜ u ≡ liftOf n (x .within) r old low early ⌝ }
+{
+    let left = pick(low, r.low, r.high - r.some);
+    let new = pick(early, n - r.left, x.within + n - r.early);
+    pick(old, left, new)
+}
+
+// That of blank place j ..
+fn nth_lift(n: u64, m: u64, x: Stripe, j: u64) -> u64
     requires { ⌜ TakenApart n m x × (j < m) ⌝ }
-    ensures { λ r. ⌜ r ≡ getD (blanks n m (settled n m (x .number)) (x .number)) j 0 ⌝ }
+    ensures { λ u. ⌜ j + u ≡ getD (blanks n m (settled n m (x .number)) (x .number)) j 0 ⌝ }
 {
     let r = runs_of(n, m, x);
-    let new = pick(j < r.early, n - r.left, x.within + n - r.early);
-    let old = pick(j < r.some, r.low, r.high - r.some);
-    j + pick(j < r.left, old, new)
+    lift(n, m, x, r, j < r.left, j < r.some, j < r.early)
+}
+
+// .. and that of disk e, if that is blank.
+fn disk_lift(n: u64, m: u64, x: Stripe, e: u64) -> u64
+    requires { ⌜ TakenApart n m x × (e < n + m) ⌝ }
+    ensures { λ u. ⌜ (taken n m (settled n m (x .number)) (x .number) e ≡ false →
+        e - u ≡ length (blanksBelow n m (settled n m (x .number)) (x .number) e)) ⌝ }
+{
+    let r = runs_of(n, m, x);
+    lift(n, m, x, r, e < n, e <= x.home, e < x.within)
+}
+
+// Have all moves of the stripe's zone been made?
+fn is_settled(n: u64, m: u64, t: u64, x: Stripe) -> bool
+    requires { ⌜ TakenApart n m x ⌝ }
+    ensures { λ r. ⌜ r ≡ leb (settled n m (x .number)) t ⌝ }
+{
+    (x.zone + 1) * m * n <= t
+}
+
+// The disk of blank place j after t moves, all those of the stripe's zone or none of them: then the new disks are the blanks.
+pub(crate) fn nth_blank(n: u64, m: u64, t: u64, x: Stripe, j: u64) -> u64
+    requires { ⌜ TakenApart n m x × Resting n m t (x .number) × (j < m) ⌝ }
+    ensures { λ r. ⌜ r ≡ getD (blanks n m t (x .number)) j 0 ⌝ }
+{
+    j + pick(is_settled(n, m, t, x), nth_lift(n, m, x, j), n)
 }
 
 // The way back: the number of blank places below disk e, if that is one itself.
-pub(crate) fn count_below(n: u64, m: u64, x: Stripe, e: u64) -> u64
-    requires { ⌜ TakenApart n m x × (e < n + m) ⌝ }
-    ensures { λ r. ⌜ (r ≤ e) × (taken n m (settled n m (x .number)) (x .number) e ≡ false →
-        r ≡ length (blanksBelow n m (settled n m (x .number)) (x .number) e)) ⌝ }
+pub(crate) fn count_below(n: u64, m: u64, t: u64, x: Stripe, e: u64) -> u64
+    requires { ⌜ TakenApart n m x × Resting n m t (x .number) × (e < n + m) ⌝ }
+    ensures { λ r. ⌜ (r ≤ e) × (taken n m t (x .number) e ≡ false → r ≡ length (blanksBelow n m t (x .number) e)) ⌝ }
 {
-    let r = runs_of(n, m, x);
-    let new = pick(e < x.within, n - r.left, x.within + n - r.early);
-    let old = pick(e <= x.home, r.low, r.high - r.some);
-    excess(e, pick(e < n, old, new))
+    excess(e, pick(is_settled(n, m, t, x), disk_lift(n, m, x, e), n))
 }

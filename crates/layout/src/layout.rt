@@ -8,12 +8,11 @@ ghost use Rattle.layout.specs.Layout.{disks, totalOf, oldBlocks, openStr
 ghost use Rattle.layout.specs.Layout.{newOwner, layout, found};
 ghost use Rattle.layout.specs.Slots.{slotOf, slotDisk, InSlot};
 ghost use Rattle.layout.specs.Coded.{code};
-ghost use Rattle.layout.specs.Limits.{TakenApart, Sized, Measured, GoodArray};
+ghost use Rattle.layout.specs.Limits.{TakenApart, Sized, GoodArray};
 use crate::Found;
 use crate::Geometry;
 use crate::Place;
 use crate::Role;
-use crate::Scaled;
 use crate::Slot;
 use crate::Stripe;
 use crate::blanks::count_below;
@@ -27,27 +26,14 @@ use crate::coded::role_of;
 use crate::home::home_code;
 use crate::home::home_place;
 
-// The moves done and the total, which is T * n * m / (n + m), both times n + m.
-fn scaled_moves(g: Geometry) -> Scaled
+// The moves of the growth: those of its whole groups. With no whole group there is none.
+pub fn total_of(g: Geometry) -> u64
     requires { ⌜ Sized g ⌝ }
-    ensures { λ r. ⌜ Measured g r ⌝ }
+    ensures { λ r. ⌜ r ≡ totalOf g ⌝ }
 {
     let n = g.old;
     let m = g.new;
-    Scaled {
-        done: g.moves * (n + m),
-        all: g.stripes * n * m,
-        times: n + m,
-    }
-}
-
-// The moves of the growth.
-pub fn total_of(g: Geometry) -> u64
-    requires { ⌜ GoodArray g ⌝ }
-    ensures { λ r. ⌜ r ≡ totalOf g ⌝ }
-{
-    let p = scaled_moves(g);
-    p.all / p.times
+    g.stripes / (n * (n + m)) * n * n * m
 }
 
 // Is t at most the total?
@@ -55,17 +41,15 @@ pub fn moves_fit(g: Geometry) -> bool
     requires { ⌜ Sized g ⌝ }
     ensures { λ x. ⌜ x ≡ leb (g .moves) (totalOf g) ⌝ }
 {
-    let p = scaled_moves(g);
-    p.done <= p.all
+    g.moves <= total_of(g)
 }
 
 // Are all moves of the growth made? (With no new disk there is none.)
 pub fn all_moved(g: Geometry) -> bool
-    requires { ⌜ GoodArray g ⌝ }
+    requires { ⌜ Sized g ⌝ }
     ensures { λ r. ⌜ r ≡ eqb (g .moves) (totalOf g) ⌝ }
 {
-    let p = scaled_moves(g);
-    p.done == p.all
+    g.moves == total_of(g)
 }
 
 // The blocks of before the growth.
@@ -115,11 +99,11 @@ fn slot_of(g: Geometry, b: u64) -> Slot
 
 // The disk of slot y, whose stripe is x.
 fn slot_disk(g: Geometry, x: Stripe, y: Slot) -> u64
-    requires { ⌜ TakenApart (g .old) (g .new) x × InSlot g y ⌝ }
+    requires { ⌜ TakenApart (g .old) (g .new) x × InSlot g (x .number) y ⌝ }
     ensures { λ r. ⌜ r ≡ slotDisk g (x .number) y ⌝ }
 {
     if y.new {
-        nth_blank(g.old, g.new, x, y.nth)
+        nth_blank(g.old, g.new, g.moves, x, y.nth)
     } else {
         disk_at(g.old, g.new, g.moves, x, y.nth)
     }
@@ -179,7 +163,7 @@ fn new_code(g: Geometry, x: Stripe, e: u64) -> u64
 {
     let s = x.number;
     if s < open_stripes(g) {
-        old_blocks(g) + (s * g.new + count_below(g.old, g.new, x, e))
+        old_blocks(g) + (s * g.new + count_below(g.old, g.new, g.moves, x, e))
     } else {
         BLANK
     }

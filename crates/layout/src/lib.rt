@@ -48,13 +48,6 @@ pub struct Geometry {
     pub moves: u64,
 }
 
-// How far an array is: t and the total of moves, both times the same number, so that they are compared with no division.
-pub struct Scaled {
-    pub done: u64,
-    pub all: u64,
-    pub times: u64,
-}
-
 // A move: its zone, its stripe in the zone and in the array, the disk it leaves, the disk it goes to.
 pub struct Move {
     pub zone: u64,

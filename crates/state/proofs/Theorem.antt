@@ -1,11 +1,12 @@
 -- What is proved of the record: `round-trip`, `good-is` and `updates`. Assumes nothing.
-use Prim.Native.Nat.{ℕ, _+_}
+use Prim.Native.Nat.{ℕ, _+_, _*_, _/_, _≤_, _<_}
 use mathlib.Core.Path.{_≡_, refl, subst}
 use mathlib.Core.Bool.{true}
 use mathlib.Core.Logic.{_↔_}
 use mathlib.Core.List.{List}
 use native.Mathlib.Omega.{arith}
 use lib.ListN.{length}
+use Rattle.layout.specs.Moves.{total}
 use Rattle.layout.proofs.Laws.Bounds.{total-high}
 use Rattle.state.specs.declared.Health.the-variants.{Whole, Out, Lost}
 use Rattle.state.specs.declared.Health.{Health}
@@ -14,7 +15,7 @@ use Rattle.state.specs.Good.{geometry, good, OutBelow, GoodRecord}
 use Rattle.state.specs.Bytes.{recordLength, decode, plain, goodBytes, encode, AreBytes}
 use Rattle.state.specs.Theorem.{RoundTrip, GoodIs, Updates}
 use Rattle.conditions.proofs.Tests.{both}
-use Rattle.state.proofs.Laws.Good.{limits, within-limits}
+use Rattle.state.proofs.Laws.Good.{limits, within-limits, out-lt}
 use Rattle.state.proofs.Laws.Bytes.{decode-encode, length-encode, plain-encode, Fits, bytes-encode, encode-decode}
 
 pub round-trip : RoundTrip
@@ -57,8 +58,47 @@ good-bytes b are long = (to, from)
     from : ((r : Record) × (good r ≡ true) × (encode r ≡ b)) → goodBytes b ≡ true
     from x = subst (λ (y : List ℕ). goodBytes y ≡ true) (x .2) (rw (plain-encode (x .0), decode-encode (x .0)) (x .1))
 
+-- a good record's limits, in bare numbers
+module _ (r : Record) where
+  abbrev Bare : Type 0
+  Bare =
+      (3 ≤ r .old) × (r .old ≤ 16) × (r .new ≤ 16) × (1 ≤ r .block) × (r .block ≤ 4096) × (1 ≤ r .stripes) × (r .stripes ≤ 1048576)
+      × (r .moves ≤ r .stripes / (r .old * (r .old + r .new)) * r .old * r .old * r .new) × ((d : ℕ) → r .health ≡ Out d → d < r .old + r .new)
+
+  below : (h : Health) → ((d : ℕ) → h ≡ Out d → d < r .old + r .new) → OutBelow (r .old + r .new) h
+  below Whole f = tt
+  below (Out d) f = f d refl
+  below Lost f = tt
+
+  bare-limits : GoodRecord r ↔ Bare
+  unfolding total
+  bare-limits = (
+    (λ l.
+        let a = l .array in
+        (a .disks .n-low, a .disks .n-high, a .disks .m-high, l .block-low, l .block-high, a .stripes-low, a .stripes-high, a .moves, λ d e. out-lt r d l e)),
+    λ (n-low, n-high, m-high, B-low, B-high, T-low, T-high, moves, out).
+        record {
+          array = record {
+            disks = record { n-low = n-low; n-high = n-high; m-high = m-high };
+            stripes-low = T-low;
+            stripes-high = T-high;
+            moves = moves;
+          };
+          block-low = B-low;
+          block-high = B-high;
+          out = below (r .health) out;
+        },
+  )
+
 pub good-is : GoodIs
-good-is = record { exactly = λ r. (limits r, within-limits r); fits = λ r l. bytes-encode r (fits r l); bytes = good-bytes }
+good-is =
+    record {
+      exactly = λ r. (limits r, within-limits r);
+      limits = bare-limits;
+      array = λ r. refl;
+      fits = λ r l. bytes-encode r (fits r l);
+      bytes = good-bytes;
+    }
 
 pub updates : Updates
 updates = record { formatted-is = λ n B T. refl; grown-is = λ r m. refl; moves-are = λ r t. refl; health-is = λ r h. refl }

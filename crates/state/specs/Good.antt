@@ -1,8 +1,8 @@
 -- Which records are good. Document 01, Record: "A record is good exactly if each field is in its limits, bytes 6–7 zero
--- included, the out disk is below N, t is at most the total of moves, and with m above 0 T is a multiple of n × (n + m); with
--- m = 0, t = 0." (What that asks of bytes which no field takes is `plain` of Bytes.)
-use Prim.Native.Nat.{ℕ, _+_, _*_, _%_, _≤_, _<_}
-use mathlib.Core.Bool.{Bool, true, cond, _&&_}
+-- included, the out disk is below N, t is at most the total of moves, .. with m = 0, t = 0." (What that asks of bytes which no field takes
+-- is `plain` of Bytes. Document 02, (a): "The divisor condition leaves .. the good record", so T is any number in its limits.)
+use Prim.Native.Nat.{ℕ, _+_, _≤_, _<_}
+use mathlib.Core.Bool.{Bool, true, _&&_, _||_}
 use lib.Dec.{leb, ltb, eqb}
 use Rattle.layout.specs.declared.Geometry.{Geometry}
 use Rattle.layout.specs.Layout.{totalOf}
@@ -24,9 +24,9 @@ within low x high = leb low x && leb x high
 abbrev pub oldGood : ℕ → Bool
 oldGood n = within 3 n 16
 
--- "m, the new ones, 1 to 16", and "with m above 0 T is a multiple of n × (n + m)"
-unfoldable pub newGood : ℕ → ℕ → ℕ → Bool
-newGood n m T = within 1 m 16 && eqb (T % (n * (n + m))) 0
+-- "m, the new ones, 1 to 16"
+abbrev pub newGood : ℕ → Bool
+newGood m = within 1 m 16
 
 -- "B, the block length, is 1 to 4,096"
 abbrev pub blockGood : ℕ → Bool
@@ -36,9 +36,13 @@ blockGood B = within 1 B 4096
 abbrev pub stripesGood : ℕ → Bool
 stripesGood T = within 1 T 1048576
 
--- "t is at most the total of moves .. with m = 0, t = 0"
+-- a record's m is as many as may be added, or "0 before growth"
+abbrev pub addedGood : ℕ → Bool
+addedGood m = eqb m 0 || newGood m
+
+-- "t is at most the total of moves" ("with m = 0, t = 0": the total is 0 then)
 unfoldable pub movesGood : Geometry → Bool
-movesGood g = cond (eqb (g .new) 0) (eqb (g .moves) 0) (newGood (g .old) (g .new) (g .stripes) && leb (g .moves) (totalOf g))
+movesGood g = addedGood (g .new) && leb (g .moves) (totalOf g)
 
 -- "the out disk is below N"
 abbrev pub healthGood : ℕ → Health → Bool

@@ -1,6 +1,6 @@
 -- What is proved of the record: `RoundTrip`, `GoodIs` and `Updates`; `round-trip`, `good-is` and `updates` of proofs/Theorem.antt prove
 -- them.
-use Prim.Native.Nat.{ℕ, _+_, _*_}
+use Prim.Native.Nat.{ℕ, _+_, _*_, _/_, _≤_, _<_}
 use mathlib.Core.Path.{_≡_}
 use mathlib.Core.Bool.{true}
 use mathlib.Core.Logic.{_↔_}
@@ -9,7 +9,7 @@ use lib.ListN.{length, getD}
 use Rattle.state.specs.declared.Health.the-variants.{Whole, Out, Lost}
 use Rattle.state.specs.declared.Health.{Health}
 use Rattle.state.specs.declared.Record.{Record}
-use Rattle.state.specs.Good.{good, GoodRecord}
+use Rattle.state.specs.Good.{geometry, good, GoodRecord}
 use Rattle.state.specs.Bytes.{recordLength, decode, plain, goodBytes, healthByte, diskByte, encode, AreBytes}
 use Rattle.state.specs.Update.{formatted, grownBy, withMoves, withHealth}
 
@@ -40,6 +40,14 @@ pub record RoundTrip : Type 0 where
 -- "A record is good exactly if each field is in its limits .."
 pub record GoodIs : Type 0 where
   pub exactly : (r : Record) → (good r ≡ true) ↔ GoodRecord r
+  -- which are: "n, the old disks, is 3 to 16; m, the new ones, 1 to 16", or "0 before growth"; "B, the block length, is 1 to 4,096. T, the
+  -- stripes, is 1 to 1,048,576."; "the out disk is below N, t is at most the total of moves", "(T div (n × (n + m))) × n × n × m"
+  pub limits : (r : Record) → GoodRecord r
+      ↔ ((3 ≤ r .old) × (r .old ≤ 16) × (r .new ≤ 16) × (1 ≤ r .block) × (r .block ≤ 4096) × (1 ≤ r .stripes) × (r .stripes ≤ 1048576)
+      × (r .moves ≤ r .stripes / (r .old * (r .old + r .new)) * r .old * r .old * r .new)
+      × ((d : ℕ) → r .health ≡ Out d → d < r .old + r .new))
+  -- the array that it speaks of has its own numbers
+  pub array : (r : Record) → geometry r ≡ record { old = r .old; new = r .new; stripes = r .stripes; moves = r .moves }
   -- its bytes are bytes
   pub fits : (r : Record) → GoodRecord r → AreBytes (encode r)
   -- and so many bytes are good exactly if they are those of a good record: "bytes 6–7 zero included"

@@ -1,7 +1,8 @@
 // Which records are good. The limits of single fields are functions of their own: format and grow are held to them too.
 ghost use Prim.Native.Nat.{_≤_};
 ghost use mathlib.Core.Path.{_≡_};
-ghost use Rattle.state.specs.Good.{geometry, within, oldGood, newGood, blockGood, stripesGood, movesGood, healthGood, good};
+ghost use Rattle.state.specs.Good.{geometry, within, oldGood, newGood, addedGood, blockGood, stripesGood};
+ghost use Rattle.state.specs.Good.{movesGood, healthGood, good};
 use crate::Health;
 use crate::Record;
 use layout::Geometry;
@@ -36,15 +37,11 @@ pub fn old_is_good(n: u64) -> bool
     is_within(3, n, 16)
 }
 
-// May m disks be added to n, over this many stripes?
-pub fn new_is_good(n: u64, m: u64, stripes: u64) -> bool
-    requires { ⌜ (3 ≤ n) × (n ≤ 16) ⌝ }
-    ensures { λ r. ⌜ r ≡ newGood n m stripes ⌝ }
+// May m disks be added to an array?
+pub fn new_is_good(m: u64) -> bool
+    ensures { λ r. ⌜ r ≡ newGood m ⌝ }
 {
-    if !is_within(1, m, 16) {
-        return false;
-    }
-    stripes % (n * (n + m)) == 0
+    is_within(1, m, 16)
 }
 
 // May a block be this long?
@@ -61,16 +58,24 @@ pub fn stripes_are_good(stripes: u64) -> bool
     is_within(1, stripes, 1048576)
 }
 
-// Can the array have come this far?
+// May an array have m new disks, or none?
+fn added_is_good(m: u64) -> bool
+    ensures { λ r. ⌜ r ≡ addedGood m ⌝ }
+{
+    if m == 0 {
+        return true;
+    }
+    new_is_good(m)
+}
+
+// Can the array have come this far? (With no new disk the total is 0. To ask for it there too costs less than to ask for m first: the
+// compiler then makes one division of this total and of the capacity's.)
 fn moves_are_good(r: Record) -> bool
     requires { ⌜ (3 ≤ r .old) × (r .old ≤ 16) × (r .stripes ≤ 1048576) ⌝ }
     ensures { λ x. ⌜ x ≡ movesGood (geometry r) ⌝ }
 {
     let g = geometry_of(r);
-    if g.new == 0 {
-        return g.moves == 0;
-    }
-    if !new_is_good(g.old, g.new, g.stripes) {
+    if !added_is_good(g.new) {
         return false;
     }
     moves_fit(g)

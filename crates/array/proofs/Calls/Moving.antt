@@ -1,5 +1,5 @@
 -- Advance, move by move: what a move asks for, the moves made so far, and that behind the last there are none. Assumes nothing.
-use Prim.Native.Nat.{ℕ, _+_, _-_, _*_, _≤_, _<_, min}
+use Prim.Native.Nat.{ℕ, _+_, _-_, _≤_, _<_, min}
 use mathlib.Core.Path.{_≡_, refl, sym, ap, ap₂, _∙_, subst}
 use mathlib.Core.Bool.{Bool, true, false}
 use mathlib.Core.Logic.{_≢_}
@@ -146,7 +146,7 @@ module _ (r : Record) (img : List ℕ) (count : ℕ) (l : GoodRecord r) (busy : 
       let a = l .array in
       let left : r .moves + done ≤ totalOf (geometry r) = omega arith in
       let lim : GoodRecord now = record {
-        array = record { disks = a .disks; stripes-low = a .stripes-low; stripes-high = a .stripes-high; moves = left; groups = a .groups };
+        array = record { disks = a .disks; stripes-low = a .stripes-low; stripes-high = a .stripes-high; moves = left };
         block-low = l .block-low;
         block-high = l .block-high;
         out = l .out;

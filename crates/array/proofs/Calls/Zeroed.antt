@@ -10,7 +10,7 @@ use Rattle.layout.specs.Layout.{capacity}
 use Rattle.state.specs.declared.Record.{Record}
 use Rattle.state.specs.Good.{geometry, GoodRecord}
 use Rattle.state.specs.Update.{formatted, grownBy}
-use Rattle.state.proofs.Laws.Good.{new-good}
+use Rattle.state.proofs.Laws.Good.{within-true}
 use Rattle.calls.specs.Call.{format, grow, feed, on, done}
 use Rattle.calls.specs.Images.{zeroDisks}
 use Rattle.calls.specs.Table.{refusalOf}
@@ -50,7 +50,7 @@ module _ (img : List ℕ) (r : Record) where
       let p : Grows r (length img) m = grow-passed m z in
       let l : GoodRecord r = in-limits r (capacity (geometry r)) (feed (grow m) (length img) 0) refl z in
       let b : Bounded (r .old) (r .stripes) (r .block) = bounded (r .old) (r .stripes) (r .block) (omega (arith, l .array .disks .n-high)) (l .array .stripes-high) (l .block-high) in
-      record { small = new-good _ _ _ (p .fits) .1; sizes = b; within = omega (arith, p .long) }
+      record { small = within-true 1 _ 16 (p .fits) .1; sizes = b; within = omega (arith, p .long) }
 
   pub grow-done : (m : ℕ) → refusalOf r (feed (grow m) (length img) 0) ≡ 0
       → let at = r .old * (r .stripes * r .block) in

@@ -5,14 +5,14 @@ use Rattle.layout.specs.Moves.{moveZone, moveTo, moveLag, moveWithin, moveStrip
 use Rattle.layout.specs.Closed.{lag, target, turn, isMoved, diskAt, source, taken}
 use Rattle.layout.specs.Blanks.{blanksBelow, blanks, newStripe, newDisk, newBlock}
 use Rattle.layout.specs.Layout.{openStripes, capacity, grownPlace, grownParity, newOwner, grownOwner}
-use Rattle.state.specs.Good.{newGood, movesGood, good}
+use Rattle.state.specs.Good.{movesGood, good}
 use Rattle.calls.specs.Images.{stored, recorded}
 use Rattle.calls.specs.Table.{idle, formable, terms, laterRows, table, refusal}
 use Rattle.calls.specs.Effect.{moveStores, advanceStores, effect, called}
 use Rattle.calls.specs.Cases.Bench.{Bench, Unmarked}
 
 pub bench : Bench
-unfolding dataDisk homeStripe homeDisk rankOf homeBlock homeOwner moveZone moveTo moveLag moveWithin moveStripe moveFrom total lag target turn isMoved diskAt source taken blanksBelow blanks newStripe newDisk newBlock openStripes capacity grownPlace grownParity newOwner grownOwner newGood movesGood good stored recorded idle formable terms laterRows table refusal effect called
+unfolding dataDisk homeStripe homeDisk rankOf homeBlock homeOwner moveZone moveTo moveLag moveWithin moveStripe moveFrom total lag target turn isMoved diskAt source taken blanksBelow blanks newStripe newDisk newBlock openStripes capacity grownPlace grownParity newOwner grownOwner movesGood good stored recorded idle formable terms laterRows table refusal effect called
 bench = record {
   numbers = (refl, refl, refl);
   block-5 = (refl, refl);
@@ -26,9 +26,10 @@ bench = record {
 }
 
 pub unmarked : Unmarked
-unfolding moveZone moveTo moveLag moveWithin moveStripe moveFrom total openStripes capacity newGood movesGood good stored recorded idle formable terms laterRows table refusal moveStores advanceStores effect called
+unfolding dataDisk homeStripe homeDisk moveZone moveTo moveLag moveWithin moveStripe moveFrom total lag target turn isMoved diskAt source taken blanksBelow blanks newStripe newDisk openStripes capacity grownPlace movesGood good stored recorded idle formable terms laterRows table refusal moveStores advanceStores effect called
 unmarked = record {
-  groups = (refl, refl, refl);
+  one-group = (refl, refl, refl);
+  no-group = (refl, refl, refl, refl, refl, refl, refl, refl);
   disks = (refl, refl, refl, refl);
   block = (refl, refl, refl, refl);
   stripes = (refl, refl, refl, refl);

@@ -4,14 +4,14 @@ use Rattle.layout.specs.Home.{dataDisk, homeStripe, homeDisk}
 use Rattle.layout.specs.Moves.{moveZone, moveTo, moveLag, moveWithin, moveStripe, moveFrom, total}
 use Rattle.layout.specs.Closed.{lag, target, turn, isMoved, diskAt}
 use Rattle.layout.specs.Layout.{openStripes, capacity, grownPlace, grownParity}
-use Rattle.state.specs.Good.{newGood, movesGood, good}
+use Rattle.state.specs.Good.{movesGood, good}
 use Rattle.calls.specs.Images.{seen, stored, recorded, fillDisk, zeroDisks}
 use Rattle.calls.specs.Table.{idle, formable, terms, laterRows, table, refusal}
 use Rattle.calls.specs.Effect.{viewOf, scratchLeft, writeStores, moveStores, advanceStores, effect, called}
 use Rattle.calls.specs.Cases.Drawers.{Drawers}
 
 pub drawers : Drawers
-unfolding dataDisk homeStripe homeDisk moveZone moveTo moveLag moveWithin moveStripe moveFrom total lag target turn isMoved diskAt openStripes capacity grownPlace grownParity newGood movesGood good seen stored recorded fillDisk zeroDisks idle formable terms laterRows table refusal viewOf scratchLeft writeStores moveStores advanceStores effect called
+unfolding dataDisk homeStripe homeDisk moveZone moveTo moveLag moveWithin moveStripe moveFrom total lag target turn isMoved diskAt openStripes capacity grownPlace grownParity movesGood good seen stored recorded fillDisk zeroDisks idle formable terms laterRows table refusal viewOf scratchLeft writeStores moveStores advanceStores effect called
 drawers = record {
   move = refl;
   no-move = refl;

@@ -2,7 +2,7 @@
 use mathlib.Core.Path.{refl}
 use Rattle.layout.specs.Layout.{openStripes, capacity}
 use Rattle.layout.specs.Moves.{total}
-use Rattle.state.specs.Good.{newGood, movesGood, good}
+use Rattle.state.specs.Good.{movesGood, good}
 use Rattle.state.specs.Bytes.{decode, plain, encode}
 use Rattle.calls.specs.Call.{format, read, view, write, grow, advance, out, rebuild, status, locate, owner}
 use Rattle.calls.specs.Table.{idle, formable, terms, laterRows, table, rowsBytes, refusalBytes}
@@ -23,7 +23,7 @@ rowwise (locate b) short bad r cap len room = refl
 rowwise (owner S d) short bad r cap len room = refl
 
 pub refusals : Refusals
-unfolding openStripes capacity total newGood movesGood good decode plain encode idle formable terms laterRows table rowsBytes refusalBytes
+unfolding openStripes capacity total movesGood good decode plain encode idle formable terms laterRows table rowsBytes refusalBytes
 refusals = record {
   row-1 = refl;
   row-1-format = refl;

@@ -50,7 +50,6 @@ good-moved r good busy =
       stripes-low = good .stripes-low;
       stripes-high = good .stripes-high;
       moves = some-left (geometry r) good busy;
-      groups = good .groups;
     }
 
 -- ---- what a move keeps, the moves of an advance keep; and they are as many as are asked for or left

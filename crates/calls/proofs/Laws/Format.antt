@@ -25,7 +25,7 @@ use Rattle.calls.proofs.Laws.Column.{Mask, Fits, Agree, Even, Holds, St
 use Rattle.calls.proofs.Laws.Stores.{Within, length-stored, cell-stored, stored-last, recorded-last, column-zero, within-zero}
 use Rattle.calls.proofs.Laws.Lists.{blank-blocks, bytes-blank, whole-blank}
 use Rattle.calls.proofs.Laws.Holding.{cellIn, Leaves}
-use Rattle.calls.proofs.Laws.Table.{form-facts}
+use Rattle.calls.proofs.Laws.Reasons.{form-facts}
 use Rattle.calls.proofs.Laws.Passed as passed
 
 -- ---- on one byte of every place
@@ -56,7 +56,6 @@ module _ (n B T : ℕ) where
               stripes-low = tl;
               stripes-high = th;
               moves = omega arith;
-              groups = λ pm. absurd (omega arith);
             };
         block-low = bl;
         block-high = bh;

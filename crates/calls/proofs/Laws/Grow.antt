@@ -1,7 +1,7 @@
 -- Grow: the images left hold the same list on n + m disks, longer at once if there is nothing to move. Assumes nothing.
 use Prim.Native.Nat.{ℕ, _-_, _+_, _*_, _≤_, _<_}
 use mathlib.Core.Path.{_≡_, refl, sym, ap, _∙_, subst}
-use mathlib.Core.Bool.{Bool, true, false, cond}
+use mathlib.Core.Bool.{true, false, cond}
 use mathlib.Core.List.{List}
 use native.Mathlib.Decide.{decLt}
 use native.Mathlib.Omega.{arith}
@@ -21,7 +21,7 @@ use Rattle.state.specs.declared.Health.the-variants.{Whole}
 use Rattle.state.specs.declared.Record.{Record}
 use Rattle.state.specs.Good.{geometry, newGood}
 use Rattle.state.specs.Update.{grownBy}
-use Rattle.state.proofs.Laws.Good.{new-good}
+use Rattle.state.proofs.Laws.Good.{within-true}
 use Rattle.calls.specs.Call.{grow, done}
 use Rattle.calls.specs.Health.{isLost, absent}
 use Rattle.calls.specs.Images.{disksOf, sizeWith, Store, stored, zeroDisks}
@@ -73,15 +73,14 @@ module _ (r : Record) (left img room : List ℕ) (bs : List (List ℕ)) (h : Hol
   abbrev g′ : Geometry
   g′ = geometry (grownBy r m)
 
-  good′ : newGood (r .old) m (r .stripes) ≡ true → GoodArray g′
+  good′ : newGood m ≡ true → GoodArray g′
   good′ e =
-      let (lo, hi, whole) = new-good (r .old) m (r .stripes) e in
+      let (lo, hi) = within-true 1 m 16 e in
       record {
         disks = record { n-low = h .limits .array .disks .n-low; n-high = h .limits .array .disks .n-high; m-high = hi };
         stripes-low = h .limits .array .stripes-low;
         stripes-high = h .limits .array .stripes-high;
         moves = omega arith;
-        groups = λ pm. whole;
       }
 
   none-done : r .new ≡ 0 → r .moves ≡ 0

@@ -34,7 +34,7 @@ pub record Reaches (r : Record) (c len b room : ℕ) : Type 0 where
 pub record Grows (r : Record) (len m : ℕ) : Type 0 where
   pub all-in : r .health ≡ Whole
   pub first : r .new ≡ 0
-  pub fits : newGood (r .old) m (r .stripes) ≡ true
+  pub fits : newGood m ≡ true
   pub long : len ≡ sizeWith r m
 
 pub record Moves (r : Record) (len : ℕ) : Type 0 where
@@ -45,7 +45,6 @@ pub record Moves (r : Record) (len : ℕ) : Type 0 where
 pub record Falls (r : Record) (d : ℕ) : Type 0 where
   pub here : isLost (r .health) ≡ false
   pub disk-lt : d < disksOf r
-  pub still-in : isOut (r .health) d ≡ false
 
 pub record Rebuilds (r : Record) (len d : ℕ) : Type 0 where
   pub is-out : r .health ≡ Out d
@@ -72,18 +71,7 @@ passed-bytes b e z =
     let r : Record = decode b in
     passed-on (e .call) (not (eqb (length b) recordLength)) (not (goodBytes b)) r (capacity (geometry r)) (e .images) (e .room) z
 
--- the record's bytes were so many ..
-pub was-long : (b : List ℕ) (e : Fed) → refusalBytes b e ≡ 0 → length b ≡ recordLength
-unfolding refusalBytes rowsBytes table
-was-long b e z =
-    let r : Record = decode b in
-    equal _ _ (go (looks (e .call)) _ (not (goodBytes b)) (passes _ 0 (word (laterRows (e .call) r (capacity (geometry r)) (e .images) (e .room))) z .0))
-  where
-    go : (l short bad : Bool) → cond l (short || bad) short ≡ false → short ≡ false
-    go true short bad q = neither short bad q .0
-    go false short bad q = q
-
--- .. and if the call looks at the record, that is good
+-- if the call looks at the record, that is good
 looked : (x : Call) (short bad : Bool) (r : Record) (c len room : ℕ) → looks x ≡ true → word (table x short bad r c len room) ≡ 0 → bad ≡ false
 unfolding table
 looked x short bad r c len room l z =
@@ -93,12 +81,6 @@ looked x short bad r c len room l z =
 was-good : (r : Record) (c : ℕ) (e : Fed) → looks (e .call) ≡ true → refusal r c e ≡ 0 → good r ≡ true
 unfolding refusal
 was-good r c e l z = not-false _ (looked (e .call) false (not (good r)) r c (e .images) (e .room) l z)
-
-pub were-good : (b : List ℕ) (e : Fed) → looks (e .call) ≡ true → refusalBytes b e ≡ 0 → goodBytes b ≡ true
-unfolding refusalBytes rowsBytes
-were-good b e l z =
-    let r : Record = decode b in
-    not-false _ (looked (e .call) (not (eqb (length b) recordLength)) (not (goodBytes b)) r (capacity (geometry r)) (e .images) (e .room) l z)
 
 pub in-limits : (r : Record) (c : ℕ) (e : Fed) → looks (e .call) ≡ true → refusal r c e ≡ 0 → GoodRecord r
 in-limits r c e l z = limits r (was-good r c e l z)
@@ -132,7 +114,7 @@ module _ (r : Record) (c len room : ℕ) where
       let (p₂, z₂) = passes (isLost (r .health)) 1 _ z in
       let (p₃, z₃) = passes (isDegraded (r .health)) 2 _ z₂ in
       let (p₄, z₄) = passes (not (eqb (r .new) 0)) 3 _ z₃ in
-      let (p₆, z₆) = passes (not (newGood (r .old) m (r .stripes))) 5 _ z₄ in
+      let (p₆, z₆) = passes (not (newGood m)) 5 _ z₄ in
       let (p₇, z₇) = passes (not (eqb len (sizeWith r m))) 6 _ z₆ in
       record { all-in = all-in (r .health) p₃; first = equal (r .new) 0 p₄; fits = not-false _ p₆; long = equal len (sizeWith r m) p₇ }
 
@@ -151,7 +133,7 @@ module _ (r : Record) (c len room : ℕ) where
       let (p₂, z₂) = passes (isLost (r .health)) 1 _ z in
       let (p₁₀, z₁₀) = passes (not (ltb d (disksOf r)) || isOut (r .health) d) 9 _ z₂ in
       let (l, o) = neither (not (ltb d (disksOf r))) (isOut (r .health) d) p₁₀ in
-      record { here = p₂; disk-lt = below d (disksOf r) l; still-in = o }
+      record { here = p₂; disk-lt = below d (disksOf r) l }
 
   pub rebuilds : (d : ℕ) → word (laterRows (rebuild d) r c len room) ≡ 0 → Rebuilds r len d
   unfolding laterRows terms

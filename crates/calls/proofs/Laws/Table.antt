@@ -7,8 +7,8 @@ use mathlib.Core.Logic.{_≢_}
 use mathlib.Core.List.{List, [], _∷_, _++_}
 use native.Mathlib.Omega.{arith}
 use lib.Dec.{eqb, ltb}
-use borrow.Author.Tests.{eqb-true, eqb-false, eq-eqb, ne-eqb}
-use Rattle.conditions.proofs.Tests.{both, and-true, neither}
+use borrow.Author.Tests.{eqb-true, eqb-false, eq-eqb}
+use Rattle.conditions.proofs.Tests.{neither}
 use Rattle.layout.specs.declared.Geometry.{Geometry}
 use Rattle.layout.specs.Layout.{totalOf}
 use Rattle.layout.specs.Limits.{GoodArray}
@@ -16,8 +16,7 @@ use lib.ListN.{length}
 use Rattle.state.specs.declared.Health.the-variants.{Lost}
 use Rattle.state.specs.declared.Record.{Record}
 use Rattle.state.specs.Good.{newGood, good}
-use Rattle.state.proofs.Laws.Good.{within-true, true-within}
-use Rattle.calls.specs.Call.{Call, format, read, view, write, grow, advance, out, rebuild, status, locate, owner, Fed, feed}
+use Rattle.calls.specs.Call.{Call, format, read, view, write, grow, advance, out, rebuild, status, locate, owner, feed}
 use Rattle.calls.specs.Health.{isOut}
 use Rattle.calls.specs.Images.{disksOf, size, sizeWith}
 use Rattle.calls.specs.Table.{Row, badRecord, grownAlready, idle, nothingToMove, formable, badGeometry, images, pastEnd, blockLength, disk}
@@ -102,7 +101,7 @@ module _ (r : Record) (c len room : ℕ) where
   write-rows b v = refl
 
   pub grow-rows : (m : ℕ) → refusal r c (feed (grow m) len room)
-      ≡ word (keptWhole r ++ (grownAlready r ∷ badGeometry (newGood (r .old) m (r .stripes)) ∷ images (sizeWith r m) len ∷ []))
+      ≡ word (keptWhole r ++ (grownAlready r ∷ badGeometry (newGood m) ∷ images (sizeWith r m) len ∷ []))
   unfolding refusal table laterRows terms
   grow-rows m = refl
 
@@ -155,10 +154,6 @@ module _ (g : Geometry) where
   unfolding idle
   not-total e = eqb-false (g .moves) (totalOf g) (neither (eqb (g .new) 0) (eqb (g .moves) (totalOf g)) e .1)
 
-  pub busy : g .new ≢ 0 → g .moves ≢ totalOf g → idle g ≡ false
-  unfolding idle
-  busy n l = rw (ne-eqb _ _ n, ne-eqb _ _ l) refl
-
   pub some-left : GoodArray g → idle g ≡ false → g .moves < totalOf g
   some-left good e =
       let ne : g .moves ≢ totalOf g = not-total e in
@@ -180,23 +175,3 @@ module _ (g : Geometry) where
       go : (b : Bool) → (b || eqb (g .moves) (totalOf g)) ≡ true
       go true = refl
       go false = eq-eqb (g .moves) (totalOf g) e
-
--- ---- 6's condition, of format
-
-module _ (n B T : ℕ) where
-  pub facts-form : 3 ≤ n → n ≤ 16 → 1 ≤ B → B ≤ 4096 → 1 ≤ T → T ≤ 1048576 → formable n B T ≡ true
-  unfolding formable
-  facts-form n-low n-high B-low B-high T-low T-high =
-      and-true _ _ (true-within 3 n 16 n-low n-high)
-      ∙ and-true _ _ (true-within 1 B 4096 B-low B-high)
-      ∙ true-within 1 T 1048576 T-low T-high
-
-  pub form-facts : formable n B T ≡ true → (3 ≤ n) × (n ≤ 16) × (1 ≤ B) × (B ≤ 4096) × (1 ≤ T) × (T ≤ 1048576)
-  unfolding formable
-  form-facts e =
-      let (o, e₁) = both _ _ e in
-      let (b, t) = both _ _ e₁ in
-      let (n-low, n-high) = within-true 3 n 16 o in
-      let (B-low, B-high) = within-true 1 B 4096 b in
-      let (T-low, T-high) = within-true 1 T 1048576 t in
-      (n-low, n-high, B-low, B-high, T-low, T-high)

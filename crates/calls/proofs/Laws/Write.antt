@@ -1,7 +1,7 @@
 -- A write: the images left hold the list with the block replaced, whatever disk is out. Assumes nothing.
 use Prim.Native.Nat.{ℕ, zero, suc, _<_}
 use mathlib.Core.Path.{_≡_, refl, sym, ap, ap₂, _∙_, subst}
-use mathlib.Core.Bool.{Bool, false}
+use mathlib.Core.Bool.{false}
 use mathlib.Core.Logic.{_≢_}
 use mathlib.Core.List.{List, [], _∷_, _++_, map}
 use native.Mathlib.Decide.{ℕ-discrete}
@@ -13,7 +13,7 @@ use Rattle.layout.specs.declared.Place.{Place}
 use Rattle.layout.specs.declared.Role.the-variants.{Data, Parity}
 use Rattle.layout.specs.Layout.{disks, capacity, layout}
 use Rattle.layout.specs.Limits.{GoodArray}
-use Rattle.layout.proofs.Theorem.{demand2}
+use Rattle.layout.proofs.Theorem.{laid}
 use Rattle.blocks.specs.Xor.{xorB}
 use Rattle.blocks.proofs.Laws.Grid.{Grid, storeAt, storeAt-same, storeAt-row, storeAt-far}
 use Rattle.blocks.proofs.Laws.Rows.{_⊕_, cancel-l}
@@ -43,19 +43,19 @@ module _ (g : Geometry) (good : GoodArray g) (b : ℕ) (lb : b < capacity g) whe
   p = layout g .parity (layout g .place b .stripe)
 
   pub lS : layout g .place b .stripe < g .stripes
-  lS = demand2 g good .placed .stripe-lt b lb
+  lS = laid g good .placed .stripe-lt b lb
 
   pub ld : layout g .place b .disk < disks g
-  ld = demand2 g good .placed .disk-lt b lb
+  ld = laid g good .placed .disk-lt b lb
 
   pub lp : layout g .parity (layout g .place b .stripe) < disks g
-  lp = demand2 g good .placed .parity-lt S lS
+  lp = laid g good .placed .parity-lt S lS
 
   -- the parity of a block's stripe is not on its own disk
   pub parity-apart : layout g .parity (layout g .place b .stripe) ≢ layout g .place b .disk
   parity-apart q =
-      let o : layout g .owner S p ≡ Parity = demand2 g good .placed .owner-of-parity S lS in
-      let i : layout g .owner S d ≡ Data b = demand2 g good .placed .owner-of-place b lb in
+      let o : layout g .owner S p ≡ Parity = laid g good .placed .owner-of-parity S lS in
+      let i : layout g .owner S d ≡ Data b = laid g good .placed .owner-of-place b lb in
       let z : _≡_ {A = ℕ} 0 1 = cc in
       omega arith
 
@@ -75,13 +75,13 @@ module _ (g : Geometry) (good : GoodArray g) (b : ℕ) (lb : b < capacity g) whe
 
       -- the place that block b owns is its own
       its-own : layout g .owner s e ≡ Data b → (S ≡ s) × (d ≡ e)
-      its-own z = let q = demand2 g good .placed .place-of-owner s e b ls le z in (ap (λ (x : Place). x .stripe) q, ap (λ (x : Place). x .disk) q)
+      its-own z = let q = laid g good .placed .place-of-owner s e b ls le z in (ap (λ (x : Place). x .stripe) q, ap (λ (x : Place). x .disk) q)
 
       go : Dec (s ≡ S) → Dec (e ≡ d) → Dec (e ≡ p) → Fits (set bs b v) (layout g .owner s e) (L′ s e)
       go (yes x) (yes q) y =
-          fits-of (set bs b v) (layout g .owner s e) (Data b) (L′ s e) v (rw (x, q) (demand2 g good .placed .owner-of-place b lb))
+          fits-of (set bs b v) (layout g .owner s e) (Data b) (L′ s e) v (rw (x, q) (laid g good .placed .owner-of-place b lb))
           (rw (x, q, storeAt-same M S d v)) (sym (getD-set-same bs b v 0 (rw len lb)))
-      go (yes x) (no q) (yes y) = fits-of (set bs b v) (layout g .owner s e) Parity (L′ s e) (L′ s e) (rw (x, y) (demand2 g good .placed .owner-of-parity S lS)) refl tt
+      go (yes x) (no q) (yes y) = fits-of (set bs b v) (layout g .owner s e) Parity (L′ s e) (L′ s e) (rw (x, y) (laid g good .placed .owner-of-parity S lS)) refl tt
       go (yes x) (no q) (no y) = else-where (rw (x, storeAt-row M S d v e q, storeAt-row L S p w e y)) (λ z. q (sym (its-own z .1)))
       go (no x) q y = else-where (rw (storeAt-far M S d v s e x, storeAt-far L S p w s e x)) (λ z. x (sym (its-own z .0)))
 

@@ -72,9 +72,18 @@ formats n B T = numbered (format n B T) (n * (T * B)) small 30
 abbrev pub advanced : ℕ → Record → Answer
 advanced k r = called (record { call = advance k; images = zeros (size r); room = [] }) r .answer
 
+-- 4 disks of 19 stripes, grown by 1
+abbrev pub odd : Record
+odd = grownBy (formatted 4 1 19) 1
+
 pub record Unmarked : Type 0 where
-  -- "n = 4, m = 1, T = 20: total 16. T = 19: 6."
-  pub groups : (total 4 1 20 ≡ 16) × (numbered (grow 1) 100 (formatted 4 1 20) 60 ≡ 0) × (numbered (grow 1) 95 (formatted 4 1 19) 57 ≡ 6)
+  -- "n = 4, m = 1, T = 20: total 16."
+  pub one-group : (total 4 1 20 ≡ 16) × (numbered (grow 1) 100 (formatted 4 1 20) 60 ≡ 0)
+      × (asked status (grownBy (formatted 4 1 20) 1) ≡ figures 60 0 16 Whole)
+  -- "The bench case T = 19 passes now, with total 0." (document 02, (a)): grown, it has all its 76 blocks, and nothing to move
+  pub no-group : (total 4 1 19 ≡ 0) × (numbered (grow 1) 95 (formatted 4 1 19) 57 ≡ 0) × (asked status odd ≡ figures 76 0 0 Whole)
+      × (advanced 1 odd ≡ refused 5) × (located 56 odd ≡ at 18 0) × (located 57 odd ≡ at 0 4) × (located 75 odd ≡ at 18 4)
+      × (located 76 odd ≡ refused 8)
   -- "n = 2: 6; n = 16 passes; n = 17: 6."
   pub disks : (formats 2 1 15 ≡ 6) × (formats 3 1 15 ≡ 0) × (formats 16 1 15 ≡ 0) × (formats 17 1 15 ≡ 6)
   -- "B = 4,096 passes; 4,097: 6."

@@ -135,24 +135,26 @@ pub record Refusals : Type 0 where
   pub write-cells : reads (λ b len. write b (bytes len)) ≡ read-numbers
   -- a write's room is no matter
   pub write-room : asks small (write 29 (bytes 2)) 90 1 ≡ 0
-  -- 1, 2, 3, 4, 6, 7, none; m of 0 and of 17, T no multiple
+  -- 1, 2, 3, 4, 6, 7, none; m of 0 and of 17; a T of no whole group, and of one and a tail, is no matter, for 7 either
   pub grows :
       asks short (grow 0) 89 0 ∷ asks bad (grow 0) 89 0 ∷ asks lost (grow 0) 89 0
       ∷ asks (growing (Out 4) 17) (grow 0) 89 0 ∷ asks (growing Whole 17) (grow 0) 89 0
       ∷ asks small (grow 0) 89 0 ∷ asks small (grow 2) 149 0 ∷ asks small (grow 2) 150 0
-      ∷ asks small (grow 17) 600 0 ∷ asks small (grow 1) 120 0 ∷ asks small (grow 2) 90 0
+      ∷ asks small (grow 17) 600 0 ∷ asks small (grow 1) 120 0 ∷ asks small (grow 3) 180 0
+      ∷ asks small (grow 1) 119 0 ∷ asks small (grow 2) 90 0
       ∷ asks (of-stripes 57) (grow 16) 1083 0 ∷ asks (of-stripes 60) (grow 17) 1200 0 ∷ asks (of-stripes 12) (grow 1) 48 0
       ∷ []
-      ≡ 1 ∷ 1 ∷ 2 ∷ 3 ∷ 4 ∷ 6 ∷ 7 ∷ 0 ∷ 6 ∷ 6 ∷ 7 ∷ 0 ∷ 6 ∷ 0 ∷ []
-  -- 1, 2, 3, 5, 7, none; 5 with m = 0; k = 0 is no refusal, and spares none
+      ≡ 1 ∷ 1 ∷ 2 ∷ 3 ∷ 4 ∷ 6 ∷ 7 ∷ 0 ∷ 6 ∷ 0 ∷ 0 ∷ 7 ∷ 7 ∷ 0 ∷ 6 ∷ 0 ∷ []
+  -- 1, 2, 3, 5, 7, none; 5 with m = 0, and with a total of 0; k = 0 is no refusal, and spares none
   pub advances :
       asks short (advance 1) 149 0 ∷ asks bad (advance 1) 149 0 ∷ asks lost (advance 1) 149 0
       ∷ asks (growing (Out 4) 18) (advance 1) 149 0 ∷ asks (growing Whole 18) (advance 1) 149 0
       ∷ asks (growing Whole 17) (advance 1) 149 0 ∷ asks (growing Whole 17) (advance 1) 150 0
       ∷ asks small (advance 1) 90 0 ∷ asks (growing Whole 17) (advance 0) 150 0 ∷ asks (growing Whole 0) (advance 1) 150 0
       ∷ asks (growing Whole 18) (advance 0) 150 0 ∷ asks small (advance 0) 90 0
+      ∷ asks (encode (grownBy (formatted 4 1 19) 1)) (advance 1) 94 0 ∷ asks (encode (grownBy (formatted 4 1 19) 1)) (advance 1) 95 0
       ∷ []
-      ≡ 1 ∷ 1 ∷ 2 ∷ 3 ∷ 5 ∷ 7 ∷ 0 ∷ 5 ∷ 0 ∷ 0 ∷ 5 ∷ 5 ∷ []
+      ≡ 1 ∷ 1 ∷ 2 ∷ 3 ∷ 5 ∷ 7 ∷ 0 ∷ 5 ∷ 0 ∷ 0 ∷ 5 ∷ 5 ∷ 5 ∷ 5 ∷ []
   -- 1, 2, 10 past the last disk and for the one that is out, none; no images are asked for
   pub outs :
       asks short (out 5) 0 0 ∷ asks bad (out 5) 0 0 ∷ asks lost (out 5) 0 0

@@ -5,7 +5,7 @@ use Rattle.layout.specs.Moves.{moveZone, moveTo, moveLag, moveWithin, moveStrip
 use Rattle.layout.specs.Closed.{lag, target, turn, isMoved, diskAt, source, taken}
 use Rattle.layout.specs.Blanks.{blanksBelow, blanks, newStripe, newDisk, newBlock}
 use Rattle.layout.specs.Layout.{openStripes, capacity, grownPlace, grownParity, newOwner, grownOwner}
-use Rattle.state.specs.Good.{newGood, movesGood, good}
+use Rattle.state.specs.Good.{movesGood, good}
 use Rattle.state.specs.Bytes.{decode, plain, encode}
 use Rattle.calls.specs.Images.{seen, stored, recorded, fillDisk, zeroDisks}
 use Rattle.calls.specs.Table.{idle, formable, terms, laterRows, table, rowsBytes, refusal, refusalBytes}
@@ -20,7 +20,7 @@ pub sample : Sample
 unfolding dataDisk homeStripe homeDisk rankOf homeBlock homeOwner moveZone moveTo moveLag moveWithin moveStripe moveFrom total
     lag target turn isMoved diskAt source taken blanksBelow blanks newStripe newDisk newBlock
     openStripes capacity grownPlace grownParity newOwner grownOwner
-    newGood movesGood good decode plain encode
+    movesGood good decode plain encode
     seen stored recorded fillDisk zeroDisks idle formable terms laterRows table rowsBytes refusal refusalBytes
     viewOf scratchLeft writeStores moveStores advanceStores effect calledBytes
     flatAct flatStep next outcomes flatOutcomes junk play same below keeps lends fairly

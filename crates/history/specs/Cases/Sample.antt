@@ -1,6 +1,7 @@
 -- One history of one cabinet, run through both machines. 3 disks of 12 stripes, with blocks of 2 bytes, and then a fourth: 9 moves,
--- capacity 24, then 36. The expected answers are literals, printed by a program that was written from document 01 and knows none
--- of these definitions: it replays the moves one by one on a table of places. `sample` of proofs/Cases/Sample.antt computes both machines.
+-- capacity 24, then 36. At last, formatted anew as 4 disks, a fifth, with which nothing has to move. The expected answers are literals,
+-- printed by a program that was written from document 01 and knows none of these definitions: it replays the moves one by one on a table of
+-- places. (Those of `odd` were worked out by hand.) `sample` of proofs/Cases/Sample.antt computes both machines.
 use Prim.Native.Nat.{ℕ, zero, suc, _+_, _*_, _%_}
 use mathlib.Core.Path.{_≡_}
 use mathlib.Core.List.{List, [], _∷_, _++_, map}
@@ -85,7 +86,7 @@ growing =
     ∷ plain (locate 4)
     ∷ plain (owner 3 0)
     ∷ plain (owner 3 3)  -- there is no disk 3
-    ∷ plain (grow 2)  -- 12 is no multiple of 3 × 5
+    ∷ plain (grow 17)  -- more than may be added
     ∷ plain (grow 1)  -- the new disk is missing
     ∷ longer (grow 1)
     ∷ plain (owner 3 3)  -- zeroed, and blank
@@ -172,9 +173,30 @@ anew =
     ∷ plain (read 4)
     ∷ []
 
+-- a fifth disk, with nonsense on it: 12 stripes are no whole group of 20, so nothing moves, and the new blocks are there at once, on it
+abbrev pub odd : List Step
+odd =
+    plain (write 34 (31 ∷ 32 ∷ []))  -- in the last stripe
+    ∷ longer (grow 1)
+    ∷ plain (advance 1)  -- the growth is over
+    ∷ plain status
+    ∷ plain (locate 36)  -- the first new block
+    ∷ plain (locate 34)  -- where it was
+    ∷ plain (owner 11 4)
+    ∷ plain (owner 11 3)  -- stripe 11's parity, where it was
+    ∷ plain (read 47)
+    ∷ plain (write 47 (8 ∷ 9 ∷ []))
+    ∷ plain (out 4)
+    ∷ spoilt 4 101 (read 47)  -- on the disk that is out
+    ∷ spoilt 4 103 (read 34)
+    ∷ spoilt 4 107 (rebuild 4)
+    ∷ plain (read 47)
+    ∷ plain (read 48)
+    ∷ []
+
 -- all of it
 abbrev pub script : List Step
-script = begun ++ growing ++ degraded ++ finished ++ turnedAway ++ lost ++ anew
+script = begun ++ growing ++ degraded ++ finished ++ turnedAway ++ lost ++ anew ++ odd
 
 -- ---- both machines before the first format
 
@@ -211,7 +233,7 @@ expected =
     ∷ (placed (placeAt 2 1), after 3 0 0 0 0)  -- locate 4
     ∷ (owned Parity, after 3 0 0 0 0)  -- owner 3 0
     ∷ (refused 10, after 3 0 0 0 0)  -- owner 3 3
-    ∷ (refused 6, after 3 0 0 0 0)  -- grow 2
+    ∷ (refused 6, after 3 0 0 0 0)  -- grow 17
     ∷ (refused 7, after 3 0 0 0 0)  -- grow 1
     ∷ (done, after 3 1 0 0 0)  -- grow 1
     ∷ (owned Blank, after 3 1 0 0 0)  -- owner 3 3
@@ -276,6 +298,23 @@ expected =
     ∷ (refused 7, after 3 1 2 0 9)  -- format 3 2 12
     ∷ (done, after 4 0 0 0 0)  -- format 4 2 12
     ∷ (bytes (0 ∷ 0 ∷ []), after 4 0 0 0 0)  -- read 4
+    -- odd
+    ∷ (done, after 4 0 0 0 0)  -- write 34 (31 ∷ 32 ∷ [])
+    ∷ (done, after 4 1 0 0 0)  -- grow 1
+    ∷ (refused 5, after 4 1 0 0 0)  -- advance 1
+    ∷ (figures 48 0 0 Whole, after 4 1 0 0 0)  -- status
+    ∷ (placed (placeAt 0 4), after 4 1 0 0 0)  -- locate 36
+    ∷ (placed (placeAt 11 1), after 4 1 0 0 0)  -- locate 34
+    ∷ (owned (Data 47), after 4 1 0 0 0)  -- owner 11 4
+    ∷ (owned Parity, after 4 1 0 0 0)  -- owner 11 3
+    ∷ (bytes (0 ∷ 0 ∷ []), after 4 1 0 0 0)  -- read 47
+    ∷ (done, after 4 1 0 0 0)  -- write 47 (8 ∷ 9 ∷ [])
+    ∷ (done, after 4 1 1 4 0)  -- out 4
+    ∷ (bytes (8 ∷ 9 ∷ []), after 4 1 1 4 0)  -- read 47
+    ∷ (bytes (31 ∷ 32 ∷ []), after 4 1 1 4 0)  -- read 34
+    ∷ (done, after 4 1 0 0 0)  -- rebuild 4
+    ∷ (bytes (8 ∷ 9 ∷ []), after 4 1 0 0 0)  -- read 47
+    ∷ (refused 8, after 4 1 0 0 0)  -- read 48
     ∷ []
 
 pub record Sample : Type 0 where

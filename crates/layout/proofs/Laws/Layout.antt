@@ -7,7 +7,7 @@ use native.Mathlib.Decide.{ℕ-discrete}
 use native.Mathlib.Nat.{div-lt-iff-lt-mul, mod-lt}
 use native.Mathlib.Omega.{arith}
 use lib.Dec.{eqb}
-use lib.ListN.{length, getD}
+use lib.ListN.{length}
 use borrow.Author.Tests.{lt-ltb, le-ltb, eq-eqb, ne-eqb}
 use Rattle.layout.specs.declared.Found.{Found}
 use Rattle.layout.specs.declared.Geometry.{Geometry}
@@ -17,8 +17,7 @@ use Rattle.layout.specs.declared.Slot.{Slot}
 use Rattle.layout.specs.declared.Stripe.{Stripe}
 use Rattle.layout.specs.Home.{placeAt, homeStripe, homeDisk}
 use Rattle.layout.specs.Closed.{stripeOf, diskAt, source, taken}
-use Rattle.layout.specs.Blanks.{blanksBelow, blanks, newStripe, newDisk, newBlock}
-use Rattle.layout.specs.Runs.{settled}
+use Rattle.layout.specs.Blanks.{blanksBelow, newStripe, newDisk, newBlock}
 use Rattle.layout.specs.Layout.{disks, oldBlocks, openStripes, capacity, home, layout, found}
 use Rattle.layout.specs.Layout.{carried, newPlace, grownPlace, grownParity, newOwner, grownOwner}
 use Rattle.layout.specs.Slots.{slotOf, slotDisk, InSlot}
@@ -28,9 +27,8 @@ use Rattle.layout.proofs.Laws.Basics.{times, le-or-lt}
 use Rattle.layout.proofs.Laws.Closed.{disk-stays}
 use Rattle.layout.proofs.Laws.Source.{says-taken}
 use Rattle.layout.proofs.Laws.Apart.{apart}
-use Rattle.layout.proofs.Laws.Settled.{same-taken, same-below}
-use Rattle.layout.proofs.Laws.Numbers.{open-le, open-settled}
-use Rattle.layout.proofs.Laws.Bounds.{products, sizes-of}
+use Rattle.layout.proofs.Laws.Numbers.{open-le, open-resting}
+use Rattle.layout.proofs.Laws.Bounds.{old-high, sizes-of}
 use Rattle.layout.proofs.Laws.Lawful.Held.{a-block, the-parity, nothing}
 use Rattle.layout.proofs.Laws.Lawful.{Lawful, Full, Held}
 use Rattle.layout.proofs.Laws.Home.{home-layout-full}
@@ -47,7 +45,7 @@ module _ (g : Geometry) (b : ℕ) (f : Found) (e : f ≡ found g b) where
 -- y is a slot in the array, and gives the place of block b
 record Fit (g : Geometry) (b : ℕ) (y : Slot) : Type 0 where
   stripe-lt : y .stripe < g .stripes
-  sloted : InSlot g y
+  sloted : InSlot g (y .stripe) y
   place : placeAt (y .stripe) (slotDisk g (y .stripe) y) ≡ layout g .place b
 
 module _ (g : Geometry) (good : GoodArray g) where
@@ -68,11 +66,6 @@ module _ (g : Geometry) (good : GoodArray g) where
       let pm : 0 < g .new = positive (openStripes g) (g .new) k l in
       let h : k / g .new < openStripes g = div-lt-iff-lt-mul pm .1 l in
       (pm, omega (arith, open-le g), h)
-
-  -- the blanks of an open stripe stay as they are
-  pub open-blanks : (S : ℕ) → S < openStripes g → blanks (g .old) (g .new) (settled (g .old) (g .new) S) S ≡ blanks (g .old) (g .new) (g .moves) S
-  unfolding blanks
-  open-blanks S l = sym (same-below (g .old) (g .new) pn S (g .moves) (open-settled g good S l) (disks g))
 
   -- ---- what a program finds that looks for block b
 
@@ -144,8 +137,8 @@ module _ (g : Geometry) (good : GoodArray g) where
           rw (new-slot l)
           (record {
             stripe-lt = r .1;
-            sloted = record { old = λ z. absurd (false≢true (sym z)); new = λ z. mod-lt k (r .0) };
-            place = ap (λ x. placeAt (k / g .new) (getD x (k % g .new) 0)) (open-blanks (k / g .new) (r .2)) ∙ new-place l;
+            sloted = record { old = λ z. absurd (false≢true (sym z)); new = λ z. (mod-lt k (r .0), open-resting g good (k / g .new) (r .2)) };
+            place = new-place l;
           })
 
       fit : Fit g b (slotOf g b)
@@ -156,8 +149,8 @@ module _ (g : Geometry) (good : GoodArray g) where
         fits : Fit g b y
         fits = rw ey fit
 
-        pub slot-in : (y .stripe < g .stripes) × InSlot g y
-        slot-in = (fits .stripe-lt, fits .sloted)
+        pub slot-inside : y .stripe < g .stripes
+        slot-inside = fits .stripe-lt
 
         module _ (x : Stripe) (ex : x ≡ stripeOf (g .old) (g .new) (y .stripe)) where
           pub slot-apart : TakenApart (g .old) (g .new) x
@@ -165,6 +158,9 @@ module _ (g : Geometry) (good : GoodArray g) where
 
           number-is : x .number ≡ y .stripe
           number-is = ap (λ (z : Stripe). z .number) ex
+
+          pub slot-in : InSlot g (x .number) y
+          slot-in = rw number-is (fits .sloted)
 
           pub slot-place : (d : ℕ) → d ≡ slotDisk g (x .number) y → placeAt (y .stripe) d ≡ layout g .place b
           slot-place d ed = ap (placeAt (y .stripe)) (ed ∙ ap (λ S. slotDisk g S y) number-is) ∙ fits .place
@@ -181,12 +177,9 @@ module _ (g : Geometry) (good : GoodArray g) where
   new-times S l = times {a = S} {b = g .new} 1048576 16 (omega (arith, good .stripes-high)) (good .disks .m-high)
 
   module _ (S e : ℕ) where
-    free-settled : S < openStripes g → taken (g .old) (g .new) (g .moves) S e ≡ false → taken (g .old) (g .new) (settled (g .old) (g .new) S) S e ≡ false
-    free-settled l f = sym (same-taken (g .old) (g .new) pn S (g .moves) (open-settled g good S l) e) ∙ f
-
-    pub code-new : S < openStripes g → (old : ℕ) → old ≡ oldBlocks g → (j : ℕ) → (taken (g .old) (g .new) (settled (g .old) (g .new) S) S e ≡ false → j ≡ length (blanksBelow (g .old) (g .new) (settled (g .old) (g .new) S) S e)) → taken (g .old) (g .new) (g .moves) S e ≡ false → old + (S * g .new + j) ≡ code (newOwner g S e)
+    pub code-new : S < openStripes g → (old : ℕ) → old ≡ oldBlocks g → (j : ℕ) → (taken (g .old) (g .new) (g .moves) S e ≡ false → j ≡ length (blanksBelow (g .old) (g .new) (g .moves) S e)) → taken (g .old) (g .new) (g .moves) S e ≡ false → old + (S * g .new + j) ≡ code (newOwner g S e)
     unfolding code newOwner newBlock
-    code-new l old eo j ej f = rw (lt-ltb _ _ l, eo, ej (free-settled l f), same-below (g .old) (g .new) pn S (g .moves) (open-settled g good S l) e) refl
+    code-new l old eo j ej f = rw (lt-ltb _ _ l, eo, ej f) refl
 
     pub code-none : openStripes g ≤ S → 4294967297 ≡ code (newOwner g S e)
     unfolding code newOwner
@@ -198,7 +191,7 @@ module _ (g : Geometry) (good : GoodArray g) where
     coded hS he = go (lawful .held S e hS he)
       where
         go : {o : Role} → Held (capacity g) (layout g) S e o → roleOf (code o) ≡ o
-        go (a-block b l es ed) = simp (lt-ltb b 4294967296 (omega (arith, l, products g good, open-room)))
+        go (a-block b l es ed) = simp (lt-ltb b 4294967296 (omega (arith, l, old-high g good, open-room)))
         go (the-parity p) = refl
         go nothing = refl
 

@@ -1,21 +1,25 @@
--- A stripe once all moves of its zone are made: which of its disks are taken, from then on. Assumes nothing.
+-- A stripe once all moves of its zone are made, and while none is: which of its disks are taken. Assumes nothing.
 use Prim.Native.Nat.{ℕ, zero, suc, _+_, _-_, _≤_, _<_}
 use mathlib.Core.Path.{_≡_, refl, sym, ap, ap₂, _∙_}
-use mathlib.Core.Bool.{true, false, cond}
+use mathlib.Core.Bool.{Bool, true, false, true≢false, cond}
 use mathlib.Core.List.{[], _∷_, _++_}
-use mathlib.Core.Logic.{_≢_}
+use mathlib.Core.Logic.{_≢_, inl, inr}
 use native.Mathlib.Nat.{mod-lt}
 use native.Mathlib.Omega.{arith}
-use lib.Dec.{eqb}
+use lib.Dec.{leb, eqb}
+use lib.ListN.{length, getD}
+use borrow.Author.Tests.{le-leb, lt-leb}
 use Rattle.layout.specs.Home.{parityDisk}
 use Rattle.layout.specs.Moves.{zoneOf, withinZone}
 use Rattle.layout.specs.Closed.{lag, target, turn, diskAt, source, taken}
-use Rattle.layout.specs.Blanks.{blanksBelow}
-use Rattle.layout.specs.Runs.{settled}
+use Rattle.layout.specs.Blanks.{blanksBelow, blanks}
+use Rattle.layout.specs.Runs.{awaited, settled, Resting}
+use Rattle.layout.proofs.Laws.Basics.{le-or-lt}
 use Rattle.layout.proofs.Laws.Lag.{lag-lt, lag-le, lag-lag}
 use Rattle.layout.proofs.Laws.Closed.Where.{moved, stays}
 use Rattle.layout.proofs.Laws.Closed.{Where, look, disk-moved, disk-stays}
-use Rattle.layout.proofs.Laws.Source.{source-low, not-there, taken-disk}
+use Rattle.layout.proofs.Laws.Source.{source-lt, source-low, not-there, taken-disk}
+use Rattle.layout.proofs.Laws.NewBlocks.{span-taken, span-blank, blank-there, nth-listed}
 use Rattle.layout.proofs.Laws.Zones.{index-in}
 
 module _ (n m : ℕ) (pn : 2 ≤ n) (S : ℕ) where
@@ -79,3 +83,55 @@ module _ (n m : ℕ) (pn : 2 ≤ n) (S : ℕ) where
       go : Where n m (settled n m S) S (parityDisk n S) → diskAt n m (settled n m S) S (parityDisk n S) ≡ e → ⊥
       go (moved d lo hi done) z = ne (sym z ∙ d ∙ parity-target)
       go (stays d k) z = omega (arith, mod-lt S {m = n} p0)
+
+-- ---- a stripe while no move of its zone is made: the old disks are taken, and the new ones are blank
+
+module _ (n m : ℕ) (pn : 2 ≤ n) (S t : ℕ) (before : t ≤ awaited n m S) where
+  pub waits : (d : ℕ) → diskAt n m t S d ≡ d
+  unfolding turn
+  waits d = disk-stays n m t S d (λ lo hi. omega arith)
+
+  old-taken : (e : ℕ) → e < n → taken n m t S e ≡ true
+  old-taken e l = rw (waits e) at (taken-disk n m pn t S e l)
+
+  new-blank : (e : ℕ) → n ≤ e → taken n m t S e ≡ false
+  new-blank e l = not-there n m pn t S e (λ q. omega (arith, q, source-lt n m pn S e, waits (source n m S e)))
+
+  old-none : length (blanksBelow n m t S n) ≡ 0
+  unfolding blanksBelow
+  old-none = span-taken n m t S 0 n (omega arith) (λ e lo hi. old-taken e hi)
+
+  new-below : (e : ℕ) → n ≤ e → e - n ≡ length (blanksBelow n m t S e)
+  new-below e l = omega (arith, old-none, span-blank n m t S n e l (λ y lo hi. new-blank y lo))
+
+  pub awaited-nth : (j : ℕ) → j < m → n + j ≡ getD (blanks n m t S) j 0
+  awaited-nth j h =
+      let c : length (blanksBelow n m t S (n + j)) ≡ j = omega (arith, new-below (n + j) (omega arith)) in
+      sym (rw c at (blank-there n m t S (n + j) (omega arith) (new-blank (n + j) (omega arith))))
+
+  pub awaited-below : (e : ℕ) → taken n m t S e ≡ false → e - n ≡ length (blanksBelow n m t S e)
+  awaited-below e f = elim (le-or-lt n e) [ inl l ↦ new-below e l | inr l ↦ absurd (true≢false (sym (old-taken e l) ∙ f)) ]
+
+-- ---- so with all moves of its zone made, or none: what a program picks that has seen which
+
+module _ (n m : ℕ) (pn : 2 ≤ n) (S t : ℕ) (rest : Resting n m t S) (test : Bool) (e : test ≡ leb (settled n m S) t) where
+  pub resting-nth : (j lift r : ℕ) → j + lift ≡ getD (blanks n m (settled n m S) S) j 0 → r ≡ cond test lift n → j < m → j + r ≡ getD (blanks n m t S) j 0
+  unfolding blanks
+  resting-nth j lift r el er h = ap (λ x. j + x) er ∙ elim (le-or-lt (settled n m S) t) [
+    | inl l ↦ rw (e ∙ le-leb _ _ l) (el ∙ ap (λ x. getD x j 0) (sym (same-below n m pn S t l (n + m))))
+    | inr l ↦ rw (e ∙ lt-leb _ _ l) (omega arith ∙ awaited-nth n m pn S t (rest l) j h)
+  ]
+
+  -- so it is a disk of the array
+  pub resting-lt : (j lift r : ℕ) → j + lift ≡ getD (blanks n m (settled n m S) S) j 0 → r ≡ cond test lift n → j < m → j + r < n + m
+  resting-lt j lift r el er h = rw (resting-nth j lift r el er h) (nth-listed n m pn t S j h .under)
+
+  pub resting-below : (d lift r k : ℕ) → (taken n m (settled n m S) S d ≡ false → d - lift ≡ length (blanksBelow n m (settled n m S) S d)) → r ≡ cond test lift n → k ≡ d - r
+      → (k ≤ d) × (taken n m t S d ≡ false → k ≡ length (blanksBelow n m t S d))
+  resting-below d lift r k el er ek = (
+    omega arith,
+    λ f. ek ∙ ap (λ x. d - x) er ∙ elim (le-or-lt (settled n m S) t) [
+      | inl l ↦ rw (e ∙ le-leb _ _ l) (el (sym (same-taken n m pn S t l d) ∙ f) ∙ ap length (sym (same-below n m pn S t l d)))
+      | inr l ↦ rw (e ∙ lt-leb _ _ l) (awaited-below n m pn S t (rest l) d f)
+    ],
+  )

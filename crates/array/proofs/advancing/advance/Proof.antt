@@ -6,7 +6,7 @@ use borrow.Author.Needs.{needs}
 use native.Mathlib.Omega.{arith}
 use Rattle.layout.specs.declared.Geometry.{Geometry}
 use Rattle.layout.specs.Layout.{totalOf}
-use Rattle.layout.proofs.Laws.Bounds.{total-high}
+use Rattle.layout.proofs.Laws.Bounds.{sized, total-high}
 use Rattle.state.specs.Good.{geometry, GoodRecord}
 use Rattle.calls.specs.Call.{advance, on}
 use Rattle.array.proofs.Calls.Called.{called-refused}
@@ -29,7 +29,7 @@ fits : (c : tie.Else1) → GoodRecord (c .before .before .before .args .r)
 fits c = let a = c .before .before .before .args in advance-limits (a .images .now) (a .r) (a .k) (sym (c .before .of-advance .ensures) ∙ c .if1 .left)
 
 total-of-requires : tie.Need-total-of-requires
-total-of-requires c κs = rw (c .geometry-of .ensures) (fits (c .before) .array)
+total-of-requires c κs = rw (c .geometry-of .ensures) (sized _ (fits (c .before) .array))
 
 -- the total
 total-is : (c : tie.After-total-of) → c .total-of .result ≡ totalOf (geometry (c .before .before .before .before .before .args .r))

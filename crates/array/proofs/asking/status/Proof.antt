@@ -2,6 +2,7 @@
 use mathlib.Core.Path.{_≡_, refl, sym, _∙_}
 use mathlib.Core.List.{[]}
 use borrow.Author.Needs.{needs}
+use Rattle.layout.proofs.Laws.Bounds.{sized}
 use Rattle.layout.specs.Layout.{capacity}
 use Rattle.state.specs.Good.{geometry}
 use Rattle.calls.specs.Call.{status, feed, on}
@@ -28,7 +29,7 @@ capacity-of-requires : tie.Need-capacity-of-requires
 capacity-of-requires c κs = status-asks (c .before .before .before .args .r) (c .geometry-of .ensures) (passed (c .before))
 
 total-of-requires : tie.Need-total-of-requires
-total-of-requires c κs = status-asks (c .before .before .before .before .args .r) (c .before .geometry-of .ensures) (passed (c .before .before))
+total-of-requires c κs = sized _ (status-asks (c .before .before .before .before .args .r) (c .before .geometry-of .ensures) (passed (c .before .before)))
 
 returns-2 : tie.Need-returns-2
 unfolding effect

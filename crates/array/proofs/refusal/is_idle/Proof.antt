@@ -9,6 +9,7 @@ use Rattle.layout.specs.declared.Geometry.{Geometry}
 use Rattle.layout.specs.Layout.{totalOf}
 use Rattle.layout.specs.Limits.{GoodArray}
 use Rattle.layout.proofs.Laws.Zones.{total-none}
+use Rattle.layout.proofs.Laws.Bounds.{sized}
 use Rattle.calls.specs.Table.{idle}
 use Rattle.array.proofs.refusal.is_idle.Statement.{statement}
 use Rattle.array.proofs.refusal.is_idle.Tie as tie
@@ -26,7 +27,7 @@ geometry-of-requires : tie.Need-geometry-of-requires
 geometry-of-requires c κs = search needs
 
 all-moved-requires : tie.Need-all-moved-requires
-all-moved-requires c κs = rw (c .geometry-of .ensures) (c .before .pre .array)
+all-moved-requires c κs = rw (c .geometry-of .ensures) (sized _ (c .before .pre .array))
 
 returns : tie.Need-returns
 returns c =

@@ -9,7 +9,7 @@ use Rattle.conditions.proofs.Asked.{same, other}
 use Rattle.layout.specs.Layout.{capacity}
 use Rattle.state.specs.declared.Record.{Record}
 use Rattle.state.specs.Good.{geometry, newGood}
-use Rattle.state.proofs.Laws.Good.{new-good}
+use Rattle.state.proofs.Laws.Good.{within-true}
 use Rattle.calls.specs.Call.{grow, feed}
 use Rattle.calls.specs.Images.{sizeWith}
 use Rattle.calls.specs.Table.{Row, grownAlready, badGeometry, images, word, keptWhole, refusalOf}
@@ -23,7 +23,7 @@ abbrev from-7 : Record → ℕ → ℕ → List Row
 from-7 r m len = images (sizeWith r m) len ∷ []
 
 abbrev from-6 : Record → ℕ → ℕ → List Row
-from-6 r m len = badGeometry (newGood (r .old) m (r .stripes)) ∷ from-7 r m len
+from-6 r m len = badGeometry (newGood m) ∷ from-7 r m len
 
 abbrev from-4 : Record → ℕ → ℕ → List Row
 from-4 r m len = grownAlready r ∷ from-6 r m len
@@ -51,37 +51,28 @@ past-2 : (c : tie.Else2) →
     refusalOf (a .r) (feed (grow (a .m)) (a .images) 0) ≡ word (from-6 (a .r) (a .m) (a .images))
 past-2 c = let a = c .before .before .before .before .args in past-1 (c .before .before) ∙ skipped 4 (from-6 (a .r) (a .m) (a .images)) (ap not (same refl (c .if2 .left)))
 
-cast-new-is-good : tie.Need-cast-new-is-good
-cast-new-is-good c = search needs
-
-cast-new-is-good-2 : tie.Need-cast-new-is-good-2
-cast-new-is-good-2 c = search needs
-
 new-is-good-requires : tie.Need-new-is-good-requires
-new-is-good-requires c κs =
-    let c1 = c .before .before .before .before in
-    let d = ready-whole (c1 .before .before .args .r) (c1 .before .of-whole .ensures) (c1 .if1 .left) .array .disks in
-    (d .n-low, d .n-high)
+new-is-good-requires c κs = search needs
 
 returns-3 : tie.Need-returns-3
 returns-3 c =
-    let c2 = c .before .before .before .before in
+    let c2 = c .before .before in
     let a = c2 .before .before .before .before .args in
     sym (past-2 c2 ∙ given 6 (from-7 (a .r) (a .m) (a .images)) (ap not (returned (c .before .new-is-good .ensures) (c .if3 .taken))))
 
 past-3 : (c : tie.Else3) →
-    let a = c .before .before .before .before .before .before .before .before .args in
+    let a = c .before .before .before .before .before .before .args in
     refusalOf (a .r) (feed (grow (a .m)) (a .images) 0) ≡ word (from-7 (a .r) (a .m) (a .images))
 past-3 c =
-    let c2 = c .before .before .before .before in
+    let c2 = c .before .before in
     let a = c2 .before .before .before .before .args in
     past-2 c2 ∙ skipped 6 (from-7 (a .r) (a .m) (a .images)) (ap not (went-on (c .before .new-is-good .ensures) (c .if3 .left)))
 
 size-with-requires : tie.Need-size-with-requires
 size-with-requires c κs =
-    let c1 = c .before .before .before .before .before .before in
+    let c1 = c .before .before .before .before in
     let l = ready-whole (c1 .before .before .args .r) (c1 .before .of-whole .ensures) (c1 .if1 .left) in
-    (l, new-good _ _ _ (went-on (c .before .new-is-good .ensures) (c .if3 .left)) .1)
+    (l, within-true 1 _ 16 (went-on (c .before .new-is-good .ensures) (c .if3 .left)) .1)
 
 returns-4 : tie.Need-returns-4
 returns-4 c = sym (past-3 (c .before .before) ∙ given 7 [] (ap not (other (c .before .size-with .ensures) (c .if4 .taken))))
@@ -96,8 +87,6 @@ of-grow-spec =
     of-whole-requires
     returns
     returns-2
-    cast-new-is-good
-    cast-new-is-good-2
     new-is-good-requires
     returns-3
     size-with-requires

@@ -1,60 +1,30 @@
 -- `count_below` meets its contract. Assumes nothing.
 use native.Mathlib.Omega.{arith}
 use borrow.Author.Needs.{needs}
-use Rattle.layout.proofs.Laws.Bounds.{parts}
-use Rattle.layout.proofs.Laws.Runs.{runs, counted, left-le, below-picked}
+use Rattle.layout.proofs.Laws.Settled.{resting-below}
 use Rattle.layout.proofs.blanks.count_below.Statement.{statement}
 use Rattle.layout.proofs.blanks.count_below.Tie as tie
 
-runs-of-requires : tie.Need-runs-of-requires
-runs-of-requires c κs = search needs
+is-settled-requires : tie.Need-is-settled-requires
+is-settled-requires c κs = search needs
 
-sub-pick : tie.Need-sub-pick
-sub-pick c = let k = c .before .before in omega (arith, left-le _ _ _ (k .before .pre .0) _ (k .runs-of .ensures))
-
-add-pick : tie.Need-add-pick
-add-pick c = let k = c .before .before .before in omega (arith, parts _ _ _ (k .before .pre .0))
-
-sub-pick-2 : tie.Need-sub-pick-2
-sub-pick-2 c =
-    let k = c .before .before .before .before in
-    omega (arith, left-le _ _ _ (k .before .pre .0) _ (k .runs-of .ensures), counted _ _ _ (k .before .pre .0) _ (k .runs-of .ensures))
+disk-lift-requires : tie.Need-disk-lift-requires
+disk-lift-requires c κs = search needs
 
 pick-requires : tie.Need-pick-requires
 pick-requires c κs = search needs
-
-sub-pick-3 : tie.Need-sub-pick-3
-sub-pick-3 c =
-    let k = c .before .before .before .before .before .before .before in
-    omega (arith, runs _ _ _ (k .before .pre .0) _ (k .runs-of .ensures))
-
-pick-requires-2 : tie.Need-pick-requires-2
-pick-requires-2 c κs = search needs
-
-pick-requires-3 : tie.Need-pick-requires-3
-pick-requires-3 c κs = search needs
 
 excess-requires : tie.Need-excess-requires
 excess-requires c κs = search needs
 
 returns : tie.Need-returns
 returns c =
-    let o = c .before .before in
-    let w = o .before .before .before in
-    let k = w .before .before .before .before .before in
-    (omega (arith, c .excess .ensures), below-picked _ _ _ (k .before .pre .0) _ (k .runs-of .ensures) _ _ _ _ _ (w .pick .ensures) (o .pick2 .ensures) (c .before .pick3 .ensures) (c .excess .ensures) (k .before .pre .1))
+    let b = c .before .before in
+    let k = b .before in
+    let w = k .before .pre in
+    resting-below _ _ (omega (arith, w .0 .sizes .disks .n-low)) _ _ (w .1) _ (k .is-settled .ensures) _ _ _ _ (b .disk-lift .ensures) (c .before .pick .ensures) (c .excess .ensures)
 
 pub count-below-spec : {M : Type 1} → statement M
 count-below-spec =
     tie.close
-    (tie.spec
-    runs-of-requires
-    sub-pick
-    add-pick
-    sub-pick-2
-    pick-requires
-    sub-pick-3
-    pick-requires-2
-    pick-requires-3
-    excess-requires
-    returns)
+    (tie.spec is-settled-requires disk-lift-requires pick-requires excess-requires returns)

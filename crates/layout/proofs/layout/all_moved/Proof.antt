@@ -1,14 +1,15 @@
 -- `all_moved` meets its contract. Assumes nothing.
-use Rattle.layout.proofs.Laws.Bounds.{sized}
-use Rattle.layout.proofs.Laws.Numbers.{reached}
+use mathlib.Core.Path.{ap}
+use borrow.Author.Needs.{needs}
+use lib.Dec.{eqb}
 use Rattle.layout.proofs.layout.all_moved.Statement.{statement}
 use Rattle.layout.proofs.layout.all_moved.Tie as tie
 
-scaled-moves-requires : tie.Need-scaled-moves-requires
-scaled-moves-requires c κs = sized _ (c .pre)
+total-of-requires : tie.Need-total-of-requires
+total-of-requires c κs = search needs
 
 returns : tie.Need-returns
-returns c = reached _ _ (c .before .scaled-moves .ensures)
+returns c = ap (eqb (c .before .before .args .g .moves)) (c .before .total-of .ensures)
 
 pub all-moved-spec : {M : Type 1} → statement M
-all-moved-spec = tie.close (tie.spec scaled-moves-requires returns)
+all-moved-spec = tie.close (tie.spec total-of-requires returns)

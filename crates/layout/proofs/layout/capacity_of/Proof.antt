@@ -3,7 +3,7 @@ use mathlib.Core.Path.{refl}
 use native.Mathlib.Omega.{arith}
 use borrow.Author.Needs.{needs}
 use Rattle.layout.specs.Layout.{capacity}
-use Rattle.layout.proofs.Laws.Bounds.{products}
+use Rattle.layout.proofs.Laws.Bounds.{old-high}
 use Rattle.layout.proofs.Laws.Layout.{open-room}
 use Rattle.layout.proofs.layout.capacity_of.Statement.{statement}
 use Rattle.layout.proofs.layout.capacity_of.Tie as tie
@@ -18,7 +18,7 @@ mul-result : tie.Need-mul-result
 mul-result c = rw (c .before .open-stripes .ensures) (omega (arith, open-room _ (c .before .before .before .pre)))
 
 add-result : tie.Need-add-result
-add-result c = rw (c .before .open-stripes .ensures) (omega (arith, products _ (c .before .before .before .pre), open-room _ (c .before .before .before .pre)))
+add-result c = rw (c .before .open-stripes .ensures) (omega (arith, old-high _ (c .before .before .before .pre), open-room _ (c .before .before .before .pre)))
 
 returns : tie.Need-returns
 unfolding capacity

@@ -1,7 +1,7 @@
 -- `find` meets its contract. Assumes nothing.
 use borrow.Author.Needs.{needs}
 use Rattle.layout.proofs.Laws.Bounds.{sizes-of}
-use Rattle.layout.proofs.Laws.Layout.{home-found, slot-in, slot-apart, slot-found}
+use Rattle.layout.proofs.Laws.Layout.{home-found, slot-inside, slot-apart, slot-in, slot-found}
 use Rattle.layout.proofs.layout.find.Statement.{statement}
 use Rattle.layout.proofs.layout.find.Tie as tie
 
@@ -24,13 +24,13 @@ slot-of-requires c κs = search needs
 stripe-of-requires : tie.Need-stripe-of-requires
 stripe-of-requires c κs =
     let s = c .before .before .before in
-    sizes-of _ (s .pre .0) _ (slot-in _ (s .pre .0) _ (s .pre .1) _ (c .slot-of .ensures) .0)
+    sizes-of _ (s .pre .0) _ (slot-inside _ (s .pre .0) _ (s .pre .1) _ (c .slot-of .ensures))
 
 slot-disk-requires : tie.Need-slot-disk-requires
 slot-disk-requires c κs =
     let y = c .before in
     let s = y .before .before .before in
-    (slot-apart _ (s .pre .0) _ (s .pre .1) _ (y .slot-of .ensures) _ (c .stripe-of .ensures), slot-in _ (s .pre .0) _ (s .pre .1) _ (y .slot-of .ensures) .1)
+    (slot-apart _ (s .pre .0) _ (s .pre .1) _ (y .slot-of .ensures) _ (c .stripe-of .ensures), slot-in _ (s .pre .0) _ (s .pre .1) _ (y .slot-of .ensures) _ (c .stripe-of .ensures))
 
 parity-at-requires : tie.Need-parity-at-requires
 parity-at-requires c κs =

@@ -1,14 +1,15 @@
 -- `moves_fit` meets its contract. Assumes nothing.
+use mathlib.Core.Path.{ap}
 use borrow.Author.Needs.{needs}
-use Rattle.layout.proofs.Laws.Numbers.{fits}
+use lib.Dec.{leb}
 use Rattle.layout.proofs.layout.moves_fit.Statement.{statement}
 use Rattle.layout.proofs.layout.moves_fit.Tie as tie
 
-scaled-moves-requires : tie.Need-scaled-moves-requires
-scaled-moves-requires c κs = search needs
+total-of-requires : tie.Need-total-of-requires
+total-of-requires c κs = search needs
 
 returns : tie.Need-returns
-returns c = fits _ _ (c .before .scaled-moves .ensures)
+returns c = ap (leb (c .before .before .args .g .moves)) (c .before .total-of .ensures)
 
 pub moves-fit-spec : {M : Type 1} → statement M
-moves-fit-spec = tie.close (tie.spec scaled-moves-requires returns)
+moves-fit-spec = tie.close (tie.spec total-of-requires returns)

@@ -1,7 +1,8 @@
 -- `new_code` meets its contract. Assumes nothing.
 use native.Mathlib.Omega.{arith}
 use borrow.Author.Needs.{needs}
-use Rattle.layout.proofs.Laws.Bounds.{products}
+use Rattle.layout.proofs.Laws.Bounds.{old-high}
+use Rattle.layout.proofs.Laws.Numbers.{open-resting}
 use Rattle.layout.proofs.Laws.Layout.{code-new, code-none, new-times}
 use Rattle.layout.proofs.layout.new_code.Statement.{statement}
 use Rattle.layout.proofs.layout.new_code.Tie as tie
@@ -18,7 +19,9 @@ mul-result c =
     omega (arith, new-times (k .args .g) (k .pre .0) (k .args .x .number) (omega arith))
 
 count-below-requires : tie.Need-count-below-requires
-count-below-requires c κs = search needs
+count-below-requires c κs =
+    let k = c .before .before .before .before in
+    (k .pre .1, open-resting _ (k .pre .0) _ (omega arith), k .pre .3)
 
 add-result : tie.Need-add-result
 add-result c =
@@ -28,7 +31,7 @@ add-result c =
 add-result-2 : tie.Need-add-result-2
 add-result-2 c =
     let k = c .before .before .before .before .before in
-    omega (arith, products _ (k .pre .0), new-times (k .args .g) (k .pre .0) (k .args .x .number) (omega arith), c .count-below .ensures .0)
+    omega (arith, old-high _ (k .pre .0), new-times (k .args .g) (k .pre .0) (k .args .x .number) (omega arith), c .count-below .ensures .0)
 
 returns : tie.Need-returns
 returns c = code-new _ (c .before .before .before .before .before .pre .0) _ _ (omega arith) _ (c .before .before .old-blocks .ensures) _ (c .count-below .ensures .1)

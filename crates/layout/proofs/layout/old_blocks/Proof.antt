@@ -1,7 +1,7 @@
 -- `old_blocks` meets its contract. Assumes nothing.
 use native.Mathlib.Omega.{arith}
 use borrow.Author.Needs.{needs}
-use Rattle.layout.proofs.Laws.Bounds.{products}
+use Rattle.layout.proofs.Laws.Bounds.{old-high}
 use Rattle.layout.proofs.layout.old_blocks.Statement.{statement}
 use Rattle.layout.proofs.layout.old_blocks.Tie as tie
 
@@ -9,7 +9,7 @@ sub-result : tie.Need-sub-result
 sub-result c = search needs
 
 mul-result : tie.Need-mul-result
-mul-result c = omega (arith, products _ (c .before .before .pre))
+mul-result c = omega (arith, old-high _ (c .before .before .pre))
 
 returns : tie.Need-returns
 returns c = search needs

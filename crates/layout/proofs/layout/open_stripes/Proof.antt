@@ -1,13 +1,13 @@
 -- `open_stripes` meets its contract. Assumes nothing.
 use mathlib.Core.Path.{sym, _∙_}
 use borrow.Author.Tests.{eqb-true, eqb-false}
-use borrow.Author.Needs.{needs}
+use Rattle.layout.proofs.Laws.Bounds.{sized}
 use Rattle.layout.proofs.Laws.Numbers.{open-all, open-none}
 use Rattle.layout.proofs.layout.open_stripes.Statement.{statement}
 use Rattle.layout.proofs.layout.open_stripes.Tie as tie
 
 all-moved-requires : tie.Need-all-moved-requires
-all-moved-requires c κs = search needs
+all-moved-requires c κs = sized _ (c .pre)
 
 returns : tie.Need-returns
 returns c = open-all _ (eqb-true _ _ (sym (c .before .all-moved .ensures) ∙ c .if1 .taken))

@@ -4,7 +4,7 @@ use Rattle.layout.proofs.layout.slot_disk.Statement.{statement}
 use Rattle.layout.proofs.layout.slot_disk.Tie as tie
 
 nth-blank-requires : tie.Need-nth-blank-requires
-nth-blank-requires c κs = (c .before .pre .0, c .before .pre .1 .new (c .if1 .taken))
+nth-blank-requires c κs = let y = c .before .pre .1 .new (c .if1 .taken) in (c .before .pre .0, y .1, y .0)
 
 disk-at-requires : tie.Need-disk-at-requires
 disk-at-requires c κs = (c .before .pre .0, c .before .pre .1 .old (c .if1 .left))
