@@ -1,27 +1,27 @@
 -- The number that each call is given, by facts: `numbered`. Assumes nothing.
-use Prim.Native.Nat.{ℕ, _+_, _*_, _≤_}
+use Prim.Native.Nat.{ℕ, _*_}
 use mathlib.Core.Path.{_≡_, refl, ap}
 use mathlib.Core.Bool.{Bool, true, false, not, _||_}
-use mathlib.Core.Logic.{_⊎_, _≢_}
+use mathlib.Core.Logic.{_≢_}
 use mathlib.Core.List.{List, [], _∷_}
 use lib.Dec.{eqb}
 use lib.ListN.{length}
 use borrow.Author.Tests.{ne-eqb}
 use Rattle.conditions.proofs.Tests.{equal}
-use Rattle.layout.specs.Layout.{totalOf}
-use Rattle.state.specs.declared.Health.the-variants.{Out}
+use Rattle.state.specs.declared.Health.the-variants.{Lost}
 use Rattle.state.specs.declared.Record.{Record}
 use Rattle.state.specs.Good.{geometry, good, GoodRecord}
 use Rattle.state.specs.Bytes.{recordLength, goodBytes, encode, AreBytes}
 use Rattle.state.proofs.Laws.Good.{limits}
 use Rattle.state.proofs.Theorem.{good-is}
 use Rattle.calls.specs.Call.{Call, column, format, read, view, write, grow, advance, out, rebuild, status, locate, owner, feed}
+use Rattle.calls.specs.Health.{isLost}
 use Rattle.calls.specs.Images.{disksOf, size, sizeWith}
 use Rattle.calls.specs.Table.{Row, badRecord, badGeometry, images, pastEnd, blockLength, formable, looks}
 use Rattle.calls.specs.Table as rows
 use Rattle.calls.specs.Table.{terms, laterRows, table, refusal, rowsBytes, refusalBytes}
-use Rattle.calls.specs.Numbered.{Reason, Gives, Outside, NotLong, bad, lost, degraded, reached, formed, Numbered}
-use Rattle.calls.proofs.Laws.Reasons.{Told, gives, differ, past, outside, not-good, is-lost, is-degraded, is-idle, is-other, unformable, out-or-past}
+use Rattle.calls.specs.Numbered.{Reason, Gives, reached, formed, Numbered}
+use Rattle.calls.proofs.Laws.Reasons.{Tells, Told, gives, differ, past, outside, not-good, is-lost, is-degraded, is-idle, is-other, unformable, out-or-past}
 use Rattle.calls.proofs.Laws.OnBytes.{refusal-encode}
 
 -- format's rows, but for the first
@@ -29,109 +29,22 @@ forms : (n B T len : ℕ) → Told (badGeometry (formable n B T) ∷ images (n *
 unfolding Told
 forms n B T len = (refl, unformable n B T, λ u. (refl, differ len (n * (T * B)), λ v. tt))
 
+-- how the rows of many calls begin: 1, 2; A is what is told behind them
+module _ (r : Record) {A : Type 0} where
+  here : (isLost (r .health) ≡ false → A)
+      → (_≡_ {A = ℕ} 1 1) × Tells (not (good r)) (GoodRecord r → ⊥)
+      × (not (good r) ≡ false → (_≡_ {A = ℕ} 2 2) × Tells (isLost (r .health)) (r .health ≡ Lost) × (isLost (r .health) ≡ false → A))
+  here f = (refl, not-good r, λ g. (refl, is-lost (r .health), f))
+
 module _ (r : Record) (c len room : ℕ) where
   say : (x : Call) (reasons : List Reason) → Told (table x false (not (good r)) r c len room) reasons → Gives (refusal r c (feed x len room)) reasons
   unfolding refusal
   say x reasons t = gives (table x false (not (good r)) r c len room) reasons t
 
-  -- read, view and write: their rows are the same
-  abbrev reached-rows : ℕ → ℕ → List Row
-  reached-rows b lent = badRecord (not (good r)) ∷ rows.lost r ∷ images (size r) len ∷ pastEnd b c ∷ blockLength r lent ∷ []
-
-  reaches : (b lent : ℕ) → Told (reached-rows b lent) (reached r c b len lent)
+  -- read, view and write, whose rows are the same
+  reaches : (b lent : ℕ) → Told (badRecord (not (good r)) ∷ rows.lost r ∷ images (size r) len ∷ pastEnd b c ∷ blockLength r lent ∷ []) (reached r c b len lent)
   unfolding Told
-  reaches b lent = (
-    refl,
-    not-good r,
-    λ g. (refl, is-lost (r .health), λ nl. (refl, differ len (size r), λ u. (refl, past b c, λ v. (refl, differ lent (r .block), λ w. tt)))),
-  )
-
-  of-format : (n B T : ℕ) → Gives (refusal r c (feed (format n B T) len room)) (formed n B T len)
-  unfolding refusal table laterRows terms
-  of-format n B T = gives (badGeometry (formable n B T) ∷ images (n * (T * B)) len ∷ []) (formed n B T len) (forms n B T len)
-
-  of-read : (b : ℕ) → Gives (refusal r c (feed (read b) len room)) (reached r c b len room)
-  unfolding table laterRows terms
-  of-read b = say (read b) (reached r c b len room) (reaches b room)
-
-  of-view : (b : ℕ) → Gives (refusal r c (feed (view b) len room)) (reached r c b len room)
-  unfolding table laterRows terms
-  of-view b = say (view b) (reached r c b len room) (reaches b room)
-
-  of-write : (b : ℕ) (v : List ℕ) → Gives (refusal r c (feed (write b v) len room)) (reached r c b len (length v))
-  unfolding table laterRows terms
-  of-write b v = say (write b v) (reached r c b len (length v)) (reaches b (length v))
-
-  of-grow : (m : ℕ) → Gives (refusal r c (feed (grow m) len room))
-      (bad r ∷ lost r ∷ degraded r ∷ (4, r .new ≢ 0) ∷ (6, Outside 1 m 16) ∷ (7, NotLong r (r .old + m) len) ∷ [])
-  unfolding table laterRows terms Told
-  of-grow m = say (grow m) _ (
-    refl,
-    not-good r,
-    λ g. (
-      refl,
-      is-lost (r .health),
-      λ nl. (
-        refl,
-        is-degraded (r .health) nl,
-        λ u. (
-          refl,
-          differ (r .new) 0,
-          λ v. (refl, outside 1 m 16, λ w. (refl, differ len (sizeWith r m), λ y. tt)),
-        ),
-      ),
-    ),
-  )
-
-  of-advance : (k : ℕ) → Gives (refusal r c (feed (advance k) len room))
-      (bad r ∷ lost r ∷ degraded r ∷ (5, (r .new ≡ 0) ⊎ (r .moves ≡ totalOf (geometry r))) ∷ (7, NotLong r (r .old + r .new) len) ∷ [])
-  unfolding table laterRows terms Told
-  of-advance k = say (advance k) _ (
-    refl,
-    not-good r,
-    λ g. (
-      refl,
-      is-lost (r .health),
-      λ nl. (
-        refl,
-        is-degraded (r .health) nl,
-        λ u. (
-          refl,
-          is-idle (geometry r),
-          λ v. (refl, differ len (size r), λ w. tt),
-        ),
-      ),
-    ),
-  )
-
-  of-out : (d : ℕ) → Gives (refusal r c (feed (out d) len room)) (bad r ∷ lost r ∷ (10, (r .old + r .new ≤ d) ⊎ (r .health ≡ Out d)) ∷ [])
-  unfolding table laterRows terms Told
-  of-out d = say (out d) _ (
-    refl,
-    not-good r,
-    λ g. (refl, is-lost (r .health), λ nl. (refl, out-or-past (r .health) d (disksOf r) nl, λ u. tt)),
-  )
-
-  of-rebuild : (d : ℕ) → Gives (refusal r c (feed (rebuild d) len room))
-      (bad r ∷ lost r ∷ (7, NotLong r (r .old + r .new) len) ∷ (10, r .health ≢ Out d) ∷ [])
-  unfolding table laterRows terms Told
-  of-rebuild d = say (rebuild d) _ (
-    refl,
-    not-good r,
-    λ g. (refl, is-lost (r .health), λ nl. (refl, differ len (size r), λ u. (refl, is-other (r .health) d nl, λ v. tt))),
-  )
-
-  of-status : Gives (refusal r c (feed status len room)) (bad r ∷ [])
-  unfolding table laterRows terms Told
-  of-status = say status _ (refl, not-good r, λ g. tt)
-
-  of-locate : (b : ℕ) → Gives (refusal r c (feed (locate b) len room)) (bad r ∷ (8, c ≤ b) ∷ [])
-  unfolding table laterRows terms Told
-  of-locate b = say (locate b) _ (refl, not-good r, λ g. (refl, past b c, λ u. tt))
-
-  of-owner : (S d : ℕ) → Gives (refusal r c (feed (owner S d) len room)) (bad r ∷ (8, r .stripes ≤ S) ∷ (10, r .old + r .new ≤ d) ∷ [])
-  unfolding table laterRows terms Told
-  of-owner S d = say (owner S d) _ (refl, not-good r, λ g. (refl, past S (r .stripes), λ u. (refl, past d (disksOf r), λ v. tt)))
+  reaches b lent = here r (λ nl. (refl, differ len (size r), λ u. (refl, past b c, λ v. (refl, differ lent (r .block), λ w. tt))))
 
 -- ---- on a record's bytes
 
@@ -154,19 +67,29 @@ module _ (b : List ℕ) (x : Call) (len room : ℕ) (are : AreBytes b) (ne : col
       rw (l, not-a-record (not (eqb (length b) recordLength)) (goodBytes b) refl refl) refl
 
 pub numbered : Numbered
+unfolding refusal table laterRows terms Told
 numbered =
     record {
-      of-format = of-format;
-      of-read = of-read;
-      of-view = of-view;
-      of-write = of-write;
-      of-grow = of-grow;
-      of-advance = of-advance;
-      of-out = of-out;
-      of-rebuild = of-rebuild;
-      of-status = of-status;
-      of-locate = of-locate;
-      of-owner = of-owner;
+      of-format = λ r c len room n B T. gives (badGeometry (formable n B T) ∷ images (n * (T * B)) len ∷ []) (formed n B T len) (forms n B T len);
+      of-read = λ r c len room b. say r c len room (read b) _ (reaches r c len room b room);
+      of-view = λ r c len room b. say r c len room (view b) _ (reaches r c len room b room);
+      of-write = λ r c len room b v. say r c len room (write b v) _ (reaches r c len room b (length v));
+      of-grow = λ r c len room m. say r c len room (grow m) _
+          (here r (λ nl. (
+            refl,
+            is-degraded (r .health) nl,
+            λ u. (refl, differ (r .new) 0, λ v. (refl, outside 1 m 16, λ w. (refl, differ len (sizeWith r m), λ y. tt))),
+          )));
+      of-advance = λ r c len room k. say r c len room (advance k) _
+          (here r (λ nl. (refl, is-degraded (r .health) nl, λ u. (refl, is-idle (geometry r), λ v. (refl, differ len (size r), λ w. tt)))));
+      of-out = λ r c len room d. say r c len room (out d) _
+          (here r (λ nl. (refl, out-or-past (r .health) d (disksOf r) nl, λ u. tt)));
+      of-rebuild = λ r c len room d. say r c len room (rebuild d) _
+          (here r (λ nl. (refl, differ len (size r), λ u. (refl, is-other (r .health) d nl, λ v. tt))));
+      of-status = λ r c len room. say r c len room status _ (refl, not-good r, λ g. tt);
+      of-locate = λ r c len room b. say r c len room (locate b) _ (refl, not-good r, λ g. (refl, past b c, λ u. tt));
+      of-owner = λ r c len room S d. say r c len room (owner S d) _
+          (refl, not-good r, λ g. (refl, past S (r .stripes), λ u. (refl, past d (disksOf r), λ v. tt)));
       format-on-bytes = format-on-bytes;
       no-record = no-record;
       own-bytes = λ r x len room. refusal-encode r (feed x len room);

@@ -1,5 +1,5 @@
 -- What is proved of the record: `round-trip`, `good-is` and `updates`. Assumes nothing.
-use Prim.Native.Nat.{ℕ, _+_, _*_, _/_, _≤_, _<_}
+use Prim.Native.Nat.{ℕ, _+_, _<_}
 use mathlib.Core.Path.{_≡_, refl, subst}
 use mathlib.Core.Bool.{true}
 use mathlib.Core.Logic.{_↔_}
@@ -58,43 +58,34 @@ good-bytes b are long = (to, from)
     from : ((r : Record) × (good r ≡ true) × (encode r ≡ b)) → goodBytes b ≡ true
     from x = subst (λ (y : List ℕ). goodBytes y ≡ true) (x .2) (rw (plain-encode (x .0), decode-encode (x .0)) (x .1))
 
--- a good record's limits, in bare numbers
-module _ (r : Record) where
-  abbrev Bare : Type 0
-  Bare =
-      (3 ≤ r .old) × (r .old ≤ 16) × (r .new ≤ 16) × (1 ≤ r .block) × (r .block ≤ 4096) × (1 ≤ r .stripes) × (r .stripes ≤ 1048576)
-      × (r .moves ≤ r .stripes / (r .old * (r .old + r .new)) * r .old * r .old * r .new) × ((d : ℕ) → r .health ≡ Out d → d < r .old + r .new)
-
-  below : (h : Health) → ((d : ℕ) → h ≡ Out d → d < r .old + r .new) → OutBelow (r .old + r .new) h
-  below Whole f = tt
-  below (Out d) f = f d refl
-  below Lost f = tt
-
-  bare-limits : GoodRecord r ↔ Bare
-  unfolding total
-  bare-limits = (
-    (λ l.
-        let a = l .array in
-        (a .disks .n-low, a .disks .n-high, a .disks .m-high, l .block-low, l .block-high, a .stripes-low, a .stripes-high, a .moves, λ d e. out-lt r d l e)),
-    λ (n-low, n-high, m-high, B-low, B-high, T-low, T-high, moves, out).
-        record {
-          array = record {
-            disks = record { n-low = n-low; n-high = n-high; m-high = m-high };
-            stripes-low = T-low;
-            stripes-high = T-high;
-            moves = moves;
-          };
-          block-low = B-low;
-          block-high = B-high;
-          out = below (r .health) out;
-        },
-  )
+-- the disk that is out, if one is
+below : (N : ℕ) (h : Health) → ((d : ℕ) → h ≡ Out d → d < N) → OutBelow N h
+below N Whole f = tt
+below N (Out d) f = f d refl
+below N Lost f = tt
 
 pub good-is : GoodIs
+unfolding total
 good-is =
     record {
       exactly = λ r. (limits r, within-limits r);
-      limits = bare-limits;
+      limits = λ r. (
+        (λ l.
+            let a = l .array in
+            (a .disks .n-low, a .disks .n-high, a .disks .m-high, l .block-low, l .block-high, a .stripes-low, a .stripes-high, a .moves, λ d e. out-lt r d l e)),
+        λ (n-low, n-high, m-high, B-low, B-high, T-low, T-high, moves, out).
+            record {
+              array = record {
+                disks = record { n-low = n-low; n-high = n-high; m-high = m-high };
+                stripes-low = T-low;
+                stripes-high = T-high;
+                moves = moves;
+              };
+              block-low = B-low;
+              block-high = B-high;
+              out = below (r .old + r .new) (r .health) out;
+            },
+      );
       array = λ r. refl;
       fits = λ r l. bytes-encode r (fits r l);
       bytes = good-bytes;
