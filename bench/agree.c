@@ -1,6 +1,7 @@
 /*
  * The peers against the library: random histories of all calls, refused ones among them, on random images, from every kind
- * of record; and locate and owner of every block and place, for every n and m. Both with and without a tail.
+ * of record; and locate and owner of every block and place, for every n and m. Both with and without a tail, and in the
+ * middle of a growth with the new blocks that are there by then, around the move that brings some.
  */
 #include "agree.h"
 
@@ -106,6 +107,19 @@ static size_t size(struct shape h, uint32_t disks) { return (size_t)disks * h.st
 static uint32_t group_len(struct shape h) { return h.n * (h.n + h.m); }
 static uint32_t total_of(struct shape h) { return h.stripes / group_len(h) * h.n * h.n * h.m; }
 
+static uint32_t one_before(uint32_t moves) { return moves > 0 ? moves - 1 : 0; }
+static uint32_t one_behind(struct shape h, uint32_t moves) { return moves < total_of(h) ? moves + 1 : moves; }
+
+/* Any, and one in four at the end: the last one, the first that is not there, and the next. */
+static uint64_t likely_block(struct random *r, struct shape h, const uint8_t *record)
+{
+    uint64_t capacity, moves, total, health, out;
+    if (random_below(r, 4) > 0)
+        return random_below(r, (uint64_t)h.stripes * (h.n + record[PBM_AT_M] - 1) + 1);
+    pbm_status(record, PBM_RECORD_LEN, &capacity, &moves, &total, &health, &out);
+    return capacity + random_below(r, 3) - 1;
+}
+
 /* A call that the record lets through, if the health and t do; arguments run a little over their limits. */
 static struct call likely_call(struct random *r, struct shape h, const uint8_t *record)
 {
@@ -118,7 +132,7 @@ static struct call likely_call(struct random *r, struct shape h, const uint8_t *
     case READ:
     case VIEW:
     case WRITE:
-    case LOCATE: c.x = random_below(r, (uint64_t)h.stripes * (disks - 1) + 1); break;
+    case LOCATE: c.x = likely_block(r, h, record); break;
     case GROW: c.x = h.m; break;
     case ADVANCE: c.x = random_below(r, 3 * h.n); break;
     case OUT: c.x = health == 0 || random_below(r, 9) == 0 ? random_below(r, disks + 1) : out; break;
@@ -202,13 +216,22 @@ static bool history(struct random *r, struct shape h, struct world *a, struct wo
     return true;
 }
 
+/* The moves that finish a zone in the growth; 0 if there is none. */
+static uint32_t zone_end(struct random *r, struct shape h)
+{
+    uint32_t zone_moves = h.n * h.m, zones = total_of(h) / zone_moves;
+    return zones > 0 ? (1 + (uint32_t)random_below(r, zones - 1)) * zone_moves : 0;
+}
+
+/* From before the growth, from its start, from inside its first zone and from near the end of another, and from its end. */
 static bool histories(struct random *r, struct shape h, runner *peer)
 {
-    uint32_t total = total_of(h), last = total > 0 ? total - 1 : 0;
+    uint32_t total = total_of(h), end = zone_end(r, h);
     size_t all = size(h, h.n + h.m) + 1;
     struct world a = {.images = aligned_alloc(4096, (all + 4095) / 4096 * 4096), .block = aligned_alloc(4096, 4096)};
     struct world b = {.images = aligned_alloc(4096, (all + 4095) / 4096 * 4096), .block = aligned_alloc(4096, 4096)};
-    const uint32_t moves[] = {BEFORE_GROWTH, 0, 1, h.n * h.m / 2, total / 2, last, total, total + 1}; /* the last is too many */
+    const uint32_t moves[] = {BEFORE_GROWTH, 0, 1, h.n * h.m / 2, total / 2, one_before(end), end, one_behind(h, end),
+                              one_before(total), total, total + 1}; /* the last is too many */
     bool agreed = a.images && b.images && a.block && b.block;
     for (size_t i = 0; agreed && i < sizeof moves / sizeof moves[0]; i++)
         for (uint8_t health = 0; agreed && health < 3; health++)
@@ -239,15 +262,23 @@ static bool same_places(struct shape h, const uint8_t *record)
     return true;
 }
 
-/* At the start, in the middle and at the end of the growth, one move before that, and before the growth. */
+static bool same_capacity(const uint8_t *record)
+{
+    uint64_t x[5], y[5];
+    return pbm_status(record, PBM_RECORD_LEN, &x[0], &x[1], &x[2], &x[3], &x[4]) == 0 &&
+           peer_status(record, PBM_RECORD_LEN, &y[0], &y[1], &y[2], &y[3], &y[4]) == 0 && x[0] == y[0];
+}
+
+/* Before the growth, at its start, anywhere in it, as a zone is finished, at its end; and one move from these. */
 static bool same_layout(struct random *r, struct shape h)
 {
-    uint32_t total = total_of(h), last = total > 0 ? total - 1 : 0;
-    const uint32_t moves[] = {BEFORE_GROWTH, 0, (uint32_t)random_below(r, last + 1), last, total};
+    uint32_t total = total_of(h), end = zone_end(r, h);
+    const uint32_t moves[] = {BEFORE_GROWTH, 0, (uint32_t)random_below(r, one_before(total) + 1), one_before(end), end,
+                              one_behind(h, end), one_before(total), total};
     for (size_t i = 0; i < sizeof moves / sizeof moves[0]; i++) {
         uint8_t record[ROOM];
         start_record(r, h, record, moves[i], 0);
-        if (!same_blocks(h, record) || !same_places(h, record)) {
+        if (!same_capacity(record) || !same_blocks(h, record) || !same_places(h, record)) {
             fprintf(stderr, "%u + %u, T %u, t %u: layouts differ\n", h.n, h.m, h.stripes, moves[i]);
             return false;
         }

@@ -107,28 +107,17 @@ static inline size_t disk_len(const struct array *a) { return (size_t)a->stripes
 static inline size_t images_size(const struct array *a) { return a->disks * disk_len(a); }
 static inline uint32_t old_blocks(const struct array *a) { return a->stripes * (a->n - 1); }
 
-static inline uint32_t capacity(const struct array *a)
+/* The stripes whose blanks are blocks: those of finished zones, of n * m moves each; with the last move the tail's too. */
+static inline uint32_t open_stripes(const struct array *a)
 {
-    return old_blocks(a) + (a->grown ? a->stripes * a->m : 0);
+    return a->grown ? a->stripes : a->moves / (a->n * a->m) * a->disks;
 }
+
+static inline uint32_t capacity(const struct array *a) { return old_blocks(a) + open_stripes(a) * a->m; }
 
 static inline bool is_out(const struct array *a, uint32_t disk)
 {
     return a->health == PBM_HEALTH_OUT && a->out == disk;
-}
-
-/* Tests of a call that reaches one block: read, view and write. */
-static inline uint8_t array_reach(struct array *a, const uint8_t *record, size_t record_len, size_t images_len,
-                                  uint64_t block, size_t len)
-{
-    uint8_t refused = array_open_kept(a, record, record_len);
-    if (refused)
-        return refused;
-    if (images_len != images_size(a))
-        return PBM_IMAGES;
-    if (block >= capacity(a))
-        return PBM_PAST_THE_END;
-    return len == a->block_len ? PBM_DONE : PBM_BLOCK_LENGTH;
 }
 
 static inline uint8_t array_reach_disk(struct array *a, const uint8_t *record, size_t record_len, size_t images_len,
@@ -145,6 +134,12 @@ static inline uint8_t array_reach_disk(struct array *a, const uint8_t *record, s
 static inline struct stripe stripe_at(const struct array *a, uint32_t number)
 {
     return (struct stripe){number, number / a->disks, number % a->disks, number % a->n};
+}
+
+/* Is it an open one? Its zone is known, so that the moves need not be divided; with all made, every zone counts as finished. */
+static inline bool is_open(const struct array *a, struct stripe x)
+{
+    return (x.zone + 1) * (a->n * a->m) <= (a->moves | only_if(a->grown, UINT32_MAX));
 }
 
 /* The disk with lag i behind the parity, and back: (P - i) mod n is its own inverse. */
@@ -167,63 +162,90 @@ static inline uint32_t disk_now(const struct array *a, struct stripe x, uint32_t
 }
 
 /*
- * The blanks of a stripe once all moves are made, rising: four runs of disks, some of them empty. The old disks that were
+ * The blanks of a stripe whose moves are all made, rising: four runs of disks, some of them empty. The old disks that were
  * left are those of lag n - s up to n + m - s, around the ring of old disks; new disks below s and from s + n on got
- * nothing. A stripe of the tail has the blanks of s = 0, where no move is either: all new disks.
+ * nothing. A stripe of the tail has the blanks of s = 0, where no move is either: all new disks. All along a run a blank's
+ * disk is ahead of its number by the same, its lead.
  */
-struct run {
-    uint32_t first, end;
+struct runs {
+    uint32_t first, old, early; /* blanks in the first run, in the first two, in the first three */
+    uint32_t second, fourth;    /* disks from which on a blank is not in the first run, not in the first three */
+    uint32_t lead, step[3];     /* the first run's, and how much each next one's is above it, or below */
 };
 
-static inline void blank_runs(const struct array *a, struct stripe x, struct run runs[4])
+static inline struct runs blank_runs(const struct array *a, struct stripe x)
 {
     uint32_t n = a->n, s = only_if(x.number < a->moving, x.within), next = x.parity + 1;
-    uint32_t lo = n - min(s, n), hi = a->disks - max(s, a->m);
+    uint32_t lo = n - min(s, n), hi = a->disks - max(s, a->m), old = hi - lo;
     uint32_t split = min(max(next, lo), hi); /* lags below are on disks up to the parity's, the others behind it */
-    runs[0] = (struct run){next - split, next - lo};
-    runs[1] = (struct run){next + n - hi, next + n - split};
-    runs[2] = (struct run){n, max(s, n)};
-    runs[3] = (struct run){n + min(s, a->m), a->disks};
+    return (struct runs){split - lo, old, min(s, a->m), next, max(s, n), next - split, {n - old, split - next, old}};
+}
+
+static inline uint32_t lead_in(struct runs r, bool second, bool third, bool fourth)
+{
+    return r.lead + only_if(second, r.step[0]) + only_if(third, r.step[1]) + only_if(fourth, r.step[2]);
 }
 
 static inline uint32_t nth_blank(const struct array *a, struct stripe x, uint32_t k)
 {
-    struct run runs[4];
-    blank_runs(a, x, runs);
-    uint32_t disk = runs[0].first + k;
-    for (uint32_t i = 0, seen = 0; i < 3; i++) {
-        seen += runs[i].end - runs[i].first;
-        disk += only_if(k >= seen, runs[i + 1].first - runs[i].end);
-    }
-    return disk;
+    struct runs r = blank_runs(a, x);
+    return k + lead_in(r, k >= r.first, k >= r.old, k >= r.early);
 }
 
+/* Below a disk that is blank itself. */
 static inline uint32_t blanks_below(const struct array *a, struct stripe x, uint32_t disk)
 {
-    struct run runs[4];
-    blank_runs(a, x, runs);
-    uint32_t count = 0;
-    for (int i = 0; i < 4; i++)
-        count += min(max(disk, runs[i].first), runs[i].end) - runs[i].first;
-    return count;
+    struct runs r = blank_runs(a, x);
+    return disk - lead_in(r, disk >= r.second, disk >= a->n, disk >= r.fourth);
 }
 
-/* Where a block below the capacity stands. */
-static inline struct place locate(const struct array *a, uint32_t block)
+static inline struct place old_place(const struct array *a, uint32_t block)
 {
-    uint32_t old = old_blocks(a);
-    if (block >= old) {
-        struct stripe x = stripe_at(a, (block - old) / a->m);
-        return (struct place){x, nth_blank(a, x, (block - old) % a->m)};
-    }
     struct stripe x = stripe_at(a, block / (a->n - 1));
     uint32_t up = a->n - 1 - block % (a->n - 1);
     return (struct place){x, disk_now(a, x, up - (x.parity >= up))};
 }
 
+/* Where new block k stands, unless it is past the end: its own stripe tells, and no capacity is worked out. */
+static inline uint8_t locate_new(const struct array *a, uint64_t k, struct place *q)
+{
+    if (k >= a->stripes * a->m)
+        return PBM_PAST_THE_END;
+    struct stripe x = stripe_at(a, (uint32_t)k / a->m);
+    if (!is_open(a, x))
+        return PBM_PAST_THE_END;
+    *q = (struct place){x, nth_blank(a, x, (uint32_t)k % a->m)};
+    return PBM_DONE;
+}
+
+/* Where a block stands, unless it is past the end. */
+static inline uint8_t locate(const struct array *a, uint64_t block, struct place *q)
+{
+    uint32_t old = old_blocks(a);
+    if (block >= old)
+        return locate_new(a, block - old, q);
+    *q = old_place(a, (uint32_t)block);
+    return PBM_DONE;
+}
+
 static inline size_t offset_of(const struct array *a, uint32_t stripe, uint32_t disk)
 {
     return ((size_t)disk * a->stripes + stripe) * a->block_len;
+}
+
+/* Tests of a call that reaches one block, and where it stands: read, view and write. */
+static inline uint8_t array_reach(struct array *a, const uint8_t *record, size_t record_len, size_t images_len,
+                                  uint64_t block, size_t len, struct place *q)
+{
+    uint8_t refused = array_open_kept(a, record, record_len);
+    if (refused)
+        return refused;
+    if (images_len != images_size(a))
+        return PBM_IMAGES;
+    refused = locate(a, block, q);
+    if (refused)
+        return refused;
+    return len == a->block_len ? PBM_DONE : PBM_BLOCK_LENGTH;
 }
 
 #endif

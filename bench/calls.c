@@ -21,37 +21,48 @@ static const struct set sets[2] = {
 
 static volatile uint64_t sink;
 
-static void reads(struct stage *s, const struct set *c, const uint8_t *record, struct list l, size_t times)
+/* What calls are lent, and the blocks that they ask for: those of before the growth, or new ones. */
+struct lent {
+    const uint8_t *record;
+    uint8_t *images;
+    size_t images_len;
+    struct list blocks;
+};
+
+static void reads(struct stage *s, const struct set *c, struct lent l, size_t times)
 {
     for (size_t i = 0; i < times; i++) {
-        uint32_t block = l.items[i % l.count];
-        must(c->read(record, PBM_RECORD_LEN, s->images, s->images_len, block, s->into, s->plan.block_len) == 0, "read");
+        uint32_t block = l.blocks.items[i % l.blocks.count];
+        must(c->read(l.record, PBM_RECORD_LEN, l.images, l.images_len, block, s->into, s->plan.block_len) == 0, "read");
     }
 }
 
-static void writes(struct stage *s, const struct set *c, const uint8_t *record, struct list l, size_t times)
+static void writes(struct stage *s, const struct set *c, struct lent l, size_t times)
 {
     for (size_t i = 0; i < times; i++) {
-        uint32_t block = l.items[i % l.count];
-        must(c->write(record, PBM_RECORD_LEN, s->images, s->images_len, block, s->data, s->plan.block_len) == 0, "write");
+        uint32_t block = l.blocks.items[i % l.blocks.count];
+        must(c->write(l.record, PBM_RECORD_LEN, l.images, l.images_len, block, s->data, s->plan.block_len) == 0, "write");
     }
 }
 
-static void locates(const struct set *c, const uint8_t *record, struct list l, size_t times)
+static void locates(struct stage *s, const struct set *c, struct lent l, size_t times)
 {
+    (void)s;
     uint64_t stripe, disk;
     for (size_t i = 0; i < times; i++) {
-        must(c->locate(record, PBM_RECORD_LEN, l.items[i % l.count], &stripe, &disk) == 0, "locate");
+        must(c->locate(l.record, PBM_RECORD_LEN, l.blocks.items[i % l.blocks.count], &stripe, &disk) == 0, "locate");
         sink += stripe + disk;
     }
 }
 
-static void owners(const struct set *c, const uint8_t *record, struct list l, size_t times)
+/* Of places all over the array. */
+static void owners(struct stage *s, const struct set *c, struct lent l, size_t times)
 {
+    struct list places = list_some_places(s, l.record[PBM_AT_N] + l.record[PBM_AT_M]);
     uint64_t role, block;
     for (size_t i = 0; i < times; i++) {
-        uint32_t place = l.items[i % l.count];
-        must(c->owner(record, PBM_RECORD_LEN, place / 32, place % 32, &role, &block) == 0, "owner");
+        uint32_t place = places.items[i % places.count];
+        must(c->owner(l.record, PBM_RECORD_LEN, place / 32, place % 32, &role, &block) == 0, "owner");
         sink += role + block;
     }
 }
@@ -75,35 +86,58 @@ static void growths(struct stage *s, const struct set *c, size_t times, uint64_t
     }
 }
 
+enum state { BEFORE, HALF, GROWN };
+
+static struct lent lend(struct stage *s, enum state state, bool new)
+{
+    if (state == GROWN)
+        stage_grown(s);
+    struct lent l = {state == BEFORE ? s->formatted : state == HALF ? s->half : s->grown, s->images, s->images_len, {0}};
+    if (state == BEFORE)
+        l.images = s->home, l.images_len = s->home_len;
+    uint32_t old = capacity_by(s->formatted);
+    l.blocks = list_some_blocks(s, new ? old : 0, new ? capacity_by(l.record) : old);
+    return l;
+}
+
+static struct lent lend_degraded(struct stage *s)
+{
+    return (struct lent){s->degraded, s->images, s->images_len, list_on_disk_out(s)};
+}
+
+typedef void asking(struct stage *s, const struct set *c, struct lent l, size_t times);
+
+/* Calls for one block or place, in the middle of the growth unless the name says another state; *new* alone is once grown. */
+static const struct {
+    const char *name;
+    asking *ask;
+    enum state state;
+    bool new;
+} asked[] = {{"read-before", reads, BEFORE, false},     {"read", reads, HALF, false},
+             {"read-new-half", reads, HALF, true},      {"read-old-grown", reads, GROWN, false},
+             {"read-new", reads, GROWN, true},          {"write-before", writes, BEFORE, false},
+             {"write", writes, HALF, false},            {"write-new-half", writes, HALF, true},
+             {"write-old-grown", writes, GROWN, false}, {"write-new", writes, GROWN, true},
+             {"locate-before", locates, BEFORE, false}, {"locate-old", locates, HALF, false},
+             {"locate-new-half", locates, HALF, true},  {"locate-old-grown", locates, GROWN, false},
+             {"locate-new", locates, GROWN, true},      {"owner-before", owners, BEFORE, false},
+             {"owner-half", owners, HALF, false},       {"owner-grown", owners, GROWN, false}};
+
 static bool run(struct stage *s, const struct set *c, const char *name, size_t times)
 {
-    uint32_t old = s->stripes * (s->plan.n - 1), all = s->stripes * (s->disks - 1);
-    if (strcmp(name, "read") == 0)
-        reads(s, c, s->half, list_blocks(s), times);
-    else if (strcmp(name, "degraded-read") == 0)
-        reads(s, c, s->degraded, list_on_disk_out(s), times);
-    else if (strcmp(name, "write") == 0)
-        writes(s, c, s->half, list_blocks(s), times);
+    for (size_t i = 0; i < sizeof asked / sizeof asked[0]; i++)
+        if (strcmp(name, asked[i].name) == 0)
+            return asked[i].ask(s, c, lend(s, asked[i].state, asked[i].new), times), true;
+    if (strcmp(name, "degraded-read") == 0)
+        reads(s, c, lend_degraded(s), times);
     else if (strcmp(name, "write-out") == 0)
-        writes(s, c, s->degraded, list_on_disk_out(s), times);
-    else if (strcmp(name, "read-new") == 0)
-        stage_grown(s), reads(s, c, s->grown, list_some_blocks(s, old, all), times);
-    else if (strcmp(name, "write-new") == 0)
-        stage_grown(s), writes(s, c, s->grown, list_some_blocks(s, old, all), times);
+        writes(s, c, lend_degraded(s), times);
     else if (strcmp(name, "rebuild") == 0)
         rebuilds(s, c, times);
     else if (strcmp(name, "growth") == 0)
         growths(s, c, times, s->total);
     else if (strcmp(name, "growth-by-64") == 0)
         growths(s, c, times, 64);
-    else if (strcmp(name, "locate-old") == 0)
-        locates(c, s->half, list_some_blocks(s, 0, old), times);
-    else if (strcmp(name, "locate-new") == 0)
-        locates(c, s->grown, list_some_blocks(s, old, all), times);
-    else if (strcmp(name, "owner-half") == 0)
-        owners(c, s->half, list_some_places(s), times);
-    else if (strcmp(name, "owner-grown") == 0)
-        owners(c, s->grown, list_some_places(s), times);
     else
         return false;
     return true;

@@ -208,29 +208,33 @@ static void locating(struct stage *s, struct settings set, struct report *report
 static void owning(struct stage *s, struct settings set, struct report *report, const char *name,
                    const uint8_t record[PBM_RECORD_LEN])
 {
-    struct list l = list_some_places(s);
+    struct list l = list_some_places(s, s->disks);
     struct series x = {name, {owner("library", pbm_owner, l), held(owner("C", peer_owner, l), 1, 1)}, 2, 1};
     lend(s, record);
     series_run(&x, s, set, report);
     free(l.items);
 }
 
-static uint32_t old_blocks(const struct stage *s) { return s->stripes * (s->plan.n - 1); }
-static uint32_t all_blocks(const struct stage *s) { return s->stripes * (s->disks - 1); }
+static uint32_t old_blocks(const struct stage *s) { return capacity_by(s->formatted); }
 
 static void locating_old(struct stage *s, struct settings set, struct report *report)
 {
     locating(s, set, report, "locate, old block, half grown", s->half, 0, old_blocks(s));
 }
 
+static void locating_new_half(struct stage *s, struct settings set, struct report *report)
+{
+    locating(s, set, report, "locate, new block, half grown", s->half, old_blocks(s), capacity_by(s->half));
+}
+
 static void locating_new(struct stage *s, struct settings set, struct report *report)
 {
-    locating(s, set, report, "locate, new block, grown", s->grown, old_blocks(s), all_blocks(s));
+    locating(s, set, report, "locate, new block, grown", s->grown, old_blocks(s), capacity_by(s->grown));
 }
 
 static void locating_any(struct stage *s, struct settings set, struct report *report)
 {
-    locating(s, set, report, "locate, any block, grown", s->grown, 0, all_blocks(s));
+    locating(s, set, report, "locate, any block, grown", s->grown, 0, capacity_by(s->grown));
 }
 
 static void owning_half(struct stage *s, struct settings set, struct report *report)
@@ -246,7 +250,7 @@ static void owning_grown(struct stage *s, struct settings set, struct report *re
 typedef void one_case(struct stage *s, struct settings set, struct report *report);
 
 /* These read the record alone: no image is touched, whatever its size. */
-static one_case *const asking[] = {locating_old, locating_new, locating_any, owning_half, owning_grown};
+static one_case *const asking[] = {locating_old, locating_new_half, locating_new, locating_any, owning_half, owning_grown};
 
 enum { ASKING = sizeof asking / sizeof asking[0] };
 

@@ -21,10 +21,10 @@ uint8_t isal_read(const uint8_t *record, size_t record_len, const uint8_t *image
                   uint8_t *into, size_t into_len)
 {
     struct array a;
-    uint8_t refused = array_reach(&a, record, record_len, images_len, block, into_len);
+    struct place q;
+    uint8_t refused = array_reach(&a, record, record_len, images_len, block, into_len, &q);
     if (refused)
         return refused;
-    struct place q = locate(&a, (uint32_t)block);
     if (is_out(&a, q.disk))
         sum_others(&a, images, q.stripe.number, q.disk, into);
     else

@@ -25,10 +25,10 @@ uint8_t peer_read(const uint8_t *record, size_t record_len, const uint8_t *image
                   uint8_t *into, size_t into_len)
 {
     struct array a;
-    uint8_t refused = array_reach(&a, record, record_len, images_len, block, into_len);
+    struct place q;
+    uint8_t refused = array_reach(&a, record, record_len, images_len, block, into_len, &q);
     if (refused)
         return refused;
-    struct place q = locate(&a, (uint32_t)block);
     if (is_out(&a, q.disk))
         sum_others(&a, images, q.stripe.number, q.disk, into);
     else
@@ -40,11 +40,11 @@ uint8_t peer_view(const uint8_t *record, size_t record_len, const uint8_t *image
                   uint8_t *scratch, size_t scratch_len, const uint8_t **view)
 {
     struct array a;
+    struct place q;
     *view = NULL;
-    uint8_t refused = array_reach(&a, record, record_len, images_len, block, scratch_len);
+    uint8_t refused = array_reach(&a, record, record_len, images_len, block, scratch_len, &q);
     if (refused)
         return refused;
-    struct place q = locate(&a, (uint32_t)block);
     if (is_out(&a, q.disk)) {
         sum_others(&a, images, q.stripe.number, q.disk, scratch);
         *view = scratch;
@@ -78,10 +78,10 @@ uint8_t peer_write(const uint8_t *record, size_t record_len, uint8_t *images, si
                    const uint8_t *data, size_t data_len)
 {
     struct array a;
-    uint8_t refused = array_reach(&a, record, record_len, images_len, block, data_len);
+    struct place q;
+    uint8_t refused = array_reach(&a, record, record_len, images_len, block, data_len, &q);
     if (refused)
         return refused;
-    struct place q = locate(&a, (uint32_t)block);
     uint32_t parity = disk_now(&a, q.stripe, q.stripe.parity);
     if (is_out(&a, q.disk)) {
         write_around(&a, images, q, parity, data);
@@ -206,13 +206,14 @@ uint8_t peer_status(const uint8_t *record, size_t record_len, uint64_t *capacity
 uint8_t peer_locate(const uint8_t *record, size_t record_len, uint64_t block, uint64_t *stripe, uint64_t *disk)
 {
     struct array a;
+    struct place q;
     *stripe = *disk = 0;
     uint8_t refused = array_open(&a, record, record_len);
     if (refused)
         return refused;
-    if (block >= capacity(&a))
-        return PBM_PAST_THE_END;
-    struct place q = locate(&a, (uint32_t)block);
+    refused = locate(&a, block, &q);
+    if (refused)
+        return refused;
     *stripe = q.stripe.number;
     *disk = q.disk;
     return PBM_DONE;
@@ -240,9 +241,9 @@ uint8_t peer_owner(const uint8_t *record, size_t record_len, uint64_t stripe, ui
     struct stripe x = stripe_at(&a, (uint32_t)stripe);
     uint32_t e = (uint32_t)disk, lag = lag_on(&a, x, e), home = behind(&a, x, lag);
     bool taken = (lag < a.n) & (is_moved(&a, x, lag) == (e >= a.n));
-    bool old = taken & (lag != 0), new = !taken & a.grown;
+    bool old = taken & (lag != 0), new = !taken & is_open(&a, x);
     uint32_t old_block = x.number * (a.n - 1) + a.n - 1 - home - (home < x.parity);
-    uint32_t new_block = a.grown ? old_blocks(&a) + x.number * a.m + blanks_below(&a, x, e) : 0;
+    uint32_t new_block = old_blocks(&a) + x.number * a.m + blanks_below(&a, x, e);
     *role = only_if(old | new, PBM_DATA) + only_if(taken & !old, PBM_PARITY);
     *block = only_if(old, old_block) + only_if(new, new_block);
     return PBM_DONE;

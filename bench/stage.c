@@ -59,9 +59,16 @@ static void grow_to(struct stage *s, uint8_t record[PBM_RECORD_LEN], uint32_t mo
     must(pbm_advance(record, PBM_RECORD_LEN, s->images, s->images_len, moves, &made) == 0 && made == moves, "advance");
 }
 
+/* Half of the zones are finished, and half of the moves of the next one made. */
+static uint32_t half_of(const struct stage *s)
+{
+    uint32_t zone_moves = s->plan.n * s->plan.m, zones = s->total / zone_moves;
+    return zones / 2 * zone_moves + zone_moves / 2;
+}
+
 void stage_half(struct stage *s)
 {
-    grow_to(s, s->half, s->total / 2);
+    grow_to(s, s->half, half_of(s));
     memcpy(s->degraded, s->half, PBM_RECORD_LEN);
     must(pbm_out(s->degraded, PBM_RECORD_LEN, OUT_DISK) == 0, "out");
     memcpy(s->grown, s->half, PBM_RECORD_LEN);
@@ -69,6 +76,13 @@ void stage_half(struct stage *s)
 }
 
 void stage_grown(struct stage *s) { grow_to(s, s->grown, s->total); }
+
+uint32_t capacity_by(const uint8_t record[PBM_RECORD_LEN])
+{
+    uint64_t capacity, moves, total, health, out;
+    must(pbm_status(record, PBM_RECORD_LEN, &capacity, &moves, &total, &health, &out) == 0, "status");
+    return (uint32_t)capacity;
+}
 
 static bool block_on_disk_out(const struct stage *s, uint32_t block)
 {
@@ -166,12 +180,12 @@ struct list list_some_blocks(struct stage *s, uint32_t first, uint32_t end)
     return l;
 }
 
-struct list list_some_places(struct stage *s)
+struct list list_some_places(struct stage *s, uint32_t disks)
 {
     struct list l = list_of(SOME);
     while (l.count < SOME) {
         uint32_t stripe = (uint32_t)random_below(&s->random, s->stripes);
-        l.items[l.count++] = 32 * stripe + (uint32_t)random_below(&s->random, s->disks);
+        l.items[l.count++] = 32 * stripe + (uint32_t)random_below(&s->random, disks);
     }
     return l;
 }

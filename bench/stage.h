@@ -44,15 +44,17 @@ enum { OUT_DISK = 1, DATA_BLOCKS = 16 };
 void stage_open(struct stage *s, struct plan plan, uint64_t seed);
 void stage_close(struct stage *s);
 
-/* The images as they are in the middle of the growth; as they are once all moves are made. */
+/* The images as they are in the middle of the growth, which is inside a zone; as they are once all moves are made. */
 void stage_half(struct stage *s);
 void stage_grown(struct stage *s);
+
+uint32_t capacity_by(const uint8_t record[PBM_RECORD_LEN]);
 
 struct list list_blocks(struct stage *s);      /* all blocks of before the growth */
 struct list list_all_blocks(struct stage *s);  /* and the new ones */
 struct list list_on_disk_out(struct stage *s); /* those of before the growth that stand on OUT_DISK */
 struct list list_some_blocks(struct stage *s, uint32_t first, uint32_t end);
-struct list list_some_places(struct stage *s);
+struct list list_some_places(struct stage *s, uint32_t disks);
 /* The number of the place on which each block stands: d * T + S. */
 struct list list_place_numbers(const struct stage *s, struct list blocks);
 

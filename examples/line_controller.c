@@ -2,9 +2,9 @@
  * line_controller.c - a sawmill line on an array that grows while the line runs.
  *
  * The scanner writes each log's cutting solution to a numbered block, the saw reads it. Meanwhile three disks are added
- * to five; in the middle of that growth a disk is lost, and rebuilt later. The disks are of no round size: a tail is left
- * behind the groups that move. Each block that the saw reads is compared with what the scanner last wrote to it, which
- * this program keeps in a plain array of its own.
+ * to five; in the middle of that growth a disk is lost, and rebuilt later. New blocks are used as they come, with each zone
+ * that is finished. The disks are of no round size: a tail is left behind the groups that move. Each block that the saw
+ * reads is compared with what the scanner last wrote to it, which this program keeps in a plain array of its own.
  *
  *     line_controller [seed]
  *
@@ -23,12 +23,15 @@ enum {
     BLOCK = 4096,
     STRIPES = 417, /* ten groups, and a tail of 17 stripes */
     DISK = STRIPES * BLOCK,
-    GROUP = OLD * (OLD + NEW), /* stripes */
+    ZONE = OLD + NEW, /* stripes */
+    GROUP = OLD * ZONE,
     TAIL = STRIPES % GROUP,
     BLOCKS_BEFORE = STRIPES * (OLD - 1),
     BLOCKS_AFTER = STRIPES * (OLD + NEW - 1),
-    BLOCKS_TAIL = TAIL * NEW, /* the last of the new ones */
-    MOVES = STRIPES / GROUP * OLD * OLD * NEW
+    BLOCKS_ZONE = ZONE * NEW, /* the new ones of a zone */
+    BLOCKS_TAIL = TAIL * NEW, /* and of the tail, which are the last */
+    MOVES_ZONE = OLD * NEW,
+    MOVES = STRIPES / GROUP * OLD * MOVES_ZONE
 };
 
 /* What the library is lent: the record, and the images of all disks one behind the other. */
@@ -39,7 +42,13 @@ static size_t images_len;
 /* What each block was last given: zeroes at first. */
 static uint8_t given[BLOCKS_AFTER][BLOCK];
 
-static struct { uint64_t writes, degraded_writes, reads, degraded_reads, moves, refusals; } count;
+/* Where each new block stood when it came. */
+struct place { uint64_t stripe, disk; };
+static struct place came[BLOCKS_AFTER - BLOCKS_BEFORE];
+
+static struct {
+    uint64_t writes, degraded_writes, early_writes, reads, degraded_reads, early_reads, moves, refusals;
+} count;
 
 /* ---- random numbers: the same seed gives the same run */
 
@@ -90,12 +99,26 @@ static struct status status(void)
     return s;
 }
 
+static struct place place_of(uint64_t block)
+{
+    struct place p;
+    must("locate", pbm_locate(record, sizeof record, block, &p.stripe, &p.disk));
+    return p;
+}
+
 static int is_on_lost_disk(uint64_t block)
 {
     struct status now = status();
-    uint64_t stripe, disk;
-    must("locate", pbm_locate(record, sizeof record, block, &stripe, &disk));
-    return now.health == PBM_HEALTH_OUT && now.out_disk == disk;
+    return now.health == PBM_HEALTH_OUT && now.out_disk == place_of(block).disk;
+}
+
+/* A new block in mid-growth. */
+static int is_early(uint64_t block) { return block >= BLOCKS_BEFORE && count.moves < MOVES; }
+
+/* The blocks that there must be: with the last move of a zone its new ones come, with the last of all what is left. */
+static uint64_t blocks_after(uint64_t moves)
+{
+    return moves < MOVES ? BLOCKS_BEFORE + moves / MOVES_ZONE * BLOCKS_ZONE : BLOCKS_AFTER;
 }
 
 /* Makes room for images of this length. What the new disks hold is of no matter: here, 0x5A in every byte. */
@@ -119,6 +142,7 @@ static void scanner_writes(uint64_t block)
     must("write", pbm_write(record, sizeof record, images, images_len, block, solution, BLOCK));
     count.writes++;
     if (is_on_lost_disk(block)) count.degraded_writes++;
+    if (is_early(block)) count.early_writes++;
 }
 
 static void saw_reads(uint64_t block)
@@ -132,6 +156,7 @@ static void saw_reads(uint64_t block)
     }
     count.reads++;
     if (is_on_lost_disk(block)) count.degraded_reads++;
+    if (is_early(block)) count.early_reads++;
 }
 
 static void saw_reads_all(void)
@@ -153,14 +178,35 @@ static void logs_pass(int logs)
     }
 }
 
+/* New blocks hold zeroes until they are written: every other one is, the rest wait for a log. */
+static void new_blocks_come(uint64_t first, uint64_t end)
+{
+    for (uint64_t block = first; block < end; block++) {
+        uint64_t k = block - BLOCKS_BEFORE;
+        came[k] = place_of(block);
+        must_be("stripe of a new block", came[k].stripe, k / NEW);
+        saw_reads(block);
+        if (k % 2 == 0) scanner_writes(block);
+    }
+}
+
+static void new_blocks_stay(void)
+{
+    uint64_t capacity = status().capacity;
+    for (uint64_t block = BLOCKS_BEFORE; block < capacity; block++) {
+        must_be("stripe of a new block", place_of(block).stripe, came[block - BLOCKS_BEFORE].stripe);
+        must_be("disk of a new block", place_of(block).disk, came[block - BLOCKS_BEFORE].disk);
+    }
+    printf("    all %" PRIu64 " new blocks stand where they stood when they came\n", capacity - BLOCKS_BEFORE);
+}
+
 /* In the tail no block has moved: the new ones stand on the new disks, stripe by stripe. */
 static void tail_is_used(void)
 {
     for (uint64_t k = 0; k < BLOCKS_TAIL; k++) {
-        uint64_t block = BLOCKS_AFTER - BLOCKS_TAIL + k, stripe, disk;
-        must("locate", pbm_locate(record, sizeof record, block, &stripe, &disk));
-        must_be("stripe of a new block in the tail", stripe, STRIPES - TAIL + k / NEW);
-        must_be("disk of a new block in the tail", disk, OLD + k % NEW);
+        uint64_t block = BLOCKS_AFTER - BLOCKS_TAIL + k;
+        must_be("stripe of a new block in the tail", place_of(block).stripe, STRIPES - TAIL + k / NEW);
+        must_be("disk of a new block in the tail", place_of(block).disk, OLD + k % NEW);
         scanner_writes(block);
         saw_reads(block);
     }
@@ -169,6 +215,14 @@ static void tail_is_used(void)
 
 /* ---- what happens to the array meanwhile */
 
+/* By a controller that has started anew, and takes a zone for finished that is not. */
+static void next_new_block_is_refused(void)
+{
+    uint8_t block[BLOCK];
+    must_refuse("a read of the next new block",
+                pbm_read(record, sizeof record, images, images_len, status().capacity, block, BLOCK), PBM_PAST_THE_END);
+}
+
 static void grow(void)
 {
     uint8_t block[BLOCK];
@@ -176,25 +230,30 @@ static void grow(void)
     mount(pbm_images_len_by(record, NEW));
     must("grow", pbm_grow(record, sizeof record, images, images_len, NEW));
     must_be("moves to make", status().total, MOVES);
+    must_be("capacity", status().capacity, BLOCKS_BEFORE);
     printf("%d disks are added: %d moves to make\n", NEW, MOVES);
-    /* by a controller that has started anew, and takes the array for the old one, or the growth for done */
+    /* by one that takes the array for the old one */
     must_refuse("a read with the old disks alone",
                 pbm_read(record, sizeof record, images, old_len, 0, block, BLOCK), PBM_IMAGES);
-    must_refuse("a read of the first new block",
-                pbm_read(record, sizeof record, images, images_len, BLOCKS_BEFORE, block, BLOCK), PBM_PAST_THE_END);
+    next_new_block_is_refused();
 }
 
-/* One to three moves, a log, and so on, until so many moves are made. */
+/* One to three moves, the new blocks that they bring, a log, and so on, until so many moves are made. */
 static void move_until(uint64_t moves)
 {
+    struct status now = status();
     while (count.moves < moves) {
-        uint64_t left = moves - count.moves, k = 1 + below(3), made;
+        uint64_t left = moves - count.moves, k = 1 + below(3), before = now.capacity, made;
         must("advance", pbm_advance(record, sizeof record, images, images_len, k < left ? k : left, &made));
         count.moves += made;
-        must_be("moves done", status().moves, count.moves);
+        now = status();
+        must_be("moves done", now.moves, count.moves);
+        must_be("capacity", now.capacity, blocks_after(count.moves));
+        new_blocks_come(before, now.capacity);
         logs_pass(1);
     }
-    printf("    %" PRIu64 " of %d moves, %" PRIu64 " logs so far\n", count.moves, MOVES, count.writes);
+    printf("    %" PRIu64 " of %d moves, %" PRIu64 " blocks, %" PRIu64 " logs so far\n", count.moves, MOVES, now.capacity,
+           count.writes);
 }
 
 static void advance_is_refused(uint8_t wanted)
@@ -246,17 +305,19 @@ int main(int argc, char **argv)
     move_until(200);
     move_until(400);
 
+    next_new_block_is_refused();
     lose(2);
     advance_is_refused(PBM_DEGRADED);
     logs_pass(1000);
     saw_reads_all();
     rebuild(2);
+    saw_reads_all();
 
     move_until(600);
     move_until(MOVES);
     advance_is_refused(PBM_NOTHING_TO_MOVE);
-    must_be("capacity", status().capacity, BLOCKS_AFTER);
     printf("the growth is over: %d blocks\n", BLOCKS_AFTER);
+    new_blocks_stay();
     saw_reads_all();
     logs_pass(2000);
     tail_is_used();
@@ -267,8 +328,10 @@ int main(int argc, char **argv)
     rebuild(OLD);
     saw_reads_all();
 
-    printf("writes %" PRIu64 ", of these %" PRIu64 " to a lost disk\n", count.writes, count.degraded_writes);
-    printf("reads %" PRIu64 ", of these %" PRIu64 " from a lost disk\n", count.reads, count.degraded_reads);
+    printf("writes %" PRIu64 ", of these %" PRIu64 " to a lost disk, %" PRIu64 " to new blocks in mid-growth\n",
+           count.writes, count.degraded_writes, count.early_writes);
+    printf("reads %" PRIu64 ", of these %" PRIu64 " from a lost disk, %" PRIu64 " of new blocks in mid-growth\n",
+           count.reads, count.degraded_reads, count.early_reads);
     printf("moves %" PRIu64 ", refusals met %" PRIu64 "\n", count.moves, count.refusals);
     printf("every read gave what was last written\n");
     free(images);

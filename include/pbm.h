@@ -30,14 +30,25 @@
  *   pbm_format makes a good record and every accepted call leaves one: a caller need not set a byte of it.
  *
  * BLOCKS
- *   are numbered from 0. There are T * (n - 1), and T * (n + m - 1) once a growth is over; the new ones are zero.
+ *   are numbered from 0. There are T * (n - 1), and T * (n + m - 1) once a growth is over; while it goes on the new ones
+ *   come zone by zone (NEW BLOCKS).
  *
  * GROWTH
- *   goes by groups of n * (n + m) stripes, with n * n * m moves each. Stripes behind the last whole group are the tail:
- *   what stands there stays. So any T will do, whatever m is, and the total of moves is T / (n * (n + m)) * n * n * m,
- *   with a division as C has it. The growth is over exactly when t is the total: with the last move, or, where T is below
- *   n * (n + m) and the total 0, with pbm_grow itself. Then all new blocks come at once, on stripes of the tail too.
- *   Reads and writes are accepted between any two moves.
+ *   goes by zones of n + m stripes, with n * m moves each; n zones are a group. Stripes behind the last whole group are the
+ *   tail: what stands there stays. So any T will do, whatever m is, and the total of moves is
+ *   T / (n * (n + m)) * n * n * m, with a division as C has it. The growth is over exactly when t is the total: with the
+ *   last move, or, where T is below n * (n + m) and the total 0, with pbm_grow itself. Reads and writes are accepted between
+ *   any two moves.
+ *
+ * NEW BLOCKS
+ *   come as zones finish. A zone is finished once all its moves are done, so t / (n * m) zones are. While t is below the
+ *   total there are T * (n - 1) + t / (n * m) * (n + m) * m blocks. Once it is the total there are T * (n + m - 1): then all
+ *   that are left come at once, on stripes of the tail too.
+ *   - A pbm_advance brings the new blocks of every zone that its moves finish: often none, with a large k many. pbm_status
+ *     tells the capacity, which never falls in a growth. A new block that has not come is refused, 8.
+ *   - A new block may be used at once, while other zones move. It is zero until it is written; then it holds what it was
+ *     last given, as all others do, with a disk out and behind a rebuild too.
+ *   - It never moves: what pbm_locate tells of it stays so.
  *
  * A DISK THAT IS OUT
  *   may hold any bytes. Only pbm_format and pbm_rebuild touch it, which write it; no other call reads or writes a byte of
@@ -92,7 +103,7 @@
  *    5  nothing to move   m is 0, or t is the total: advance
  *    6  geometry          n, B or T outside its limits: format; m outside its limits: grow
  *    7  images            length not N * T * B (grow: the new N): all but out, status, locate, owner
- *    8  past the end      block number at or above capacity: read, write, locate; S not below T: owner
+ *    8  past the end      block number at or above the capacity now: read, write, locate; S not below T: owner
  *    9  block length      lent block not B bytes: read, write
  *   10  disk              not below N, or out already: out; not the disk that is out: rebuild; not below N: owner
  */
@@ -211,7 +222,8 @@ uint8_t pbm_write(const uint8_t *record, size_t record_len, uint8_t *images, siz
 
 /*
  * Begins a growth by m disks: zeroes the images behind the first n disks, whatever they held, and sets m. No block has
- * moved yet. If the total is 0 the growth is over at once, and the new blocks are there. An array grows once.
+ * moved yet, and no block is new. If the total is 0 the growth is over at once, and all new blocks are there. An array
+ * grows once.
  * Lent: record, written; images of n + m disks, those of the new ones written.
  * Refusals: 1 record, 2 lost, 3 degraded, 4 grown, 6 geometry, 7 images.
  */
@@ -219,8 +231,9 @@ uint8_t pbm_grow(uint8_t *record, size_t record_len, uint8_t *images, size_t ima
 
 /*
  * Makes the next k moves of the growth, or all that are left if those are fewer, and sets `made` to how many, which is
- * t's rise. A move copies a block to its new place and zeroes the place it left. With k = 0 it makes none. Call it while
- * pbm_status tells fewer moves than their total: where that is 0, not at all.
+ * t's rise. A move copies a block to its new place and zeroes the place it left. With k = 0 it makes none. Each zone that
+ * is finished by these moves raises the capacity (NEW BLOCKS). Call it while pbm_status tells fewer moves than their total:
+ * where that is 0, not at all.
  * Lent: record and images, written; made, written. If it is killed, k bounds what is in doubt (A CALL THAT IS KILLED).
  * Refusals: 1 record, 2 lost, 3 degraded, 5 nothing to move, 7 images.
  */
@@ -242,8 +255,9 @@ uint8_t pbm_out(uint8_t *record, size_t record_len, uint64_t disk);
 uint8_t pbm_rebuild(uint8_t *record, size_t record_len, uint8_t *images, size_t images_len, uint64_t disk);
 
 /*
- * Tells the capacity in blocks, the moves done, their total (0 before growth and in one with no whole group), the health
- * (PBM_HEALTH_WHOLE, _OUT or _LOST) and the disk that is out (0 unless health is PBM_HEALTH_OUT).
+ * Tells the capacity in blocks, which rises as zones finish, the moves done, their total (0 before growth and in one with
+ * no whole group), the health (PBM_HEALTH_WHOLE, _OUT or _LOST) and the disk that is out (0 unless health is
+ * PBM_HEALTH_OUT).
  * Lent: record, read; the five numbers, written.
  * Refusals: 1 record.
  */

@@ -10,19 +10,24 @@
 enum {
     NONE,
     LOST_WRITE,   /* a write to a block that was moved is dropped: the next read gives the preceding log's solution */
-    OLD_RECORD,   /* reads go by the record of one move earlier */
+    OLD_RECORD,   /* reads go by the record of one move earlier, if the block was there then */
     OLD_PARITY,   /* a write leaves the parity as it was, which shows only when a disk is lost */
     PLACE_LEFT,   /* some moves leave the old bytes in the place left */
     MADE_UP,      /* advance reports one move more than it made */
     NO_REBUILD,   /* rebuild writes the record only */
     READ_REFUSED, /* reads are refused that should not be */
-    NOT_REFUSED   /* an advance is not refused that should be */
+    NOT_REFUSED,  /* an advance is not refused that should be */
+    ZONE_EARLY,   /* a zone is held as finished once its first move is done: status tells its new blocks too early */
+    ZONE_LATE,    /* status tells no new block before the growth is over */
+    NEW_SPOILED,  /* the first move of a zone zeroes the new blocks of the zone before, as if they were blanks still */
+    NEW_MOVED     /* the new blocks of a stripe are counted from the highest disk, and with the last move from the lowest */
 };
 
 uint8_t __real_pbm_read(const uint8_t *, size_t, const uint8_t *, size_t, uint64_t, uint8_t *, size_t);
 uint8_t __real_pbm_write(const uint8_t *, size_t, uint8_t *, size_t, uint64_t, const uint8_t *, size_t);
 uint8_t __real_pbm_advance(uint8_t *, size_t, uint8_t *, size_t, uint64_t, uint64_t *);
 uint8_t __real_pbm_rebuild(uint8_t *, size_t, uint8_t *, size_t, uint64_t);
+uint8_t __real_pbm_status(const uint8_t *, size_t, uint64_t *, uint64_t *, uint64_t *, uint64_t *, uint64_t *);
 
 /* A number of the record, least byte first. */
 static uint64_t number(const uint8_t *record, int at, int bytes)
@@ -33,8 +38,32 @@ static uint64_t number(const uint8_t *record, int at, int bytes)
 }
 
 static uint64_t moves(const uint8_t *record) { return number(record, PBM_AT_MOVES, 4); }
+static uint64_t old_blocks(const uint8_t *record) { return number(record, PBM_AT_STRIPES, 4) * (record[PBM_AT_N] - 1); }
 static size_t block_len(const uint8_t *record) { return number(record, PBM_AT_BLOCK_LEN, 2); }
 static size_t disk_len(const uint8_t *record) { return number(record, PBM_AT_STRIPES, 4) * block_len(record); }
+
+/* The moves of a zone, and its new blocks. */
+static uint64_t zone_moves(const uint8_t *record) { return record[PBM_AT_N] * record[PBM_AT_M]; }
+static uint64_t zone_blocks(const uint8_t *record) { return (record[PBM_AT_N] + record[PBM_AT_M]) * record[PBM_AT_M]; }
+
+/* Capacity and total, without a fault. */
+struct figures { uint64_t capacity, total; };
+
+static struct figures figures(const uint8_t *record)
+{
+    struct figures f;
+    uint64_t done, health, out_disk;
+    __real_pbm_status(record, PBM_RECORD_LEN, &f.capacity, &done, &f.total, &health, &out_disk);
+    return f;
+}
+
+/* The block that this number stands for. */
+static uint64_t meant(const uint8_t *record, uint64_t block)
+{
+    uint64_t m = record[PBM_AT_M], k = block - old_blocks(record);
+    if (FAULT != NEW_MOVED || block < old_blocks(record) || moves(record) == figures(record).total) return block;
+    return block - k % m + (m - 1 - k % m);
+}
 
 static uint8_t *copy_of(const uint8_t *bytes, size_t len)
 {
@@ -47,14 +76,16 @@ static uint8_t *copy_of(const uint8_t *bytes, size_t len)
 uint8_t __wrap_pbm_read(const uint8_t *record, size_t record_len, const uint8_t *images, size_t images_len, uint64_t block,
                         uint8_t *into, size_t into_len)
 {
+    uint64_t stripe, disk;
     uint8_t old[PBM_RECORD_LEN];
     memcpy(old, record, sizeof old);
     if (FAULT == READ_REFUSED && moves(record) >= 300) return PBM_PAST_THE_END;
     if (FAULT == OLD_RECORD && moves(record) > 0) {
         int i = PBM_AT_MOVES;
         while (old[i]-- == 0) i++;
+        if (pbm_locate(old, record_len, block, &stripe, &disk) != PBM_DONE) memcpy(old, record, sizeof old);
     }
-    return __real_pbm_read(old, record_len, images, images_len, block, into, into_len);
+    return __real_pbm_read(old, record_len, images, images_len, meant(record, block), into, into_len);
 }
 
 uint8_t __wrap_pbm_write(const uint8_t *record, size_t record_len, uint8_t *images, size_t images_len, uint64_t block,
@@ -62,8 +93,9 @@ uint8_t __wrap_pbm_write(const uint8_t *record, size_t record_len, uint8_t *imag
 {
     uint64_t stripe, disk, role = PBM_BLANK, none;
     uint8_t answer, *parity, *copy;
+    block = meant(record, block);
     pbm_locate(record, record_len, block, &stripe, &disk);
-    if (FAULT == LOST_WRITE && disk >= record[PBM_AT_N]) return PBM_DONE;
+    if (FAULT == LOST_WRITE && disk >= record[PBM_AT_N] && block < old_blocks(record)) return PBM_DONE;
     for (disk = 0; role != PBM_PARITY; disk++) pbm_owner(record, record_len, stripe, disk, &role, &none);
     parity = images + (disk - 1) * disk_len(record) + stripe * block_len(record);
     copy = copy_of(parity, block_len(record));
@@ -71,6 +103,17 @@ uint8_t __wrap_pbm_write(const uint8_t *record, size_t record_len, uint8_t *imag
     if (FAULT == OLD_PARITY) memcpy(parity, copy, block_len(record));
     free(copy);
     return answer;
+}
+
+/* Zeroes the new blocks of the zone finished last, and keeps parity right. */
+static void spoil(const uint8_t *record, uint8_t *images, size_t images_len)
+{
+    uint64_t end = figures(record).capacity, block = end - zone_blocks(record);
+    uint8_t *zeroes = calloc(1, block_len(record));
+    if (zeroes == NULL) abort();
+    for (; block < end; block++)
+        __real_pbm_write(record, PBM_RECORD_LEN, images, images_len, block, zeroes, block_len(record));
+    free(zeroes);
 }
 
 uint8_t __wrap_pbm_advance(uint8_t *record, size_t record_len, uint8_t *images, size_t images_len, uint64_t k, uint64_t *made)
@@ -81,6 +124,8 @@ uint8_t __wrap_pbm_advance(uint8_t *record, size_t record_len, uint8_t *images, 
     answer = __real_pbm_advance(record, record_len, images, images_len, k, made);
     if (leaves) memcpy(images, copy, old_len);
     free(copy);
+    if (FAULT == NEW_SPOILED && moves(record) > zone_moves(record) && moves(record) % zone_moves(record) == 1)
+        spoil(record, images, images_len);
     if (FAULT == MADE_UP && answer == PBM_DONE) ++*made;
     return FAULT == NOT_REFUSED && answer == PBM_DEGRADED ? PBM_DONE : answer;
 }
@@ -91,5 +136,14 @@ uint8_t __wrap_pbm_rebuild(uint8_t *record, size_t record_len, uint8_t *images, 
     answer = __real_pbm_rebuild(record, record_len, images, images_len, disk);
     if (FAULT == NO_REBUILD) memcpy(images, copy, images_len);
     free(copy);
+    return answer;
+}
+
+uint8_t __wrap_pbm_status(const uint8_t *record, size_t record_len, uint64_t *capacity, uint64_t *done, uint64_t *total,
+                          uint64_t *health, uint64_t *out_disk)
+{
+    uint8_t answer = __real_pbm_status(record, record_len, capacity, done, total, health, out_disk);
+    if (FAULT == ZONE_EARLY && *done < *total && *done % zone_moves(record) > 0) *capacity += zone_blocks(record);
+    if (FAULT == ZONE_LATE && *done < *total) *capacity = old_blocks(record);
     return answer;
 }

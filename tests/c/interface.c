@@ -162,6 +162,41 @@ static void show_words(void)
     printf("word 255: %s\n", pbm_word(255));
 }
 
+/* From 2 moves on: behind move 5 zone 0 is finished, and there are 10 blocks more, which stay where they are. */
+static void show_finished_zone(void)
+{
+    uint64_t number;
+    show_advance(3);
+    show_status();
+    show_place(30);
+    show_write(30, "past");
+    show_owner(2, 1);
+    show_advance(1);
+    show_status();
+    for (number = 30; number < 40; number++) {
+        int answer = pbm_read(record, PBM_RECORD_LEN, images, images_len, number, block, BLOCK);
+        if (answer != PBM_DONE || memcmp(block, "\0\0\0\0", BLOCK) != 0) printf("block %d is not zero\n", (int)number);
+    }
+    show_place(30);
+    show_place(39);
+    show_place(40);
+    show_owner(2, 1);
+    show_owner(5, 3);
+    show_write(35, "3535");
+    show_write(40, "past");
+    show_advance(1);
+    lose(1);
+    show_read(35);
+    show_write(35, "new!");
+    show_write(5, "FIVE");
+    show_read(40);
+    show_rebuild(1);
+    show_advance(1);
+    show_read(35);
+    show_place(35);
+    show_record();
+}
+
 /* No whole group: 57 blocks, and with the grow itself 76. */
 static void show_growth_at_once(void)
 {
@@ -237,11 +272,13 @@ int main(void)
     show_rebuild(3);
     show_read(4);
     show_record();
+    show_finished_zone();
 
     show_advance(100);
     show_advance(100);
     show_status();
     show_place(30);
+    show_read(35);
     show_owner(1, 2);
     show_write(59, "last");
     lose(0);

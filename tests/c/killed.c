@@ -1,7 +1,7 @@
 /*
  * What a kill leaves (pbm.h, "A call that is killed"): calls are stopped inside by a page that they may not touch, in a process
  * that shares record and images with this one, and this one looks at what is left. Every place is one page. 15 stripes are a group,
- * two are a tail.
+ * two are a tail; every 6 moves finish a zone, which has 10 new blocks.
  */
 #define _GNU_SOURCE
 #include "pbm.h"
@@ -53,17 +53,31 @@ static void advance(void) { uint64_t made; done(pbm_advance(record, PBM_RECORD_L
 static uint64_t number;
 static void write_block(void) { done(pbm_write(record, PBM_RECORD_LEN, **images, len_of(DISKS), number, data, BLOCK)); }
 
-/* An array after so many moves, each block with bytes of its own, none of them 0. */
+static uint64_t capacity(void)
+{
+    uint64_t blocks, moves, total, health, out;
+    done(pbm_status(record, PBM_RECORD_LEN, &blocks, &moves, &total, &health, &out));
+    return blocks;
+}
+
+static void fill_from(uint64_t first, int disks)
+{
+    for (uint64_t b = first; b < capacity(); b++) {
+        fill(b);
+        done(pbm_write(record, PBM_RECORD_LEN, **images, len_of(disks), b, data, BLOCK));
+    }
+}
+
+/* An array after so many moves, each block with bytes of its own, none of them 0, the new ones of finished zones too. */
 static void prepare(uint64_t moves)
 {
     format();
-    for (uint64_t b = 0; b < STRIPES * (OLD - 1); b++) {
-        fill(b);
-        done(pbm_write(record, PBM_RECORD_LEN, **images, len_of(OLD), b, data, BLOCK));
-    }
+    fill_from(0, OLD);
     grow();
     budget = moves;
     if (moves > 0) advance();
+    must(capacity() == STRIPES * (OLD - 1) + moves / 6 * 10, "the capacity");
+    fill_from(STRIPES * (OLD - 1), DISKS);
 }
 
 static void stop(int signal_number) { (void)signal_number, _exit(STOPPED); }
@@ -131,7 +145,8 @@ static void kill_advances(void)
 static void kill_writes(void)
 {
     int kills = 0;
-    for (number = 0; number < STRIPES * (OLD - 1); number++)
+    uint64_t blocks = STRIPES * (OLD - 1) + 10; /* after 9 moves */
+    for (number = 0; number < blocks; number++)
         for (int at_data = 0; at_data < 2; at_data++, kills++) {
             uint64_t stripe, disk, parity, role = PBM_BLANK, none;
             prepare(9);
@@ -149,7 +164,7 @@ static void kill_writes(void)
 static void read_all(void)
 {
     static uint8_t into[BLOCK];
-    for (uint64_t b = 0; b < STRIPES * (OLD - 1); b++) {
+    for (uint64_t b = 0; b < capacity(); b++) {
         fill(b);
         done(pbm_read(record, PBM_RECORD_LEN, **images, len_of(DISKS), b, into, BLOCK));
         must(memcmp(into, data, BLOCK) == 0, "every block is as it was written");

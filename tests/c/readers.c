@@ -1,7 +1,7 @@
 /*
  * Calls that only read, many at once on one array (pbm.h, rule 4): four threads read every block and ask all that can be asked,
  * and compare with what was written and with what one thread was told before. Record and images are protected against writing,
- * a disk that is out against all.
+ * a disk that is out against all. Of 3 zones one is finished, so that 10 new blocks are among those read.
  */
 #define _GNU_SOURCE
 #include "pbm.h"
@@ -12,7 +12,8 @@
 #include <string.h>
 #include <sys/mman.h>
 
-enum { OLD = 3, NEW = 2, DISKS = OLD + NEW, STRIPES = 15, BLOCK = 4096, DISK = STRIPES * BLOCK, BLOCKS = STRIPES * (OLD - 1) };
+enum { OLD = 3, NEW = 2, DISKS = OLD + NEW, STRIPES = 15, BLOCK = 4096, DISK = STRIPES * BLOCK };
+enum { OLD_BLOCKS = STRIPES * (OLD - 1), BLOCKS = OLD_BLOCKS + 10 };
 enum { THREADS = 4, TURNS = 20 };
 
 static uint8_t *record, *images;
@@ -75,6 +76,7 @@ static void readers(const char *when)
     pthread_t threads[THREADS];
     int from[THREADS];
     ask(&first);
+    must(first.status[0] == BLOCKS, "the capacity");
     for (int i = 0; i < THREADS; i++) {
         from[i] = i * BLOCKS / THREADS;
         must(pthread_create(&threads[i], NULL, reader, &from[i]) == 0, "a thread starts");
@@ -85,19 +87,25 @@ static void readers(const char *when)
 
 static void allow(uint8_t *bytes, size_t len, int access) { must(mprotect(bytes, len, access) == 0, "mprotect"); }
 
-int main(void)
+static void write_blocks(uint64_t first, uint64_t end, int disks)
 {
     uint8_t block[BLOCK];
+    for (uint64_t b = first; b < end; b++) {
+        fill(block, b);
+        done(pbm_write(record, PBM_RECORD_LEN, images, disks * DISK, b, block, BLOCK));
+    }
+}
+
+int main(void)
+{
     uint64_t made;
     record = map(BLOCK);
     images = map(DISKS * DISK);
     done(pbm_format(record, PBM_RECORD_LEN, images, OLD * DISK, OLD, BLOCK, STRIPES));
-    for (int b = 0; b < BLOCKS; b++) {
-        fill(block, b);
-        done(pbm_write(record, PBM_RECORD_LEN, images, OLD * DISK, b, block, BLOCK));
-    }
+    write_blocks(0, OLD_BLOCKS, OLD);
     done(pbm_grow(record, PBM_RECORD_LEN, images, DISKS * DISK, NEW));
     done(pbm_advance(record, PBM_RECORD_LEN, images, DISKS * DISK, 9, &made));
+    write_blocks(OLD_BLOCKS, BLOCKS, DISKS);
     allow(record, BLOCK, PROT_READ);
     allow(images, DISKS * DISK, PROT_READ);
     readers("whole, in the middle of a growth");

@@ -58,6 +58,19 @@ static void status(void)
 static void locate(void) { set(OLD, NEW, 0, 0); answer = pbm_locate(record, sizeof record, 7, numbers, numbers + 1); }
 static void owner(void) { set(OLD, NEW, 0, 0); answer = pbm_owner(record, sizeof record, 7, 3, numbers, numbers + 1); }
 
+/* 256 moves: zone 0 is finished. Its last new block, and the place of it. */
+enum { NEWEST = STRIPES * (OLD - 1) + (OLD + NEW) * NEW - 1 };
+static void set_zone(void) { set(OLD, NEW, 0, 0); record[PBM_AT_MOVES + 1] = 1; }
+static void read_new(void) { set_zone(); answer = pbm_read(record, sizeof record, images, images_len, NEWEST, block, BLOCK); }
+static void write_new(void) { set_zone(); answer = pbm_write(record, sizeof record, images, images_len, NEWEST, block, BLOCK); }
+static void locate_new(void) { set_zone(); answer = pbm_locate(record, sizeof record, NEWEST, numbers, numbers + 1); }
+static void owner_new(void)
+{
+    locate_new();
+    answer = pbm_owner(record, sizeof record, numbers[0], numbers[1], numbers + 2, numbers + 3);
+    if (numbers[2] != PBM_DATA || numbers[3] != NEWEST) exit(3);
+}
+
 /* The bytes of the stack that one run touches. */
 static int depth(void (*call)(void))
 {
@@ -111,5 +124,9 @@ int main(void)
     tell("status", status);
     tell("locate", locate);
     tell("owner", owner);
+    tell("read, a new block", read_new);
+    tell("write, a new block", write_new);
+    tell("locate, a new block", locate_new);
+    tell("owner, a new block", owner_new);
     return 0;
 }

@@ -11,6 +11,8 @@ pub struct Caller {
     planned: u64,
     /// Numbers that calls were given before.
     old: Vec<u64>,
+    /// The blocks of the last writes.
+    written: [u64; 8],
 }
 
 /// How often each call of `NAMES` is drawn: format, read, write, grow, advance, out, rebuild, status, locate, owner.
@@ -32,6 +34,7 @@ impl Caller {
             random,
             planned: 1,
             old: vec![0],
+            written: [0; 8],
         }
     }
 
@@ -74,7 +77,7 @@ impl Caller {
         let call = match self.weighted(weights(&numbers)) {
             0 => self.format(),
             1 => Call::Read {
-                block: self.block(flat),
+                block: self.block_to_read(flat),
             },
             2 => Call::Write {
                 block: self.block(flat),
@@ -165,12 +168,12 @@ impl Caller {
 
     fn block(&mut self, flat: &Flat) -> u64 {
         let Record { n, m, stripes, .. } = flat.numbers;
-        let (capacity, old_capacity) = (flat.capacity(), stripes * (n - 1));
+        let (capacity, old_capacity) = (flat.capacity(), flat.numbers.old_capacity());
         match self.random.below(16) {
             0..=3 if capacity > old_capacity => {
                 old_capacity + self.random.below(capacity - old_capacity)
             }
-            // one of the last old or of the last new ones: of the tail, if there is one
+            // one of the last old or of the last new ones: of the tail, if there is one, or of the zone finished last
             4 | 5 => {
                 let end = *self.random.pick(&[old_capacity, capacity]);
                 end - 1 - self.random.below(end.min(2 * n))
@@ -178,6 +181,13 @@ impl Caller {
             0..=12 => self.random.below(capacity),
             13 => capacity + self.random.below(stripes * m + 1),
             _ => self.odd(capacity),
+        }
+    }
+
+    fn block_to_read(&mut self, flat: &Flat) -> u64 {
+        match self.random.one_in(3) {
+            true => *self.random.pick(&self.written),
+            false => self.block(flat),
         }
     }
 
@@ -191,10 +201,12 @@ impl Caller {
 
     fn budget(&mut self, numbers: &Record) -> u64 {
         let total = numbers.total();
-        match self.random.below(10) {
+        match self.random.below(12) {
             0..=2 => self.random.below(4),
             3..=5 => self.random.below(2 * numbers.n * numbers.disks()),
             6..=8 => self.random.below(total / 4 + 2),
+            // to the end of the zone, a move less or a move more
+            9 | 10 => left_of_zone(numbers) - 1 + self.random.below(3),
             _ => self.odd(total - numbers.moves),
         }
     }
@@ -235,6 +247,10 @@ impl Caller {
     }
 
     fn remember(&mut self, call: Call) {
+        if let Call::Write { block } = call {
+            self.written.rotate_right(1);
+            self.written[0] = block;
+        }
         match call {
             Call::Read { block } | Call::Write { block } | Call::Locate { block } => {
                 self.old.push(block)
@@ -294,6 +310,12 @@ pub fn any_tail(random: &mut Random, n: u64, m: u64) -> u64 {
         3 => random.below(n * (n + m)),
         _ => *random.pick(&tails(n, m)),
     }
+}
+
+/// The moves from here to the end of the zone, at least 1; before a growth, 1.
+fn left_of_zone(numbers: &Record) -> u64 {
+    let zone = (numbers.n * numbers.m).max(1);
+    zone - numbers.moves % zone
 }
 
 fn weights(numbers: &Record) -> &'static Weights {

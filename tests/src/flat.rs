@@ -37,7 +37,8 @@ impl Flat {
 
     /// One call. `block` is a write's data, or what a read fills.
     pub fn step(&mut self, call: Call, lent: &Lent, block: &mut [u8]) -> Answer {
-        assert_eq!(self.numbers.capacity(), self.capacity());
+        let counted = [self.numbers.capacity(), self.layout.capacity()];
+        assert_eq!(counted, [self.capacity(); 2], "{:?}", self.numbers);
         match refusal(&self.numbers, call, lent) {
             0 => self.accept(call, block),
             number => Answer::refused(number),
@@ -60,13 +61,13 @@ impl Flat {
             Call::Grow { m } => {
                 numbers.m = m;
                 self.layout.grow(m);
-                self.lengthen();
+                self.lengthen(0);
             }
             Call::Advance { k } => {
                 let made = k.min(numbers.total() - numbers.moves);
                 numbers.moves += made;
                 self.layout.advance(made);
-                self.lengthen();
+                self.lengthen(made);
                 return Answer::done(&[made]);
             }
             Call::Out { disk } => {
@@ -86,18 +87,25 @@ impl Flat {
         Answer::done(&[])
     }
 
-    /// "A grow or advance that brings t to the total puts T × m zero blocks behind the list."
-    fn lengthen(&mut self) {
-        let Record {
-            m,
-            stripes,
-            block_len,
-            ..
-        } = self.numbers;
-        if self.numbers.is_grown() {
-            let len = self.blocks.len() as u64 + stripes * m * block_len;
-            self.blocks.resize(len as usize, 0);
+    /// "The flat list lengthens by just these zero blocks as they come, at grow itself where the total is 0": behind each of the
+    /// moves just made that is the last of a zone by those of its stripes, and at the total by those of the tail.
+    fn lengthen(&mut self, made: u64) {
+        let Record { n, m, moves, .. } = self.numbers;
+        for t in moves - made + 1..=moves {
+            if t % (n * m) == 0 {
+                self.add_stripes(n + m);
+            }
         }
+        if self.numbers.is_grown() {
+            self.add_stripes(self.numbers.tail());
+        }
+    }
+
+    /// The new blocks of so many stripes, m of each.
+    fn add_stripes(&mut self, stripes: u64) {
+        let Record { m, block_len, .. } = self.numbers;
+        let len = self.blocks.len() + (stripes * m * block_len) as usize;
+        self.blocks.resize(len, 0);
     }
 
     fn status(&self) -> Answer {

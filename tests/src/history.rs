@@ -46,8 +46,13 @@ struct History<'a, M> {
     wanted: Vec<u8>,
     /// Disks reported out, with no rebuild and no format since.
     out: Vec<u64>,
+    /// The new blocks that were written while the growth was under way, and how many calls of `MEANWHILE` have come since.
+    written: BTreeMap<u64, usize>,
     tally: &'a mut Tally,
 }
+
+/// What comes, in this order, between a new block's write and the read that is looked for.
+const MEANWHILE: [&str; 3] = ["out", "rebuild", "advance"];
 
 impl<'a, M: Memory> History<'a, M> {
     /// "The list opens with an accepted format, lent any record and images."
@@ -74,6 +79,7 @@ impl<'a, M: Memory> History<'a, M> {
             images: Vec::new(),
             wanted: Vec::new(),
             out: Vec::new(),
+            written: BTreeMap::new(),
             tally,
         };
         let answer = history.perform(call, &lent);
@@ -109,6 +115,7 @@ impl<'a, M: Memory> History<'a, M> {
             block_len: lent.block.len(),
         };
         let mut block = lent.block.clone();
+        let before = self.flat.numbers;
         let wanted = self.flat.step(call, &lengths, &mut block);
         assert_eq!(
             answer, wanted,
@@ -124,6 +131,8 @@ impl<'a, M: Memory> History<'a, M> {
 
         self.tally.count(call, answer.number);
         if answer.number == 0 {
+            self.tally.note(call, &before, &self.flat);
+            self.follow(call, &before);
             self.accepted(call, lent);
             assert!(
                 parities == self.parity_values(call),
@@ -137,7 +146,6 @@ impl<'a, M: Memory> History<'a, M> {
     }
 
     fn accepted(&mut self, call: Call, lent: &Bytes) {
-        self.tally.note(call, &self.flat);
         match call {
             Call::Out { disk } => self.out.push(disk),
             Call::Rebuild { .. } | Call::Format { .. } => self.out.clear(),
@@ -155,6 +163,32 @@ impl<'a, M: Memory> History<'a, M> {
         }
         if call.takes_images() {
             self.look_at_images(call, lent);
+        }
+    }
+
+    /// Follows new blocks from their write through `MEANWHILE` to their read, all while the growth is under way.
+    fn follow(&mut self, call: Call, before: &Record) {
+        let numbers = &self.flat.numbers;
+        if numbers.m == 0 || numbers.is_grown() {
+            self.written.clear();
+            return;
+        }
+        // an advance of no moves does not count
+        let counts = !matches!(call, Call::Advance { .. }) || numbers.moves > before.moves;
+        for come in self.written.values_mut() {
+            if counts && MEANWHILE.get(*come) == Some(&call.name()) {
+                *come += 1;
+            }
+        }
+        match call {
+            Call::Write { block } if block >= numbers.old_capacity() => {
+                self.written.insert(block, 0);
+            }
+            Call::Read { block } => {
+                let through = self.written.get(&block) == Some(&MEANWHILE.len());
+                self.tally.sights(call, &[(through, THROUGH)]);
+            }
+            _ => {}
         }
     }
 
@@ -225,8 +259,15 @@ pub struct Tally {
     sights: BTreeMap<String, u64>,
 }
 
+/// A read that `History::follow` looks for.
+const THROUGH: &str =
+    "a new block, behind its write a disk out, its rebuild and a move, the growth under way";
+
 /// Situations that every large run must have come by.
 const SIGHTS: &[&str] = &[
+    "advance: new blocks, the growth under way",
+    "advance: new blocks of several zones, the growth under way",
+    "advance: no new block, the growth under way with some",
     "advance: the growth is complete",
     "advance: the growth is under way",
     "advance: the growth with a tail is complete",
@@ -247,20 +288,26 @@ const SIGHTS: &[&str] = &[
     "grow: whole groups and a zone but for 1 stripe",
     "grow: whole groups and n stripes",
     "out: the growth is under way",
+    "out: the growth is under way with new blocks",
     "out: the growth with a tail is under way",
     "read: a block of the disk out",
     "read: a block of the tail",
     "read: a block of the tail on the disk out",
     "read: a moved block",
     "read: a new block",
+    "read: a new block between two moves of a later zone",
     "read: a new block of no whole group",
     "read: a new block of the disk out",
+    "read: a new block of the disk out, the growth under way",
     "read: a new block of the tail",
     "read: a new block of the tail on the disk out",
+    "read: a new block, behind its write a disk out, its rebuild and a move, the growth under way",
+    "read: a new block, the growth under way",
     "read: the growth is under way",
     "rebuild: no whole group",
     "rebuild: the growth is complete",
     "rebuild: the growth is under way",
+    "rebuild: the growth is under way with new blocks",
     "rebuild: the growth with a tail is complete",
     "rebuild: the growth with a tail is under way",
     "write: a block of the disk out",
@@ -268,10 +315,14 @@ const SIGHTS: &[&str] = &[
     "write: a block of the tail on the disk out",
     "write: a moved block",
     "write: a new block",
+    "write: a new block between two moves of a later zone",
     "write: a new block of no whole group",
     "write: a new block of the disk out",
+    "write: a new block of the disk out, the growth under way",
     "write: a new block of the tail",
     "write: a new block of the tail on the disk out",
+    "write: a new block with its parity on the disk out, the growth under way",
+    "write: a new block, the growth under way",
     "write: a moved parity",
     "write: a parity of the disk out",
     "write: a parity of the tail on the disk out",
@@ -283,11 +334,12 @@ impl Tally {
         self.answers[call.kind()][number as usize] += 1;
     }
 
-    /// Notes what is remarkable about an accepted call, by the numbers behind it.
-    fn note(&mut self, call: Call, flat: &Flat) {
+    /// Notes what is remarkable about an accepted call, by the numbers before it and behind it.
+    fn note(&mut self, call: Call, before: &Record, flat: &Flat) {
         let numbers = &flat.numbers;
         let (is_grown, shape) = (numbers.is_grown(), (numbers.n, numbers.m));
         let under_way = numbers.moves > 0 && !is_grown;
+        let has_new = numbers.capacity() > numbers.old_capacity();
         // of whole groups and a tail
         let has_tail = numbers.total() > 0 && numbers.tail() > 0;
         self.sights(
@@ -295,6 +347,10 @@ impl Tally {
             &[
                 (is_grown, "the growth is complete"),
                 (under_way, "the growth is under way"),
+                (
+                    under_way && has_new,
+                    "the growth is under way with new blocks",
+                ),
                 (is_grown && has_tail, "the growth with a tail is complete"),
                 (under_way && has_tail, "the growth with a tail is under way"),
                 (is_grown && numbers.moves == 0, "no whole group"),
@@ -306,6 +362,7 @@ impl Tally {
         );
         match call {
             Call::Grow { .. } => self.note_tail(call, numbers),
+            Call::Advance { .. } if under_way => self.note_new_blocks(call, before, numbers),
             Call::Read { block } | Call::Write { block } => self.note_block(call, block, flat),
             _ => {}
         }
@@ -329,11 +386,33 @@ impl Tally {
         }
     }
 
+    /// By an advance that does not end the growth.
+    fn note_new_blocks(&mut self, call: Call, before: &Record, numbers: &Record) {
+        let came = numbers.capacity() - before.capacity();
+        let moved = numbers.moves > before.moves;
+        self.sights(
+            call,
+            &[
+                (came > 0, "new blocks, the growth under way"),
+                (
+                    came > numbers.disks() * numbers.m,
+                    "new blocks of several zones, the growth under way",
+                ),
+                (
+                    came == 0 && moved && before.capacity() > before.old_capacity(),
+                    "no new block, the growth under way with some",
+                ),
+            ],
+        );
+    }
+
     fn note_block(&mut self, call: Call, block: u64, flat: &Flat) {
         let numbers = &flat.numbers;
         let (stripe, disk) = flat.layout.place(block);
         let parity = flat.layout.parity(stripe);
-        let is_new = block >= numbers.stripes * (numbers.n - 1);
+        let is_new = block >= numbers.old_capacity();
+        // of a finished zone
+        let is_early = is_new && !numbers.is_grown();
         // behind whole groups
         let in_tail = numbers.total() > 0 && stripe >= numbers.stripes - numbers.tail();
         let out = |disk| numbers.health == Health::Out(disk);
@@ -341,9 +420,22 @@ impl Tally {
             call,
             &[
                 (is_new, "a new block"),
+                (is_early, "a new block, the growth under way"),
+                (
+                    is_early && numbers.moves % (numbers.n * numbers.m) != 0,
+                    "a new block between two moves of a later zone",
+                ),
                 (!is_new && disk >= numbers.n, "a moved block"),
                 (out(disk), "a block of the disk out"),
                 (is_new && out(disk), "a new block of the disk out"),
+                (
+                    is_early && out(disk),
+                    "a new block of the disk out, the growth under way",
+                ),
+                (
+                    is_early && out(parity),
+                    "a new block with its parity on the disk out, the growth under way",
+                ),
                 (
                     is_new && numbers.total() == 0,
                     "a new block of no whole group",

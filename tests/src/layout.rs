@@ -17,6 +17,8 @@ pub struct Layout {
     /// All moves of the growth, in order.
     moves: Vec<Move>,
     made: usize,
+    /// So many stripes, from the first on, have had their blanks made blocks.
+    filled: u64,
     /// The owner of each place, stripe by stripe.
     owners: Vec<Owner>,
     /// The disk of each stripe's parity.
@@ -35,6 +37,7 @@ impl Layout {
             stripes,
             moves: Vec::new(),
             made: 0,
+            filled: 0,
             owners: vec![Owner::Blank; (n * stripes) as usize],
             parity: Vec::new(),
             blocks: Vec::new(),
@@ -96,7 +99,7 @@ impl Layout {
         }
         self.m = m;
         self.moves = of_growth(self.n as i64, m as i64, self.stripes as i64);
-        self.end_if_over();
+        self.fill_finished();
     }
 
     /// Makes the next moves.
@@ -104,17 +107,21 @@ impl Layout {
         for _ in 0..count {
             self.make_move(self.made);
             self.made += 1;
-        }
-        if count > 0 {
-            self.end_if_over();
+            self.fill_finished();
         }
     }
 
-    /// Behind the last move the blanks turn into new blocks, in all stripes, those of no whole group too.
-    fn end_if_over(&mut self) {
-        if self.made == self.moves.len() {
-            self.fill_blanks();
+    /// "After each finished zone its blanks become blocks": a zone is finished if the next move is in a later one. Behind the last
+    /// move all stripes are, those of no whole group too.
+    fn fill_finished(&mut self) {
+        let finished = match self.moves.get(self.made) {
+            Some(next) => next.zone as u64 * self.disks(),
+            None => self.stripes,
+        };
+        for stripe in self.filled..finished {
+            self.fill_blanks(stripe);
         }
+        self.filled = finished;
     }
 
     fn make_move(&mut self, index: usize) {
@@ -143,16 +150,14 @@ impl Layout {
     }
 
     /// "New block T × (n − 1) + k is in stripe k div m, on blank place k mod m counted from the lowest disk."
-    fn fill_blanks(&mut self) {
-        for stripe in 0..self.stripes {
-            let before = self.capacity();
-            for disk in 0..self.disks() {
-                if self.owner(stripe, disk) == Owner::Blank {
-                    self.add(stripe, disk);
-                }
+    fn fill_blanks(&mut self, stripe: u64) {
+        let before = self.capacity();
+        for disk in 0..self.disks() {
+            if self.owner(stripe, disk) == Owner::Blank {
+                self.add(stripe, disk);
             }
-            assert_eq!(self.capacity(), before + self.m, "each stripe has m blanks");
         }
+        assert_eq!(self.capacity(), before + self.m, "each stripe has m blanks");
     }
 
     /// The next block number gets this place.

@@ -1,4 +1,5 @@
-//! The record of document 01, with request (a) of document 02: its fields, its bytes, when it is good, and the numbers that follow from it.
+//! The record of document 01, with requests (a) and (b) of document 02: its fields, its bytes, when it is good, and the numbers
+//! that follow from it.
 
 use std::ops::Range;
 
@@ -76,6 +77,12 @@ pub const GROWING: Record = Record {
     ..BENCH
 };
 
+/// With 7 of them made: zone 0 is finished, so that its blanks are blocks 30 to 39, and zone 1 is begun.
+pub const ZONE_FINISHED: Record = Record {
+    moves: 7,
+    ..GROWING
+};
+
 impl Record {
     /// What format leaves.
     pub fn new(n: u64, block_len: u64, stripes: u64) -> Record {
@@ -147,11 +154,19 @@ impl Record {
         self.m > 0 && self.moves == self.total()
     }
 
+    /// The blocks before growth, which keep their numbers.
+    pub fn old_capacity(&self) -> u64 {
+        self.stripes * (self.n - 1)
+    }
+
+    /// "T × (n − 1) + F × (n + m) × m with F finished zones, and the full figure once t is the total". A zone has n × m
+    /// moves.
     pub fn capacity(&self) -> u64 {
-        if self.is_grown() {
-            self.stripes * (self.n + self.m - 1)
-        } else {
-            self.stripes * (self.n - 1)
+        let Record { n, m, .. } = *self;
+        match m {
+            0 => self.old_capacity(),
+            _ if self.is_grown() => self.stripes * (n + m - 1),
+            _ => self.old_capacity() + self.moves / (n * m) * (n + m) * m,
         }
     }
 

@@ -1,4 +1,5 @@
-//! Document 01's table of refusals, row by row, 1 and 6 as request (a) of document 02 leaves them.
+//! Document 01's table of refusals, row by row, 1 and 6 as request (a) of document 02 leaves them, 8 with the capacity of
+//! request (b).
 
 use crate::pbm::Call::{self, *};
 use crate::record::{Health, Record, RECORD_LEN};

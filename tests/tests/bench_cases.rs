@@ -1,5 +1,5 @@
-//! "Drawers on the bench" of document 01, with what request (a) of document 02 makes of them, through the exported calls; and the
-//! first of them with other stripes, by hand. The cases of the program are in zone_moves.rs.
+//! "Drawers on the bench" of document 01, with what requests (a) and (b) of document 02 make of them, through the exported calls;
+//! and the first of them with other stripes, by hand. The cases of the program are in zone_moves.rs.
 
 use yuzkamide_tests::array::Array;
 use yuzkamide_tests::pbm::{Answer, Call};
@@ -43,13 +43,19 @@ fn owners(array: &mut Array, stripe: u64) -> Vec<[u64; 2]> {
         .collect()
 }
 
+/// Ten more blocks behind each zone, of 6 moves: 5 stripes with 2 blanks each.
 #[test]
-fn total_18_capacity_30_then_60() {
+fn total_18_capacity_30_then_40_50_and_60() {
     let mut array = Array::format(3, 4, 15);
     assert_eq!(array.call(Call::Status), Answer::done(&[30, 0, 0, 0, 0]));
     assert_eq!(array.grow(2), Answer::done(&[]));
     for moves in 0..18 {
-        let status = Answer::done(&[30, moves, 18, 0, 0]);
+        let capacity = match moves {
+            0..6 => 30,
+            6..12 => 40,
+            _ => 50,
+        };
+        let status = Answer::done(&[capacity, moves, 18, 0, 0]);
         assert_eq!(array.call(Call::Status), status);
         assert_eq!(array.advance(1), Answer::done(&[1]));
     }
@@ -103,7 +109,8 @@ fn the_bytes_move_too() {
     }
 }
 
-/// The remainder of p + Z × m − 2i goes negative at move 2 already.
+/// The remainder of p + Z × m − 2i goes negative at move 2 already. New blocks are written as they come, after 6, 12 and 18
+/// moves.
 #[test]
 fn every_block_keeps_its_bytes() {
     let data = |block: u64| [1, 2, 3, block as u8];
@@ -111,11 +118,20 @@ fn every_block_keeps_its_bytes() {
     for block in 0..30 {
         array.write(block, &data(block));
     }
-    for _ in 0..18 {
+    let mut written = 30;
+    for moves in 1..=18 {
         assert_eq!(array.advance(1), Answer::done(&[1]));
-        for block in 0..30 {
+        if [6, 12, 18].contains(&moves) {
+            for block in written..written + 10 {
+                assert_eq!(array.read(block), [0; 4]);
+                array.write(block, &data(block));
+            }
+            written += 10;
+        }
+        for block in 0..written {
             assert_eq!(array.read(block), data(block), "{:?}", array.record());
         }
+        assert_eq!(array.locate(written), PAST_THE_END);
     }
 }
 
@@ -131,25 +147,97 @@ fn block_0_never_moves() {
     }
 }
 
-#[test]
-fn new_blocks_open_with_the_last_move() {
-    let mut array = three_and_two(17);
+fn is_past_the_end(array: &mut Array, block: u64) {
     for call in [
-        Call::Locate { block: 30 },
-        Call::Read { block: 30 },
-        Call::Write { block: 30 },
+        Call::Locate { block },
+        Call::Read { block },
+        Call::Write { block },
     ] {
-        assert_eq!(array.call(call), PAST_THE_END);
+        assert_eq!(array.call(call), PAST_THE_END, "{:?}", array.record());
     }
+}
+
+/// "after 17 moves block 30 exists, as two zones are done"
+#[test]
+fn after_17_moves_two_zones_are_done() {
+    let mut array = three_and_two(17);
+    for (block, place) in [
+        (30, at(0, 3)),
+        (32, at(1, 2)),
+        (39, at(4, 3)),
+        (40, at(5, 3)),
+        (49, at(9, 3)),
+    ] {
+        assert_eq!(array.locate(block), place);
+        assert_eq!(array.read(block), [0; 4]);
+    }
+    is_past_the_end(&mut array, 50);
     assert_eq!(array.advance(100), Answer::done(&[1]));
     assert_eq!(array.advance(100), refused(5));
     assert_eq!(array.locate(30), at(0, 3));
     assert_eq!(array.locate(32), at(1, 2));
+    assert_eq!(array.locate(50), at(10, 3));
     assert_eq!(array.locate(59), at(14, 3));
-    assert_eq!(array.locate(60), PAST_THE_END);
+    is_past_the_end(&mut array, 60);
     assert_eq!(array.read(30), [0; 4]);
     array.write(59, b"last");
     assert_eq!(array.read(59), b"last");
+}
+
+/// Zone 0 is not finished by its first move, nor by its last but one; then its blanks are blocks, and those of zone 1 are not.
+#[test]
+fn the_sixth_move_finishes_zone_0() {
+    for moves in [0, 1, 5] {
+        is_past_the_end(&mut three_and_two(moves), 30);
+    }
+    let mut array = three_and_two(5);
+    assert_eq!(
+        owners(&mut array, 2),
+        [data(5), BLANK, PARITY, data(4), BLANK]
+    );
+    assert_eq!(array.advance(1), Answer::done(&[1]));
+    assert_eq!(
+        owners(&mut array, 2),
+        [data(34), data(35), PARITY, data(4), data(5)]
+    );
+    assert_eq!(
+        owners(&mut array, 5),
+        [data(11), data(10), PARITY, BLANK, BLANK]
+    );
+    for moves in 6..=18 {
+        assert_eq!(three_and_two(moves).locate(34), at(2, 0));
+    }
+    for moves in [6, 7, 11] {
+        is_past_the_end(&mut three_and_two(moves), 40);
+    }
+    for moves in [12, 13, 17] {
+        is_past_the_end(&mut three_and_two(moves), 50);
+    }
+}
+
+/// A new block that was written while zone 1 moves is as it was behind the later moves, with its disk out, with another block of
+/// its stripe written meanwhile, and behind the rebuild.
+#[test]
+fn a_new_block_is_as_it_was() {
+    let mut array = three_and_two(7);
+    array.write(34, b"new!");
+    array.write(4, b"four");
+    for disk in [0, 2] {
+        // of block 34, and of its stripe's parity
+        assert_eq!(array.call(Call::Out { disk }), Answer::done(&[]));
+        array.0.images[disk as usize * 60..][..60].fill(0xff);
+        assert_eq!(array.read(34), b"new!");
+        array.write(5, b"five");
+        assert_eq!(array.read(34), b"new!");
+        assert_eq!(array.call(Call::Rebuild { disk }), Answer::done(&[]));
+        assert_eq!(array.0.images[8..12], *b"new!"); // stripe 2 of disk 0
+        assert_eq!(array.advance(1), Answer::done(&[1]));
+        assert_eq!(array.0.images[8..12], *b"new!");
+    }
+    assert_eq!(array.advance(100), Answer::done(&[9]));
+    for (block, bytes) in [(34, b"new!"), (35, &[0; 4]), (4, b"four"), (5, b"five")] {
+        assert_eq!(array.read(block), bytes);
+    }
 }
 
 #[test]
@@ -157,7 +245,11 @@ fn four_and_one_of_20_stripes() {
     let mut array = Array::format(4, 1, 20);
     assert_eq!(array.grow(1), Answer::done(&[]));
     assert_eq!(array.call(Call::Status), Answer::done(&[60, 0, 16, 0, 0]));
-    assert_eq!(array.advance(100), Answer::done(&[16]));
+    assert_eq!(array.advance(3), Answer::done(&[3]));
+    assert_eq!(array.call(Call::Status), Answer::done(&[60, 3, 16, 0, 0]));
+    assert_eq!(array.advance(6), Answer::done(&[6]));
+    assert_eq!(array.call(Call::Status), Answer::done(&[70, 9, 16, 0, 0]));
+    assert_eq!(array.advance(100), Answer::done(&[7]));
     assert_eq!(array.call(Call::Status), Answer::done(&[80, 16, 16, 0, 0]));
 }
 
@@ -200,15 +292,20 @@ fn four_and_one_of_19_stripes() {
     }
 }
 
-/// T = 17: stripes 15 and 16 keep their places, and their new ones are numbered with all others.
+/// T = 17: stripes 15 and 16 keep their places, and their new ones are numbered behind all others, with the last move.
 #[test]
 fn three_and_two_of_two_stripes_more() {
     let mut array = Array::format(3, 4, 17);
     assert_eq!(array.grow(2), Answer::done(&[]));
     for moves in 0..18 {
+        let capacity = match moves {
+            0..6 => 34,
+            6..12 => 44,
+            _ => 54,
+        };
         assert_eq!(
             array.call(Call::Status),
-            Answer::done(&[34, moves, 18, 0, 0])
+            Answer::done(&[capacity, moves, 18, 0, 0])
         );
         assert_eq!(
             owners(&mut array, 15),
@@ -218,7 +315,7 @@ fn three_and_two_of_two_stripes_more() {
             owners(&mut array, 16),
             [data(33), PARITY, data(32), BLANK, BLANK]
         );
-        assert_eq!(array.locate(34), PAST_THE_END);
+        is_past_the_end(&mut array, capacity);
         assert_eq!(array.advance(1), Answer::done(&[1]));
     }
     assert_eq!(array.advance(1), refused(5));

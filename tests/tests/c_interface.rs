@@ -15,6 +15,10 @@ fn printed() -> String {
         moves: 2,
         ..GROWING
     });
+    let finished = listed(Record {
+        moves: 8,
+        ..GROWING
+    });
     let at_once = listed(Record {
         m: 1,
         ..Record::new(4, 4, 19)
@@ -82,22 +86,48 @@ rebuild 2: 10
 rebuild 3: 0
 read 4: 0 FOUR
 record {moved}
-advance 100: 0 made 16
+advance 3: 0 made 3
+status 0: capacity 30, moves 5 of 18, health 0, out 0
+locate 30: 8 (0, 0)
+write 30: 8
+owner (2, 1): 0 role 0, block 0
+advance 1: 0 made 1
+status 0: capacity 40, moves 6 of 18, health 0, out 0
+locate 30: 0 (0, 3)
+locate 39: 0 (4, 3)
+locate 40: 8 (0, 0)
+owner (2, 1): 0 role 2, block 35
+owner (5, 3): 0 role 0, block 0
+write 35: 0
+write 40: 8
+advance 1: 0 made 1
+out 1: 0
+read 35: 0 3535
+write 35: 0
+write 5: 0
+read 40: 8 3535
+rebuild 1: 0
+advance 1: 0 made 1
+read 35: 0 new!
+locate 35: 0 (2, 1)
+record {finished}
+advance 100: 0 made 10
 advance 100: 5 made 0
 status 0: capacity 60, moves 18 of 18, health 0, out 0
 locate 30: 0 (0, 3)
+read 35: 0 new!
 owner (1, 2): 0 role 2, block 32
 write 59: 0
 out 0: 0
 read 59: 0 last
-read 5: 0 five
+read 5: 0 FIVE
 out 1: 0
-read 59: 2 five
+read 59: 2 FIVE
 status 0: capacity 60, moves 18 of 18, health 2, out 0
 locate 59: 0 (14, 3)
 format, 4 disks of 19 blocks: 0
 write 56: 0
-read 57: 8 five
+read 57: 8 FIVE
 grow by 1: 0
 status 0: capacity 76, moves 0 of 0, health 0, out 0
 advance 1: 5 made 0
@@ -195,7 +225,7 @@ fn the_stack_of_a_call() {
     let output = run(&mut Command::new(program("stack", C, &["tests/c/stack.c"])));
     let printed = text(&output.stdout);
     print!("{printed}");
-    assert_eq!(printed.lines().count(), 13);
+    assert_eq!(printed.lines().count(), 17);
     for line in printed.lines() {
         let (call, depths) = line.split_once(": ").unwrap();
         let (first, then) = depths.split_once(", then ").unwrap();
@@ -234,7 +264,7 @@ fn a_call_that_is_killed() {
     )));
     let printed = "\
 advance, stopped 258 times: the old record, at most k moves in doubt
-write, stopped 68 times: the old record, one block and its parity in doubt
+write, stopped 88 times: the old record, one block and its parity in doubt
 rebuild, grow and format, each stopped 17 times: the old record, and right when made again
 ";
     assert_eq!(text(&output.stdout), printed);

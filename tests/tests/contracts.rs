@@ -18,7 +18,7 @@ const ENTRY_CRATES: &[&str] = &["array", "lent", "pbm"];
 const ENTRY_POINT: &str = "answer_to";
 
 /// Functions inside a crate whose answer is left open where no caller looks at it, and limited there: the blanks below a disk
-/// are counted only if it is blank itself.
+/// are counted only if it is blank itself, and only where all moves of its zone are made, or none.
 const LIMITED: &[(&str, &str)] = &[("layout", "count_below")];
 
 /// A function where it stands.

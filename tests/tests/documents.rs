@@ -2,6 +2,7 @@
 //! and the ratios of docs/SPEED.md those of the report at its end; and what include/pbm.h says of a growth is the library's too.
 
 use std::fs;
+use std::ops::Range;
 use std::path::{Path, PathBuf};
 use std::process::Command;
 use yuzkamide_tests::array::Array;
@@ -84,16 +85,21 @@ fn commands_name_what_is_there() {
     assert!(seen >= 5, "the search finds the commands: {seen}");
 }
 
-/// README says by which toolchain the library is proved and built.
+/// README says by which toolchains the library is proved and built: in brackets, each between backquotes.
 #[test]
-fn the_toolchain_is_the_one_named() {
+fn the_toolchain_is_one_of_those_named() {
     let output = run(Command::new("rt").arg("version"));
+    let version = text(&output.stdout).trim_end();
     let readme = fs::read_to_string(root().join("README.md")).unwrap();
-    let says = format!(
-        "(`rt version` prints `{}`)",
-        text(&output.stdout).trim_end()
+    let (_, behind) = readme
+        .split_once("(`rt version` prints ")
+        .expect("README names a toolchain");
+    let (named, _) = behind.split_once("), gcc").expect("the brackets end");
+    let named: Vec<_> = named.split('`').skip(1).step_by(2).collect();
+    assert!(
+        named.contains(&version),
+        "README.md names {named:?}, and rt is {version}"
     );
-    assert!(readme.contains(&says), "README.md does not say: {says}");
 }
 
 /// A sentence may go on in the next line, behind what begins a line of a comment.
@@ -159,10 +165,8 @@ fn status(array: &mut Array) -> [u64; 3] {
 /// "any T will do": the total, the blocks, and with which call the growth is over.
 #[test]
 fn the_growth_of_the_header() {
-    header_says(
-        "There are T * (n - 1), and T * (n + m - 1) once a growth is over; the new ones are zero.",
-    );
-    header_says("goes by groups of n * (n + m) stripes, with n * n * m moves each.");
+    header_says("There are T * (n - 1), and T * (n + m - 1) once a growth is over;");
+    header_says("goes by zones of n + m stripes, with n * m moves each; n zones are a group.");
     header_says(
         "So any T will do, whatever m is, and the total of moves is T / (n * (n + m)) * n * n * m, \
          with a division as C has it.",
@@ -183,7 +187,8 @@ fn the_growth_of_the_header() {
             if stripes >= group {
                 assert_eq!(status(&mut array), [before, 0, total]);
                 assert_eq!(array.advance(total - 1), Answer::done(&[total - 1]));
-                assert_eq!(status(&mut array), [before, total - 1, total]);
+                let [capacity, moves, _] = status(&mut array);
+                assert!(capacity < after && moves < total);
                 assert_eq!(array.advance(1), Answer::done(&[1]));
             }
             assert_eq!(status(&mut array), [after, total, total]);
@@ -191,6 +196,88 @@ fn the_growth_of_the_header() {
             assert!((before..after).all(|block| array.read(block) == [0]));
         }
     }
+}
+
+/// "come as zones finish": how many there are, what they hold and where they stand, in advances of so many moves.
+#[test]
+fn the_new_blocks_of_the_header() {
+    header_says(
+        "A zone is finished once all its moves are done, so t / (n * m) zones are. While t is below the total there are \
+         T * (n - 1) + t / (n * m) * (n + m) * m blocks. Once it is the total there are T * (n + m - 1): then all that are left \
+         come at once, on stripes of the tail too.",
+    );
+    header_says(
+        "A pbm_advance brings the new blocks of every zone that its moves finish: often none, with a large k many. pbm_status \
+         tells the capacity, which never falls in a growth. A new block that has not come is refused, 8.",
+    );
+    header_says(
+        "A new block may be used at once, while other zones move. It is zero until it is written; then it holds what it was last \
+         given, as all others do, with a disk out and behind a rebuild too.",
+    );
+    header_says("It never moves: what pbm_locate tells of it stays so.");
+    header_says(
+        "8  past the end  block number at or above the capacity now: read, write, locate; S not below T: owner",
+    );
+    for (n, m, stripes) in [(3, 2, 15), (3, 2, 32), (4, 1, 23), (5, 3, 47)] {
+        for k in [1, 2, n * m, n * m + 1, 2 * n * m + 1] {
+            check_new_blocks(n, m, stripes, k);
+        }
+    }
+}
+
+/// The capacity by the header's formula, with a division as Rust has it.
+fn capacity_by(n: u64, m: u64, stripes: u64, t: u64) -> u64 {
+    let total = stripes / (n * (n + m)) * n * n * m;
+    match t < total {
+        true => stripes * (n - 1) + t / (n * m) * (n + m) * m,
+        false => stripes * (n + m - 1),
+    }
+}
+
+fn check_new_blocks(n: u64, m: u64, stripes: u64, k: u64) {
+    let data = |block: u64| [1 + (block % 255) as u8];
+    let mut array = Array::format(n, 1, stripes);
+    let [mut capacity, ..] = status(&mut array);
+    let first = capacity;
+    assert_eq!(array.grow(m), Answer::done(&[]));
+    let total = status(&mut array)[2];
+    // where each new block stood when it came; every other one is written then
+    let mut came = Vec::new();
+    while array.record().moves < total {
+        let [before, moves, _] = status(&mut array);
+        let made = k.min(total - moves);
+        assert_eq!(array.advance(k), Answer::done(&[made]));
+        capacity = capacity_by(n, m, stripes, moves + made);
+        assert_eq!(status(&mut array), [capacity, moves + made, total]);
+        assert!(capacity >= before, "it never falls");
+        for call in [
+            Call::Locate { block: capacity },
+            Call::Read { block: capacity },
+            Call::Write { block: capacity },
+        ] {
+            assert_eq!(array.call(call), Answer::refused(8));
+        }
+        for block in before..capacity {
+            assert_eq!(array.read(block), [0]);
+            came.push(array.locate(block));
+            if block % 2 == 0 {
+                array.write(block, &data(block));
+            }
+        }
+        // with one disk or another out, and behind its rebuild
+        let disk = (moves + made) % (n + m);
+        let lost = (disk * stripes) as usize..((disk + 1) * stripes) as usize;
+        for call in [Call::Out { disk }, Call::Rebuild { disk }] {
+            array.0.images[lost.clone()].fill(0xee);
+            assert_eq!(array.call(call), Answer::done(&[]));
+            for (block, at) in (first..).zip(&came) {
+                let holds = if block % 2 == 0 { data(block) } else { [0] };
+                assert_eq!(array.read(block), holds);
+                assert_eq!(array.locate(block), *at);
+            }
+        }
+    }
+    assert_eq!(capacity, stripes * (n + m - 1));
 }
 
 // ---- docs/LAYOUT.md: 3 + 2 disks, 15 stripes, blocks of 4 bytes, after 9 moves; with 21 stripes; and 4 + 1 disks with 19
@@ -237,7 +324,7 @@ fn the_moves_of_the_layout() {
     );
     layout_says("Moves 6 to 11 are the paper's table 2.");
     layout_says("echo '3 2 1' | target/bin/zone_moves");
-    layout_says("After 9 moves zone 0 is finished, zone 1 is half done, and zone 2 has not begun:");
+    layout_says("After 9 moves zone 0 is finished, zone 1 is half done, and zone 2 has not begun.");
 }
 
 /// The words of each picture go by the name of its file: n, m and t; and T, the first stripe and the last, if it is not one group.
@@ -310,14 +397,130 @@ fn the_places_of_the_layout() {
     assert_eq!((home.parity(7), end.parity(7)), (1, 1));
     layout_says("| the parity of stripe 7 | disk 1 | i = 9 mod 3 = 0, p = 2, which is no new disk: none | disk 1 |");
 
-    assert_eq!(after(17).owner(1, 2), Owner::Blank);
-    assert_eq!(after(17).owner(1, 4), Owner::Blank);
-    assert_eq!(end.place(32), (1, 2));
-    layout_says("Block 32 of this array: k = 32 − 30 = 2, stripe 1, whose blanks are on disks 2 and 4; 2 mod 2 = 0. So block 32 is on disk 2.");
-
     assert_eq!(after(7).place(15), (7, 0));
-    assert_eq!(end.owner(7, 0), Owner::Data(44));
-    layout_says("with t = 7 for block 15 on disk 0, where there are zeroes now, and once the growth is over block 44.");
+    assert_eq!(after(11).owner(7, 0), Owner::Blank);
+    assert!((12..=18).all(|t| after(t).owner(7, 0) == Owner::Data(44)));
+    layout_says("with t = 7 for block 15 on disk 0, where there are zeroes now, and once zone 1 is finished block 44.");
+    assert_eq!(now.place(33), (1, 4));
+    assert_eq!(after(5).owner(1, 4), Owner::Blank);
+    assert_eq!(made(3, 2, 15, 5).locate(33), Answer::refused(8));
+    layout_says(
+        "And with t = 5 there is no block 33: the place where it stands is taken for a blank.",
+    );
+}
+
+/// The disks of a stripe on which nothing of before the growth stands.
+fn blanks(layout: &Layout, old_blocks: u64, stripe: u64, disks: u64) -> Vec<u64> {
+    let is_left = |&disk: &u64| match layout.owner(stripe, disk) {
+        Owner::Blank => true,
+        Owner::Parity => false,
+        Owner::Data(block) => block >= old_blocks,
+    };
+    (0..disks).filter(is_left).collect()
+}
+
+/// "The last move of a zone turns the blanks of its stripes into new blocks": after every move of the 18, by library and replay.
+#[test]
+fn the_new_blocks_of_the_layout() {
+    let (n, m, stripes) = (3, 2, 15);
+    let (before, total) = (after(0).capacity(), after(0).total());
+    // the runs of moves between which the capacity rises: the first and the last of each, and the capacity
+    let mut runs: Vec<[u64; 3]> = Vec::new();
+    for t in 0..=total {
+        let [capacity, ..] = status(&mut made(n, m, stripes, t));
+        match runs.last_mut() {
+            Some([_, last, same]) if *same == capacity => *last = t,
+            _ => runs.push([t, t, capacity]),
+        }
+    }
+    layout_says("| moves done | F | blocks | the new ones |");
+    for [first, last, capacity] in &runs {
+        let done = match first == last {
+            true => format!("{first}, all"),
+            false => format!("{first} to {last}"),
+        };
+        let new = match (before..*capacity).last() {
+            None => "none".to_string(),
+            Some(block) => {
+                let of = |block| after(*first).place(block).0;
+                let (from, to) = (of(before), of(block));
+                format!("{before} to {block}, in stripes {from} to {to}")
+            }
+        };
+        let finished = first / (n * m);
+        assert_eq!(finished, last / (n * m));
+        layout_says(&format!("| {done} | {finished} | {capacity} | {new} |"));
+    }
+    let blocks: Vec<u64> = runs.iter().map(|run| run[2]).collect();
+    assert_eq!(blocks, [30, 40, 50, 60]);
+    assert_eq!(runs[3][..2], [total, total]);
+
+    // the picture of 9 moves
+    let now = after(9);
+    for (stripe, disk) in places(stripes, n + m) {
+        let owner = now.owner(stripe, disk);
+        let is_new = matches!(owner, Owner::Data(block) if block >= before);
+        assert!(!is_new || stripe < 5, "of zone 0");
+        assert!(owner != Owner::Blank || stripe >= 5, "of zones 1 and 2");
+    }
+    let last = now.capacity() - 1;
+    layout_says(&format!(
+        "The blanks of zone 0 have become blocks {before} to {last}, those of zones 1 and 2 are blank:"
+    ));
+
+    let k = 32 - before;
+    let (stripe, disk) = now.place(32);
+    let on = blanks(&after(5), before, stripe, n + m);
+    assert_eq!((k / m, on[(k % m) as usize]), (stripe, disk));
+    assert_eq!(made(n, m, stripes, 5).locate(32), Answer::refused(8));
+    assert!((6..=total).all(|t| after(t).place(32) == (stripe, disk)));
+    layout_says(&format!(
+        "Block 32 of this array: k = 32 − {before} = {k}, stripe {stripe}, whose blanks are on disks {} and {}; {k} mod {m} = {}. \
+         So block 32 is on disk {disk}, from the sixth move on.",
+        on[0],
+        on[1],
+        k % m
+    ));
+    assert_eq!(made(n, m, stripes, 9).locate(40), Answer::refused(8));
+    layout_says(&format!(
+        "After 9 moves there is no block 40 yet: {} blocks are blocks 0 to {last}.",
+        last + 1
+    ));
+}
+
+/// The table of three places after 9 moves.
+#[test]
+fn blank_or_new_block() {
+    let (n, m, t) = (3, 2, 9);
+    let (now, mut array) = (after(t), made(n, m, 15, t));
+    let before = after(0).capacity();
+    let open = t / (n * m) * (n + m);
+    layout_says(&format!(
+        "| After {t} moves | below F × (n + m) = {} × {} = {open}? | where nothing of before stands | so it is |",
+        t / (n * m),
+        n + m
+    ));
+    for (stripe, disk) in [(1, 4), (4, 1), (7, 0)] {
+        let on = blanks(&now, before, stripe, n + m);
+        let j = on.iter().position(|&d| d == disk).unwrap() as u64;
+        let block = before + stripe * m + j;
+        let owned = array.owner(stripe, disk);
+        let (is_below, is) = match stripe < open {
+            true => {
+                assert_eq!(owned, Answer::done(&[2, block]));
+                let sum = format!("{before} + {stripe} × {m} + {j} = {block}");
+                ("yes", format!("block {sum}"))
+            }
+            false => {
+                assert_eq!(owned, Answer::done(&[0, 0]));
+                ("no", "blank".to_string())
+            }
+        };
+        layout_says(&format!(
+            "| stripe {stripe}, disk {disk} | {is_below} | disk {} (\"0\") and disk {} (\"1\") | {is} |",
+            on[0], on[1]
+        ));
+    }
 }
 
 /// The closed forms by which the document goes from number to place and from place to number, at every block, place and count
@@ -342,13 +545,24 @@ fn the_rules_of_the_layout() {
     layout_says("with i = (S + n − d) mod n and p = s + i it is move (Z, p, i), if p is one of the new disks n to n + m − 1");
     layout_says("(In the tail that number is never below t, since the moves end before it.)");
     layout_says(
-        "On an old disk stands what stood there before the growth, unless its move is done: then the place is blank. \
-         On a new disk p stands what move (Z, p, p − s) brought, if p − s is from 0 to n − 1 and that move is done; \
-         else the place is blank.",
+        "On an old disk stands what stood there before the growth, unless its move is done. On a new disk p stands what move \
+         (Z, p, p − s) brought, if p − s is from 0 to n − 1 and that move is done. On the other places of the stripe, m of them, \
+         nothing of before the growth stands: each is blank, or a new block.",
+    );
+    layout_says("The first F = t div (n × m) zones are finished, zones 0 to F − 1, and no other");
+    layout_says(
+        "The last move of a zone turns the blanks of its stripes into new blocks, full of zeroes, while later zones still move. \
+         The last move of all (the grow itself, if there is nothing to move) turns all blanks that are left, those of the tail too. \
+         Block T × (n − 1) + k is in stripe k div m, on the blank place at which you say k mod m, counting that stripe's blanks \
+         from the lowest disk, from 0. There it stays: in a finished zone nothing moves any more.",
     );
     layout_says(
-        "block T × (n − 1) + k is in stripe k div m, on the blank place at which you say k mod m, \
-         counting that stripe's blanks from the lowest disk, from 0.",
+        "So there are T × (n − 1) + F × (n + m) × m blocks as long as a move is left, and T × (n + m − 1) when none is.",
+    );
+    layout_says(
+        "A place of stripe S on which nothing of before the growth stands is a new block if S is below F × (n + m), or if no move \
+         is left; else it is blank. Count these places of the stripe from the lowest disk, from 0: that at which you say j is \
+         block T × (n − 1) + S × m + j.",
     );
     layout_says("in a stripe of the tail, block T × (n − 1) + k is on disk n + k mod m.");
 }
@@ -385,34 +599,40 @@ fn check_rules(n: u64, m: u64, stripes: u64, t: u64) {
         let (zone, s) = (stripe / (n + m), stripe % (n + m));
         if !is_new(disk) {
             let is_left = carried(stripe, disk) != disk;
-            return if is_left {
-                Owner::Blank
-            } else {
-                home.owner(stripe, disk)
-            };
+            return (!is_left).then(|| home.owner(stripe, disk));
         }
-        match disk.checked_sub(s) {
-            Some(i) if i < n && number(zone, disk, i) < t => {
-                home.owner(stripe, (disk + zone * m + 2 * n - 2 * i) % n)
-            }
-            _ => Owner::Blank,
-        }
+        let i = disk.checked_sub(s).filter(|&i| i < n)?;
+        let is_done = number(zone, disk, i) < t;
+        is_done.then(|| home.owner(stripe, (disk + zone * m + 2 * n - 2 * i) % n))
     };
-    let is_over = t == now.total();
-    let mut k = 0;
-    for (stripe, disk) in places(stripes, n + m) {
-        let mut owner = stands(stripe, disk);
-        if is_over && owner == Owner::Blank {
-            let block = stripes * (n - 1) + k;
-            assert_eq!(now.place(block), (stripe, disk));
-            assert_eq!(stripe, k / m);
-            assert!(!in_tail(stripe) || disk == n + k % m);
-            owner = Owner::Data(block);
-            k += 1;
+    // blank or new block
+    let (finished, left) = (t / (n * m), now.total() - t);
+    let old_blocks = stripes * (n - 1);
+    for stripe in 0..stripes {
+        let mut j = 0;
+        for disk in 0..n + m {
+            let owner = stands(stripe, disk).unwrap_or_else(|| {
+                j += 1;
+                let is_block = stripe < finished * (n + m) || left == 0;
+                let block = old_blocks + stripe * m + j - 1;
+                is_block.then_some(block).map_or(Owner::Blank, Owner::Data)
+            });
+            assert_eq!(now.owner(stripe, disk), owner);
         }
-        assert_eq!(now.owner(stripe, disk), owner);
+        assert_eq!(j, m, "each stripe has m such places");
     }
-    assert_eq!(now.capacity(), stripes * (n - 1) + k);
+    // and the way back
+    let blocks = match left {
+        0 => stripes * (n + m - 1),
+        _ => old_blocks + finished * (n + m) * m,
+    };
+    assert_eq!(now.capacity(), blocks);
+    for k in 0..blocks - old_blocks {
+        let (stripe, mut others) = (k / m, (0..n + m).filter(|&d| stands(k / m, d).is_none()));
+        let disk = others.nth((k % m) as usize).unwrap();
+        assert_eq!(now.place(old_blocks + k), (stripe, disk));
+        assert!(!in_tail(stripe) || disk == n + k % m);
+    }
 }
 
 /// 3 + 2 disks with 21 stripes: one group and a tail.
@@ -424,7 +644,7 @@ fn the_tail_of_the_layout() {
     assert_eq!((total, before, blocks), (18, 42, 84));
     let mut array = made(n, m, stripes, 18);
     assert_eq!(array.advance(1), Answer::refused(5));
-    made(n, m, stripes, 17);
+    let blocks_after = |t| status(&mut made(n, m, stripes, t))[0];
 
     // a group ends with a stripe from which the parity moves
     let moves_in = |&stripe: &u64| home.parity(stripe) != end.parity(stripe);
@@ -445,11 +665,30 @@ fn the_tail_of_the_layout() {
         zone.start,
         zone.end - 1
     ));
-    layout_says(&format!(
-        "There are {before} blocks, and with the last move {blocks}."
-    ));
+    assert_eq!(
+        [5, 6, 11, 12, 17, 18].map(blocks_after),
+        [before, 52, 52, 62, 62, blocks]
+    );
+    let new_in = |stripes: Range<u64>| {
+        let places = stripes.flat_map(|s| (0..n + m).map(move |d| (s, d)));
+        places
+            .filter(|&(s, d)| matches!(end.owner(s, d), Owner::Data(block) if block >= before))
+            .count()
+    };
     // it begins with the last zone that moves
     let begin = first - (n + m);
+    assert_eq!(begin / (n + m), 2);
+    layout_says(&format!(
+        "There are {before} blocks, from 6 moves on {}, from 12 moves on {}, and with the last move {blocks}: \
+         the {} of zone 2 and the {} of the tail come at once.",
+        blocks_after(6),
+        blocks_after(12),
+        new_in(begin..first),
+        new_in(first..stripes)
+    ));
+    layout_says(
+        "blank until the last move of all is made, however many zones are finished before.",
+    );
     layout_says(&format!(
         "This is what zone {} and the tail are then: \
          ![{n} + {m} disks, {stripes} stripes, all {total} moves done: zone {} and the tail]\
@@ -484,10 +723,7 @@ fn the_tail_of_the_layout() {
 
     let (stripe, disk) = end.place(77);
     assert_eq!(array.locate(77), Answer::done(&[stripe, disk]));
-    let last = grown(n, m, stripes, 17);
-    let blanks: Vec<u64> = (0..n + m)
-        .filter(|&d| last.owner(stripe, d) == Owner::Blank)
-        .collect();
+    let blanks = blanks(&grown(n, m, stripes, 17), before, stripe, n + m);
     let k = 77 - before;
     assert_eq!((k / m, blanks[(k % m) as usize]), (stripe, disk));
     layout_says(&format!(
@@ -569,12 +805,21 @@ fn the_drawer_of_the_layout() {
     loan.images.resize(5 * 15 * 4, 0xff);
     call(&mut loan, Call::Grow { m: 2 });
     call(&mut loan, Call::Advance { k: 9 });
+    write(&mut loan, 33, b"oak ");
     layout_says(
         "This array has blocks of 4 bytes; block 14 was given the word \"pine\", block 15 \"fir \" (with a space behind), \
-         and 9 moves are done.",
+         9 moves were made, and then new block 33 was given \"oak \".",
     );
     layout_says(&hex(&loan.record));
-    layout_says("n = 3, m = 2, health 0 (whole), B = 4, T = 15, t = 9. If health, byte 2, is 1, byte 3 is the disk that is out");
+    let [capacity, ..] = loan.call(Call::Status).beside;
+    layout_says(&format!(
+        "n = 3, m = 2, health 0 (whole), B = 4, T = 15, t = 9. Of the zones 9 div {} = {} is finished, so there are \
+         {} + 1 × 5 × 2 = {capacity} blocks. If health, byte 2, is 1, byte 3 is the disk that is out",
+        moves(3, 2, 0).len(),
+        9 / moves(3, 2, 0).len(),
+        after(0).capacity()
+    ));
+    assert_eq!(capacity, 40);
     let list: Vec<String> = loan.record.iter().map(u8::to_string).collect();
     layout_says(&format!("uint8_t record[] = {{{}}};", list.join(", ")));
     layout_says("build/layout_svg 3 2 9 15 > picture.svg");
@@ -585,9 +830,16 @@ fn the_drawer_of_the_layout() {
     assert_eq!(asked, Answer::done(&[2, 15]));
     layout_says("Or ask for one place, here disk 3 of stripe 7:");
     layout_says("pbm_owner(record, PBM_RECORD_LEN, 7, 3, &role, &block); /* number is 0 (done), role is 2 (PBM_DATA), block is 15 */");
-    layout_says(
-        "Stripe 7 is: disk 0 blank, disk 1 parity, disk 2 block 14, disk 3 block 15, disk 4 blank.",
-    );
+    for stripe in [7, 1] {
+        let on = |disk| match after(9).owner(stripe, disk) {
+            Owner::Blank => format!("disk {disk} blank"),
+            Owner::Parity => format!("disk {disk} parity"),
+            Owner::Data(block) => format!("disk {disk} block {block}"),
+        };
+        let disks: Vec<String> = (0..5).map(on).collect();
+        layout_says(&format!("Stripe {stripe} is: {}.", disks.join(", ")));
+    }
+    layout_says("It is of zone 0, which is finished: no place of it is blank.");
 
     let says = [
         "blank (block 15 stood here until move 7)",
@@ -606,6 +858,19 @@ fn the_drawer_of_the_layout() {
         };
         layout_says(&line);
     }
+    let says = [
+        "block 3, not written yet",
+        "parity",
+        "block 32, new, not written yet (block 2 stood here until move 2)",
+        "block 2, not written yet",
+        "block 33, new: \"oak \"",
+    ];
+    for (disk, what) in says.iter().enumerate() {
+        let at = (disk * 15 + 1) * 4;
+        let holds = hex(&loan.images[at..at + 4]);
+        layout_says(&format!("| {disk} | {at} | {holds} | {what} |"));
+    }
+    assert_eq!(&loan.images[244..248], b"oak ");
     assert_eq!(&loan.images[208..212], b"fir ");
     layout_says(
         "For stripe 7 and disk 3 that is (3 × 15 + 7) × 4 = 208. If each drawer is a file of its own, it is byte S × B \
@@ -614,10 +879,18 @@ fn the_drawer_of_the_layout() {
     layout_says("With disk 3 out, block 15 is");
     layout_says("od -A d -t x1 -j 208 -N 4 images");
 
-    call(&mut loan, Call::Out { disk: 3 });
-    loan.images[3 * 60..4 * 60].fill(0xee);
-    call(&mut loan, Call::Read { block: 15 });
-    assert_eq!(loan.block, b"fir ");
+    layout_says("with disk 4 out, block 33 is the xor of disks 0 to 3 of stripe 1.");
+    let xor_of = |byte: usize| (0..4).fold(0, |x, disk| x ^ loan.images[disk * 60 + 4 + byte]);
+    assert_eq!([0, 1, 2, 3].map(xor_of), *b"oak ");
+    for disk in [3, 4] {
+        let mut loan = loan.clone();
+        call(&mut loan, Call::Out { disk });
+        loan.images[disk as usize * 60..][..60].fill(0xee);
+        for (block, word) in [(15, b"fir "), (33, b"oak "), (32, &[0; 4])] {
+            call(&mut loan, Call::Read { block });
+            assert_eq!(loan.block, word);
+        }
+    }
 }
 
 /// "zone 0 takes two from disk 0 and two from disk 2, zone 1 two each from disks 1 and 3. In a whole group each old disk gives four."
@@ -638,6 +911,19 @@ fn four_and_one() {
     made(4, 1, 20, 16);
     assert_eq!(grown(4, 1, 20, 0).total(), 16);
     layout_says("One zone is 5 stripes, one group 4 zones, so 20 stripes and 16 moves.");
+
+    let blocks_after = |t| status(&mut made(4, 1, 20, t))[0];
+    let (before, now, end) = (blocks_after(0), blocks_after(6), blocks_after(16));
+    assert_eq!([3, 4, 7, 8].map(blocks_after), [60, 65, 65, 70]);
+    let layout = grown(4, 1, 20, 6);
+    assert!((before..now).all(|block| layout.place(block).0 < 5));
+    layout_says(&format!(
+        "A zone has {} moves and {} new blocks: there are {before} blocks, after 6 moves {now}, since zone 0 is finished and its \
+         blanks are blocks {before} to {}, and {end} at the end.",
+        all.iter().filter(|x| x.zone == 0).count(),
+        now - before,
+        now - 1
+    ));
 }
 
 // ---- docs/SPEED.md

@@ -20,17 +20,20 @@ seed 1
     all 1668 blocks are as last written
 3 disks are added: 750 moves to make
     a read with the old disks alone is refused: 7 images
-    a read of the first new block is refused: 8 past the end
-    200 of 750 moves, 2103 logs so far
-    400 of 750 moves, 2212 logs so far
+    a read of the next new block is refused: 8 past the end
+    200 of 750 moves, 1980 blocks, 2264 logs so far
+    400 of 750 moves, 2292 blocks, 2519 logs so far
+    a read of the next new block is refused: 8 past the end
 disk 2 is lost
     advance is refused: 3 degraded
-    all 1668 blocks are as last written
+    all 2292 blocks are as last written
 disk 2 is rebuilt
-    600 of 750 moves, 3311 logs so far
-    750 of 750 moves, 3384 logs so far
+    all 2292 blocks are as last written
+    600 of 750 moves, 2628 blocks, 3789 logs so far
+    750 of 750 moves, 2919 blocks, 4007 logs so far
     advance is refused: 5 nothing to move
 the growth is over: 2919 blocks
+    all 1251 new blocks stand where they stood when they came
     all 2919 blocks are as last written
     all 51 new blocks of the tail are written and read
 disk 5 is lost
@@ -38,9 +41,9 @@ disk 5 is lost
     all 51 new blocks of the tail are written and read
 disk 5 is rebuilt
     all 2919 blocks are as last written
-writes 5486, of these 170 to a lost disk
-reads 22963, of these 966 from a lost disk
-moves 750, refusals met 4
+writes 6109, of these 160 to a lost disk, 955 to new blocks in mid-growth
+reads 27124, of these 1030 from a lost disk, 3139 of new blocks in mid-growth
+moves 750, refusals met 5
 every read gave what was last written
 ";
 
@@ -152,6 +155,10 @@ fn a_line_notices_faults() {
             "NOT_REFUSED",
             "advance gives: 0 done; it must give: 3 degraded",
         ),
+        ("ZONE_EARLY", "capacity: 1692; it must be 1668"),
+        ("ZONE_LATE", "capacity: 1668; it must be 1692"),
+        ("NEW_SPOILED", stale),
+        ("NEW_MOVED", stale),
     ];
     assert_eq!(
         text(&run(&mut Command::new(faulty("NONE"))).stdout),
@@ -171,7 +178,8 @@ fn a_line_notices_faults() {
 
 fn faulty(fault: &str) -> PathBuf {
     let define = format!("-DFAULT={fault}");
-    let wrap = "-Wl,--wrap=pbm_read,--wrap=pbm_write,--wrap=pbm_advance,--wrap=pbm_rebuild";
+    let wrap =
+        "-Wl,--wrap=pbm_read,--wrap=pbm_write,--wrap=pbm_advance,--wrap=pbm_rebuild,--wrap=pbm_status";
     let compiler = [GCC, &[&define, wrap]].concat();
     let sources = ["examples/line_controller.c", "tests/c/faulty.c"];
     program(&format!("line_controller-{fault}"), &compiler, &sources)

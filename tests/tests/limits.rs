@@ -37,24 +37,38 @@ fn read_all(array: &mut Array) {
     }
 }
 
-/// Grows by these budgets, the last of which must complete it (none where grow does), and reads every block behind each; then
-/// loses and rebuilds the first and the last disk.
-fn grows(home: Record, m: u64, budgets: &[u64]) {
+/// The blocks from this one on have just come, and are zero; they are written.
+fn write_new(array: &mut Array, first: u64) {
+    let Record { block_len, .. } = array.record();
+    let new = first..array.record().capacity();
+    for block in new.clone() {
+        assert!(array.read(block) == vec![0; block_len as usize], "{block}");
+    }
+    assert_eq!(array.locate(new.end), Answer::refused(8));
+    write_all(array, new);
+}
+
+/// Grows by these budgets, the last of which must complete it (none where grow does), behind each of which the capacity is the one
+/// beside it; writes the new blocks as they come, and reads every block; then loses and rebuilds the first and the last disk.
+fn grows(home: Record, m: u64, budgets: &[(u64, u64)]) {
     let mut array = Array::format(home.n, home.block_len, home.stripes);
     write_all(&mut array, 0..home.capacity());
     assert_eq!(array.grow(m), Answer::done(&[]));
     let mut record = Record { m, ..home };
-    for &k in budgets {
+    write_new(&mut array, home.capacity());
+    for &(k, capacity) in budgets {
+        let before = record.capacity();
         let made = k.min(record.total() - record.moves);
         assert_eq!(array.advance(k), Answer::done(&[made]));
         record.moves += made;
         assert_eq!(array.0.record, record.bytes());
-        if !record.is_grown() {
-            read_all(&mut array);
-        }
+        let status = Answer::done(&[capacity, record.moves, record.total(), 0, 0]);
+        assert_eq!(array.call(Call::Status), status);
+        write_new(&mut array, before);
+        read_all(&mut array);
     }
     assert!(record.is_grown());
-    write_all(&mut array, home.capacity()..record.capacity());
+    assert_eq!(record.capacity(), record.stripes * (record.disks() - 1));
     read_all(&mut array);
     for disk in [0, record.disks() - 1] {
         loses(&mut array, disk);
@@ -83,16 +97,26 @@ fn the_most_stripes() {
     assert_eq!(array.locate(2_097_152), Answer::refused(8));
 }
 
-/// 87,381 groups of 3 × 4 stripes, each of 9 moves, and a tail of 4; t passes 65,535.
+/// 87,381 groups of 3 × 4 stripes, each of 9 moves, and a tail of 4; t passes 65,535. Every third move finishes a zone, which has
+/// 4 new blocks.
 #[test]
 fn the_most_stripes_that_grow() {
     let home = Record::new(3, 1, 1_048_576);
-    grows(home, 1, &[65_535, 1, 720_000, 892, u64::MAX]);
+    let budgets = [
+        (65_535, 2_184_532),
+        (1, 2_184_532),
+        (720_000, 3_144_532),
+        (892, 3_145_720),
+        (u64::MAX, 3_145_728),
+    ];
+    grows(home, 1, &budgets);
 }
 
+/// 256 moves finish a zone, which has 512 new blocks.
 #[test]
 fn the_most_disks_with_the_longest_blocks() {
-    grows(Record::new(16, 4096, 512), 16, &[1, 2000, 2095]);
+    let budgets = [(1, 7680), (2000, 11_264), (2095, 15_872)];
+    grows(Record::new(16, 4096, 512), 16, &budgets);
 }
 
 /// A group but for one stripe, so that grow ends the growth.
@@ -102,7 +126,7 @@ fn the_most_stripes_that_are_no_group() {
 }
 
 /// Images of 17 GB, all zero at first. Each block is in a stripe of its own, so the parity is equal to it: 4 stripes are those of
-/// the tail, 8 those of the last 6 moves.
+/// the tail, 8 those of the last 6 moves, and the one before has the last new block so far.
 #[test]
 fn places_beyond_32_bits() {
     let mut record = Record::new(3, 4096, 1_048_576);
@@ -113,8 +137,15 @@ fn places_beyond_32_bits() {
     loan.record.hold(&record.bytes());
     loan.images = Guarded::zeros(Side::End, record.images_len() as usize);
 
-    let last = record.capacity() - 1;
-    let blocks: Vec<u64> = (0..12).map(|i| last - 2 * i).chain([0, last / 2]).collect();
+    let last = record.old_capacity() - 1;
+    let newest = record.capacity() - 1;
+    assert_eq!((last, newest), (2_097_151, 3_145_715));
+    let newest_at = loan.call(Call::Locate { block: newest });
+    assert_eq!(newest_at.beside[0], 1_048_563);
+    let blocks: Vec<u64> = (0..12)
+        .map(|i| last - 2 * i)
+        .chain([0, last / 2, newest])
+        .collect();
     for &block in &blocks {
         loan.block.hold(&data(block, 4096));
         assert_eq!(loan.call(Call::Write { block }), Answer::done(&[]));
@@ -122,6 +153,7 @@ fn places_beyond_32_bits() {
     for made in [0, 1, 5] {
         assert_eq!(loan.call(Call::Advance { k: made }), Answer::done(&[made]));
         layout.advance(made);
+        assert_eq!(loan.call(Call::Locate { block: newest }), newest_at);
         for &block in &blocks {
             let data = data(block, 4096);
             let (stripe, disk) = layout.place(block);

@@ -27,6 +27,11 @@ const COMPUTED: &[(&str, &str, &[&str])] = &[
         &["layout/part_of_a_group", "layout/tail_without_numbers"],
     ),
     (
+        "/proofs/Cases/Zones.antt:",
+        "`zones`",
+        &["layout/capacity_by_moves", "layout/zone_opened_early"],
+    ),
+    (
         "/proofs/Cases/Bench.antt:",
         "`unmarked`",
         &["calls/tail_moves"],
@@ -52,7 +57,7 @@ const COMPUTED: &[(&str, &str, &[&str])] = &[
     (
         "/proofs/Cases/Sample.antt:",
         "`sample`",
-        &["history/lengthened_late"],
+        &["history/lengthened_at_the_end", "history/lengthened_late"],
     ),
 ];
 

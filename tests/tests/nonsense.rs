@@ -7,7 +7,7 @@ use yuzkamide_tests::memory::{Guarded, Memory, Side};
 use yuzkamide_tests::pbm::{Answer, Bytes, Call, Loan, NAMES};
 use yuzkamide_tests::random::Random;
 use yuzkamide_tests::record::{
-    at, field, good, set_field, Health, Record, BENCH, GROWING, RECORD_LEN,
+    at, field, good, set_field, Health, Record, BENCH, GROWING, RECORD_LEN, ZONE_FINISHED,
 };
 use yuzkamide_tests::table::{refusal, Lent};
 
@@ -29,6 +29,10 @@ fn records() -> Vec<Record> {
         stripes: 29,
         ..GROWING
     };
+    let one_move_left = Record {
+        moves: 17,
+        ..with_tail
+    };
     let no_group = Record {
         stripes: 14,
         moves: 0,
@@ -48,13 +52,17 @@ fn records() -> Vec<Record> {
         grown,
         large,
         with_tail,
+        one_move_left,
         no_group,
+        ZONE_FINISHED,
         out(BENCH, 2),
         out(GROWING, 4),
         out(grown, 0),
         out(large, 31),
         out(with_tail, 3),
+        out(one_move_left, 3),
         out(no_group, 3),
+        out(ZONE_FINISHED, 3),
         lost(BENCH),
         lost(GROWING),
     ]
@@ -73,7 +81,9 @@ fn calls(record: &Record) -> [Call; NAMES.len()] {
             stripes: record.stripes,
         },
         Call::Read { block: 4 },
-        Call::Write { block: 4 },
+        Call::Write {
+            block: record.capacity() - 1,
+        },
         Call::Grow { m: 2 },
         Call::Advance { k: 3 },
         Call::Out { disk: 1 },
@@ -187,7 +197,7 @@ fn good_records_with_one_bit_off() {
     println!("{still_good} calls on good records, {bad} on others");
     assert!(still_good > 1000 && bad > 5000);
     let formats = (records().len() * 8 * RECORD_LEN) as u64; // which is lent any bytes
-    desk.assert_accepted([formats, 67, 67, 2, 23, 445, 28, 523, 492, 498]);
+    desk.assert_accepted([formats, 85, 73, 2, 29, 579, 36, 661, 612, 630]);
 }
 
 #[test]
@@ -345,6 +355,7 @@ fn every_number_off() {
 fn accepted_calls_on_any_bytes() {
     let mut random = Random::new("accepted_calls_on_any_bytes");
     let mut desk = Desk::new();
+    let mut early = 0;
     for _ in 0..4_000 {
         let record = random_array(&mut random);
         for call in random_calls(&mut random, &record) {
@@ -353,10 +364,23 @@ fn accepted_calls_on_any_bytes() {
                 images: random.bytes(images_len(call, &record)),
                 block: random.bytes(record.block_len as usize),
             };
-            desk.check(call, &lent);
+            let number = desk.check(call, &lent);
+            early += (number == 0 && is_early(call, &record)) as u32;
         }
     }
     desk.assert_accepted([4000, 3000, 3000, 200, 500, 2000, 1000, 4000, 4000, 4000]);
+    println!("{early} accepted on new blocks in a growth");
+    assert!(early > 400);
+}
+
+/// Whether it is for a new block while moves are left.
+fn is_early(call: Call, record: &Record) -> bool {
+    match call {
+        Call::Read { block } | Call::Write { block } | Call::Locate { block } => {
+            block >= record.old_capacity() && !record.is_grown()
+        }
+        _ => false,
+    }
 }
 
 /// A good record of an array before, during or after a growth, of whatever health.

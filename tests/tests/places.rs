@@ -33,6 +33,7 @@ impl Growth {
     fn check(&self) {
         self.check_status();
         self.check_blocks(0..self.layout.capacity());
+        self.check_end();
         self.check_places(self.places(0));
         self.check_tail();
     }
@@ -48,6 +49,16 @@ impl Growth {
         let wanted = Answer::done(&[capacity, self.record.moves, total, 0, 0]);
         let answer = self.loan().call(Call::Status);
         assert_eq!(answer, wanted, "{:?}", self.record);
+    }
+
+    /// Blocks at and above the capacity, the last one that comes later too.
+    fn check_end(&self) {
+        let Record { n, m, stripes, .. } = self.record;
+        let (next, grown) = (self.layout.capacity(), stripes * (n + m - 1));
+        for block in [next, next.max(grown - 1), grown] {
+            let answer = self.loan().call(Call::Locate { block });
+            assert_eq!(answer, Answer::refused(8), "{block} {:?}", self.record);
+        }
     }
 
     /// The replay itself: "stripes behind the last one keep old parity and data places, with all m new places blank", and "New
@@ -75,12 +86,17 @@ impl Growth {
         }
     }
 
-    /// Owner and locate by this record, so many stripes further on than here.
+    /// Status, owner and locate by this record, so many stripes further on than here. All zones of those stripes are finished.
     fn check_further(&self, record: &Record, stripes: u64) {
         let mut loan = self.loan();
         loan.record = record.bytes().to_vec();
         let Record { n, m, .. } = self.record;
-        let old = self.record.stripes * (n - 1);
+        let capacity = self.layout.capacity() + stripes * (n + m - 1);
+        let status = loan.call(Call::Status);
+        assert_eq!(status.beside[0], capacity, "{record:?}");
+        let answer = loan.call(Call::Locate { block: capacity });
+        assert_eq!(answer, Answer::refused(8), "{record:?}");
+        let old = self.record.old_capacity();
         for (stripe, disk) in self.places(0) {
             let owner = match self.layout.owner(stripe, disk) {
                 Owner::Data(b) if b < old => Owner::Data(b + stripes * (n - 1)),
@@ -212,6 +228,7 @@ fn the_largest_arrays() {
             growth.advance(step);
             growth.check_status();
             growth.check_tail();
+            growth.check_end();
             let (capacity, disks) = (growth.layout.capacity(), growth.record.disks());
             let blocks: Vec<_> = (0..200_000).map(|_| random.below(capacity)).collect();
             growth.check_blocks(
@@ -224,6 +241,10 @@ fn the_largest_arrays() {
                 .map(|_| (random.below(stripes), random.below(disks)))
                 .collect();
             growth.check_places(places.into_iter().chain(growth.places(stripes - 100)));
+            // on both sides of where the finished zones end
+            let finished = growth.record.moves / (n * m) * (n + m);
+            let near = growth.places(finished - 20).take(40 * disks as usize);
+            growth.check_places(near);
         }
     }
 }

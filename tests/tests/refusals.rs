@@ -1,6 +1,7 @@
-//! Every row of document 01's table of refusals, 1 and 6 as request (a) of document 02 leaves them, for every call that it names:
-//! alone, and with a lower row's condition holding as well, which then wins. A refused call changes no byte and sets every number
-//! beside its answer to 0. What an accepted one answers and leaves is held to a model that goes by the bytes.
+//! Every row of document 01's table of refusals, 1 and 6 as request (a) of document 02 leaves them and 8 with the capacity of
+//! request (b), for every call that it names: alone, and with a lower row's condition holding as well, which then wins. A refused
+//! call changes no byte and sets every number beside its answer to 0. What an accepted one answers and leaves is held to a model
+//! that goes by the bytes.
 
 use std::collections::HashSet;
 use yuzkamide_tests::bytewise::Bytewise;
@@ -255,9 +256,34 @@ const SPOILS: &[Spoil] = &[
         c.record.moves = 18;
         number(c, 60)
     }),
+    spoil(ON_NUMBERED, 8, "the capacity, zone 0 finished", |c| {
+        c.record.moves = 6;
+        number(c, 40)
+    }),
+    spoil(ON_NUMBERED, 8, "the capacity, zone 1 but for a move", |c| {
+        c.record.moves = 11;
+        number(c, 40)
+    }),
+    spoil(
+        ON_NUMBERED,
+        8,
+        "the capacity, zones 0 and 1 finished",
+        |c| {
+            c.record.moves = 12;
+            number(c, 50)
+        },
+    ),
+    spoil(ON_NUMBERED, 8, "the capacity, all but a move made", |c| {
+        c.record.moves = 17;
+        number(c, 50)
+    }),
     spoil(ON_NUMBERED, 8, "the capacity, with a tail", |c| {
         (c.record.moves, c.record.stripes, c.images_len) = (17, 29, 580);
-        number(c, 58)
+        number(c, 78)
+    }),
+    spoil(ON_NUMBERED, 8, "a block of the tail, a move left", |c| {
+        (c.record.moves, c.record.stripes, c.images_len) = (17, 29, 580);
+        number(c, 115)
     }),
     spoil(ON_NUMBERED, 8, "the grown capacity, with a tail", |c| {
         (c.record.moves, c.record.stripes, c.images_len) = (18, 29, 580);
@@ -420,33 +446,82 @@ fn every_growth_is_accepted() {
     }
 }
 
-/// Growths of n + m disks over T stripes, and their totals: the record is good up to there and no further, for every call.
+/// A new block is past the end until its zone is finished, one of the tail until the last move is made.
+#[test]
+fn a_block_is_past_the_end_until_it_comes() {
+    // with T = 15, and with a tail of 2 stripes, the first and the last block that are there from so many moves on
+    let blocks = [
+        (15, [(0, 29, 0), (30, 39, 6), (40, 49, 12), (50, 59, 18)]),
+        (17, [(0, 33, 0), (34, 43, 6), (44, 53, 12), (54, 67, 18)]),
+    ];
+    for (stripes, zones) in blocks {
+        for (first, last, came) in zones {
+            for moves in 0..=18 {
+                for (name, block) in ON_NUMBERED.iter().flat_map(|n| [(n, first), (n, last)]) {
+                    let mut case = accepted(name);
+                    (case.record.stripes, case.record.moves) = (stripes, moves);
+                    case.images_len = case.record.images_len();
+                    number(&mut case, block);
+                    let refusals = if moves < came { vec![8] } else { vec![] };
+                    assert_eq!(case.holding(), refusals, "{case:?}");
+                    case.gives(if moves < came { 8 } else { 0 }, "at every t");
+                }
+            }
+        }
+    }
+}
+
+/// Growths of n + m disks over T stripes, and their totals: the record is good up to there and no further, for every call. Beside
+/// the total the capacities with no move made, half of them, all but one, and all.
 #[test]
 fn a_record_is_good_up_to_its_total() {
-    let totals: &[(u64, u64, u64, u64)] = &[
-        (4, 1, 1, 0),
-        (4, 1, 19, 0),
-        (4, 1, 20, 16),
-        (4, 1, 21, 16),
-        (4, 1, 39, 16),
-        (4, 1, 40, 32),
-        (4, 2, 23, 0),
-        (4, 2, 29, 32),
-        (4, 2, 47, 32),
-        (4, 2, 48, 64),
-        (5, 3, 39, 0),
-        (5, 3, 47, 75),
-        (3, 16, 56, 0),
-        (3, 16, 57, 144),
-        (3, 16, 1_048_576, 2_649_024),
-        (3, 1, 1_048_576, 786_429),
-        (16, 15, 1_048_576, 8_117_760),
-        (16, 16, 511, 0),
-        (16, 16, 1023, 4096),
-        (16, 16, 1_048_576, 8_388_608),
+    let totals: &[(u64, u64, u64, u64, [u64; 4])] = &[
+        (4, 1, 1, 0, [4; 4]),
+        (4, 1, 19, 0, [76; 4]),
+        (4, 1, 20, 16, [60, 70, 75, 80]),
+        (4, 1, 21, 16, [63, 73, 78, 84]),
+        (4, 1, 39, 16, [117, 127, 132, 156]),
+        (4, 1, 40, 32, [120, 140, 155, 160]),
+        (4, 2, 23, 0, [115; 4]),
+        (4, 2, 29, 32, [87, 111, 123, 145]),
+        (4, 2, 47, 32, [141, 165, 177, 235]),
+        (4, 2, 48, 64, [144, 192, 228, 240]),
+        (5, 3, 39, 0, [273; 4]),
+        (5, 3, 47, 75, [188, 236, 284, 329]),
+        (3, 16, 56, 0, [1008; 4]),
+        (3, 16, 57, 144, [114, 418, 722, 1026]),
+        (
+            3,
+            16,
+            1_048_576,
+            2_649_024,
+            [2_097_152, 10_485_728, 18_874_000, 18_874_368],
+        ),
+        (
+            3,
+            1,
+            1_048_576,
+            786_429,
+            [2_097_152, 2_621_436, 3_145_720, 3_145_728],
+        ),
+        (
+            16,
+            15,
+            1_048_576,
+            8_117_760,
+            [15_728_640, 23_592_720, 31_456_335, 31_457_280],
+        ),
+        (16, 16, 511, 0, [15_841; 4]),
+        (16, 16, 1023, 4096, [15_345, 19_441, 23_025, 31_713]),
+        (
+            16,
+            16,
+            1_048_576,
+            8_388_608,
+            [15_728_640, 24_117_248, 32_505_344, 32_505_856],
+        ),
     ];
-    for &(n, m, stripes, total) in totals {
-        let (old, grown) = (stripes * (n - 1), stripes * (n + m - 1));
+    for &(n, m, stripes, total, capacities) in totals {
         let mut record = Record::new(n, 4, stripes);
         record.m = m;
         let case = |name, record: Record| Case {
@@ -454,9 +529,9 @@ fn a_record_is_good_up_to_its_total() {
             images_len: record.images_len().min(1 << 18),
             ..accepted(name)
         };
-        for moves in [0, total / 2, total.saturating_sub(1), total] {
+        let counts = [0, total / 2, total.saturating_sub(1), total];
+        for (moves, capacity) in counts.into_iter().zip(capacities) {
             record.moves = moves;
-            let capacity = if moves == total { grown } else { old };
             let answer = Answer::done(&[capacity, moves, total, 0, 0]);
             let status = case("status", record).bytes().call(Call::Status);
             assert_eq!(status, answer, "{record:?}");

@@ -285,8 +285,10 @@ fn a_disk_that_is_out_is_not_touched() {
         let mut record = Record::new(n, block_len, stripes);
         record.m = m;
         let total = record.total();
-        let mut moves = vec![0, 1, total / 2, total.saturating_sub(1), total];
+        // no move made, a zone finished, all made, and between
+        let mut moves = vec![0, 1, n * m, total / 2, total.saturating_sub(1), total];
         moves.retain(|&t| t <= total);
+        moves.sort_unstable();
         moves.dedup();
         for t in moves {
             calls += each_disk_out(seed, shape, t);

@@ -2,6 +2,7 @@
 // given and the lengths lent.
 ghost use mathlib.Core.Path.{_≡_};
 ghost use Prim.Native.Nat.{_≤_};
+ghost use lib.Dec.{ltb};
 ghost use Rattle.layout.specs.Layout.{capacity};
 ghost use Rattle.state.specs.Good.{geometry, GoodRecord};
 ghost use Rattle.calls.specs.Call.{format, read, grow, advance, out, rebuild, status, locate, owner, feed};
@@ -11,7 +12,7 @@ use crate::health::is_degraded;
 use crate::health::is_lost;
 use crate::health::is_out;
 use layout::all_moved;
-use layout::capacity_of;
+use layout::has_block;
 use state::Record;
 use state::block_is_good;
 use state::geometry_of;
@@ -56,12 +57,12 @@ fn size_with(r: Record, m: u64) -> u64
     (r.old as u64 + m) * (r.stripes as u64 * r.block as u64)
 }
 
-// The number of its blocks.
-fn blocks_of(r: Record) -> u64
+// Has the array a block b?
+fn is_block(r: Record, b: u64) -> bool
     requires { ⌜ GoodRecord r ⌝ }
-    ensures count { λ x. ⌜ x ≡ capacity (geometry r) ⌝ }
+    ensures answer { λ x. ⌜ x ≡ ltb b (capacity (geometry r)) ⌝ }
 {
-    capacity_of(geometry_of(r))
+    has_block(geometry_of(r), b)
 }
 
 // Is there no move to make?
@@ -147,7 +148,7 @@ pub fn of_reach(r: Record, images: usize, b: u64, room: usize) -> u8
     if k != 0 {
         return k;
     }
-    if blocks_of(r) <= b {
+    if !is_block(r, b) {
         return PAST_THE_END;
     }
     if room != r.block as usize {
@@ -237,7 +238,7 @@ pub fn of_locate(r: Record, b: u64) -> u8
     if !is_good(r) {
         return RECORD;
     }
-    if blocks_of(r) <= b {
+    if !is_block(r, b) {
         return PAST_THE_END;
     }
     0

@@ -38,7 +38,8 @@ use Rattle.calls.proofs.Laws.Write.{parity-apart, lS, ld, lp, length-w,
 use Rattle.calls.proofs.Laws.Passed.{Reaches}
 use Rattle.calls.proofs.Laws.Kept.{storeIf-other}
 use Rattle.calls.proofs.Laws.Table.{some-new}
-use Rattle.calls.proofs.Laws.Advance.{moved, Carried, carried, idle-none}
+use Rattle.calls.proofs.Laws.Moved.{moved}
+use Rattle.calls.proofs.Laws.Advance.{Carried, carried, idle-none}
 use Rattle.calls.proofs.Laws.Runs as runs
 use Rattle.calls.proofs.Laws.Kinds.{Passed, bounds, formatting, writing, growing, moving, rebuilding, below-N}
 use Rattle.calls.proofs.Laws.Kinds.{zeroed, rebuilt, within-grow, within-rebuild, facts}

@@ -17,6 +17,7 @@ pub mod Format
 pub mod Read
 pub mod Write
 pub mod Grow
+pub mod Moved
 pub mod Advance
 pub mod Out
 pub mod Rebuild

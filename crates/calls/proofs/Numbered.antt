@@ -1,5 +1,5 @@
 -- The number that each call is given, by facts: `numbered`. Assumes nothing.
-use Prim.Native.Nat.{ℕ, _*_}
+use Prim.Native.Nat.{ℕ, _+_, _*_}
 use mathlib.Core.Path.{_≡_, refl, ap}
 use mathlib.Core.Bool.{Bool, true, false, not, _||_}
 use mathlib.Core.Logic.{_≢_}
@@ -17,10 +17,10 @@ use Rattle.state.proofs.Theorem.{good-is}
 use Rattle.calls.specs.Call.{Call, column, format, read, view, write, grow, advance, out, rebuild, status, locate, owner, feed}
 use Rattle.calls.specs.Health.{isLost}
 use Rattle.calls.specs.Images.{disksOf, size, sizeWith}
-use Rattle.calls.specs.Table.{Row, badRecord, badGeometry, images, pastEnd, blockLength, formable, looks}
+use Rattle.calls.specs.Table.{badRecord, badGeometry, images, pastEnd, blockLength, formable, looks}
 use Rattle.calls.specs.Table as rows
 use Rattle.calls.specs.Table.{terms, laterRows, table, refusal, rowsBytes, refusalBytes}
-use Rattle.calls.specs.Numbered.{Reason, Gives, reached, formed, Numbered}
+use Rattle.calls.specs.Numbered.{Reason, Gives, Outside, NotLong, bad, lost, degraded, reached, formed, Numbered}
 use Rattle.calls.proofs.Laws.Reasons.{Tells, Told, gives, differ, past, outside, not-good, is-lost, is-degraded, is-idle, is-other, unformable, out-or-past}
 use Rattle.calls.proofs.Laws.OnBytes.{refusal-encode}
 
@@ -45,6 +45,16 @@ module _ (r : Record) (c len room : ℕ) where
   reaches : (b lent : ℕ) → Told (badRecord (not (good r)) ∷ rows.lost r ∷ images (size r) len ∷ pastEnd b c ∷ blockLength r lent ∷ []) (reached r c b len lent)
   unfolding Told
   reaches b lent = here r (λ nl. (refl, differ len (size r), λ u. (refl, past b c, λ v. (refl, differ lent (r .block), λ w. tt))))
+
+  of-grow : (m : ℕ) → Gives (refusal r c (feed (grow m) len room))
+      (bad r ∷ lost r ∷ degraded r ∷ (4, r .new ≢ 0) ∷ (6, Outside 1 m 16) ∷ (7, NotLong r (r .old + m) len) ∷ [])
+  unfolding table laterRows terms Told
+  of-grow m = say (grow m) _
+      (here r (λ nl. (
+        refl,
+        is-degraded (r .health) nl,
+        λ u. (refl, differ (r .new) 0, λ v. (refl, outside 1 m 16, λ w. (refl, differ len (sizeWith r m), λ y. tt))),
+      )))
 
 -- ---- on a record's bytes
 
@@ -74,12 +84,7 @@ numbered =
       of-read = λ r c len room b. say r c len room (read b) _ (reaches r c len room b room);
       of-view = λ r c len room b. say r c len room (view b) _ (reaches r c len room b room);
       of-write = λ r c len room b v. say r c len room (write b v) _ (reaches r c len room b (length v));
-      of-grow = λ r c len room m. say r c len room (grow m) _
-          (here r (λ nl. (
-            refl,
-            is-degraded (r .health) nl,
-            λ u. (refl, differ (r .new) 0, λ v. (refl, outside 1 m 16, λ w. (refl, differ len (sizeWith r m), λ y. tt))),
-          )));
+      of-grow = of-grow;
       of-advance = λ r c len room k. say r c len room (advance k) _
           (here r (λ nl. (refl, is-degraded (r .health) nl, λ u. (refl, is-idle (geometry r), λ v. (refl, differ len (size r), λ w. tt)))));
       of-out = λ r c len room d. say r c len room (out d) _

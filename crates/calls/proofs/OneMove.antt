@@ -9,9 +9,9 @@ use native.Mathlib.Omega.{arith}
 use lib.ListN.{length, getD, length-replicate}
 use lib.Seq.{ext-getD}
 use Rattle.layout.specs.declared.Geometry.{Geometry}
-use Rattle.layout.specs.Layout.{nextStripe, nextFrom, nextTo, after as next}
+use Rattle.layout.specs.Layout.{home, layout, nextStripe, nextFrom, nextTo}
 use Rattle.layout.specs.Limits.{GoodArray}
-use Rattle.layout.proofs.Laws.Standing.{standing, Carries}
+use Rattle.layout.proofs.Laws.Standing.{carriedOwner, Carries}
 use Rattle.blocks.specs.Block.{zeros}
 use Rattle.blocks.proofs.Laws.Grid.{Grid, storeAt, storeAt-same, storeAt-row, storeAt-far}
 use Rattle.blocks.proofs.Laws.Stripe.{length-place, getD-place}
@@ -25,7 +25,7 @@ use Rattle.calls.specs.Effect.{moveStores}
 use Rattle.calls.specs.Alone.{Moves, OneMove}
 use Rattle.calls.proofs.Laws.Carry.{carry}
 use Rattle.calls.proofs.Laws.Holding.{cellIn}
-use Rattle.calls.proofs.Laws.Advance as advance
+use Rattle.calls.proofs.Laws.Moved as moved
 
 -- ---- on one byte of every place
 
@@ -61,18 +61,18 @@ module _ (r : Record) (img : List ℕ) (gd : good r ≡ true) (busy : idle (geom
   abbrev after : List ℕ
   after = stored (r .block) (r .stripes) (moveStores r img) img
 
-  c : Carries (disksOf r) (r .stripes) (standing g) (standing (next g)) (nextStripe g) (nextFrom g) (nextTo g)
-  c = advance.c r img array busy long
+  c : Carries (disksOf r) (r .stripes) (layout g .owner) (carriedOwner (home g) g) (nextStripe g) (nextFrom g) (nextTo g)
+  c = moved.c r img array busy long
 
   -- a place after the move, byte by byte
   is : (S d : ℕ) (v : List ℕ) → S < r .stripes → d < disksOf r → length v ≡ r .block
       → ((j : ℕ) → j < r .block → carry (cellIn r img j) (nextStripe g) (nextFrom g) (nextTo g) S d ≡ getD v j 0) → placeIn r after S d ≡ v
   is S d v lS ld lv same =
-      let len : length (placeIn r after S d) ≡ r .block = length-place (r .block) (r .stripes) after S d (disksOf r) lS ld (rw (advance.long-move r img array busy long) (omega arith)) in
+      let len : length (placeIn r after S d) ≡ r .block = length-place (r .block) (r .stripes) after S d (disksOf r) lS ld (rw (moved.long-move r img array busy long) (omega arith)) in
       ext-getD 0 (placeIn r after S d) v (len ∙ sym lv)
       (λ j l.
       let lj : j < r .block = rw len at l in
-      getD-place (r .block) (r .stripes) after S d j lj ∙ advance.cell-move r img array busy long j lj S d lS ∙ same j lj)
+      getD-place (r .block) (r .stripes) after S d j lj ∙ moved.cell-move r img array busy long j lj S d lS ∙ same j lj)
 
   -- a place before it
   was : (S d : ℕ) → S < r .stripes → d < disksOf r → length (placeIn r img S d) ≡ r .block

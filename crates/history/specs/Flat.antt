@@ -1,7 +1,7 @@
 -- Document 01: "The flat list is a small machine. It is fed each call's arguments, a write's data among them, and the lengths
 -- lent, and no byte of record or images. It holds n, m, B, T, t, health with the disk out, and a list of blocks; capacity is
 -- that list's length."
-use Prim.Native.Nat.{ℕ, zero, suc, _+_, _-_, _*_, min}
+use Prim.Native.Nat.{ℕ, zero, suc, _+_, _-_, _*_, _/_, min}
 use mathlib.Core.Bool.{cond}
 use mathlib.Core.List.{List, [], _++_}
 use lib.Dec.{eqb}
@@ -26,11 +26,15 @@ flat r bs = record { numbers = r; blocks = bs }
 abbrev pub zeroBlocks : ℕ → ℕ → List (List ℕ)
 zeroBlocks c B = replicate c (zeros B)
 
--- the length that the list has by its numbers: T × (n − 1) blocks, and T × m more once t is the total
+-- the length that the list has by its numbers: T × (n − 1) blocks; (n + m) × m more for each finished zone, of which t div (n × m) are,
+-- and once t is the total T × m more in all
 abbrev pub reached : Record → ℕ
-reached r = r .stripes * (r .old - 1) + cond (eqb (r .moves) (totalOf (geometry r))) (r .stripes * r .new) 0
+reached r =
+    r .stripes * (r .old - 1)
+    + cond (eqb (r .moves) (totalOf (geometry r))) (r .stripes * r .new) (r .moves / (r .old * r .new) * (r .old + r .new) * r .new)
 
--- "A grow or advance that brings t to the total puts T × m zero blocks behind the list.": zero blocks up to that length
+-- "The flat list lengthens by just these zero blocks as they come, at grow itself where the total is 0" (document 02, (b)): zero blocks
+-- up to that length
 abbrev pub lengthened : Record → List (List ℕ) → List (List ℕ)
 lengthened r bs = bs ++ zeroBlocks (reached r - length bs) (r .block)
 

@@ -193,7 +193,7 @@ LastGiven =
     let y = flatStep (record { call = write b v; images = len; room = room }) f in
     accepted (y .0) ≡ true → (es : List Fed) → NotGiven b es (y .1) → Gives b v (behind es (y .1))
 
--- a block that was given nothing since the format reads as zeroes; so does one that is new at the end of a growth
+-- a block that was given nothing since the format reads as zeroes; so does one that is new, from the zone's end on that brought it
 abbrev pub ZeroAtFirst : Type 0
 ZeroAtFirst =
     (f : Flat) (n B T len room : ℕ) →

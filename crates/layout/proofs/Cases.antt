@@ -1,3 +1,4 @@
 -- The worked cases, computed.
 pub mod Paper
 pub mod Tail
+pub mod Zones

@@ -15,10 +15,10 @@ pub mod Bounds
 pub mod Settled
 pub mod Runs
 pub mod Numbers
+pub mod Opening
 pub mod Lawful
 pub mod Home
 pub mod Grown
-pub mod Finish
 pub mod Layout
-pub mod Moving
 pub mod Standing
+pub mod Moving

@@ -1,9 +1,10 @@
 -- Demand 2, proved: `demand2`. Assumes nothing.
-use Prim.Native.Nat.{ℕ, _+_, _-_, _*_, _/_, _%_, _≤_, _<_}
+use Prim.Native.Nat.{ℕ, suc, _+_, _-_, _*_, _/_, _%_, _≤_, _<_}
 use mathlib.Core.Path.{_≡_, refl, sym, ap, ap₂, _∙_}
 use mathlib.Core.Bool.{Bool, true, false, true≢false}
 use mathlib.Core.Logic.{inl, inr, _≢_}
-use native.Mathlib.Nat.{div-lt-iff-lt-mul}
+use native.Mathlib.Decide.{ℕ-discrete}
+use native.Mathlib.Nat.{div-lt-iff-lt-mul, mul-pos, mod-lt, div-add-mod'}
 use native.Mathlib.Omega.{arith}
 use lib.ListN.{length}
 use Rattle.layout.specs.declared.Geometry.{Geometry}
@@ -14,9 +15,10 @@ use Rattle.layout.specs.Moves.{total, stands}
 use Rattle.layout.specs.Closed.{diskAt, source, taken}
 use Rattle.layout.specs.Blanks.{blanksBelow, newBlock}
 use Rattle.layout.specs.Runs.{awaited}
-use Rattle.layout.specs.Layout.{disks, totalOf, oldBlocks, capacity, home, layout, grownParity}
+use Rattle.layout.specs.Layout.{disks, totalOf, at, oldBlocks, openStripes, capacity, home, layout, grownParity, after}
 use Rattle.layout.specs.Limits.{GoodArray}
-use Rattle.layout.specs.Theorem.{Ranks, Order, Replay, WholeGroups, Numbers, Placed, Blanked, Tail, NextMove, Laid, Demand2, blank}
+use Rattle.layout.specs.Theorem.Open.{so-far, at-last}
+use Rattle.layout.specs.Theorem.{Ranks, Order, Replay, WholeGroups, Open, Numbers, Placed, Blanked, Tail, NextMove, Later, Laid, Demand2, blank}
 use Rattle.layout.proofs.Laws.Basics.{le-or-lt}
 use Rattle.layout.proofs.Laws.Lag as moves
 use Rattle.layout.proofs.Laws.Order as orders
@@ -27,11 +29,11 @@ use Rattle.layout.proofs.Laws.NewBlocks.{Listed, nth-listed, count-mono
 use Rattle.layout.proofs.Laws.Zones.{total-none}
 use Rattle.layout.proofs.Laws.Settled.{waits, awaited-nth}
 use Rattle.layout.proofs.Laws.Numbers as counts
+use Rattle.layout.proofs.Laws.Opening as opening
 use Rattle.layout.proofs.Laws.Lawful.Held.{a-block, the-parity}
 use Rattle.layout.proofs.Laws.Lawful.{Held}
 use Rattle.layout.proofs.Laws.Home as homes
-use Rattle.layout.proofs.Laws.Grown.{low, owner-old, owner-new, owner-none}
-use Rattle.layout.proofs.Laws.Finish.{none-left}
+use Rattle.layout.proofs.Laws.Grown.{low, owner-old, owner-new, owner-none, open-full, below, positive}
 use Rattle.layout.proofs.Laws.Layout.{home-full, lawful}
 use Rattle.layout.proofs.Laws.Moving as moving
 
@@ -89,8 +91,12 @@ module _ (g : Geometry) (good : GoodArray g) where
     no-more = counts.no-more g good;
     inside = counts.in-groups g good;
     no-group = counts.no-group g good;
-    capacity-before = counts.capacity-before g;
-    capacity-after = counts.capacity-after g (omega (arith, pn));
+    finished = opening.some-finished g good;
+    all-done = opening.all-done g good;
+    not-all = opening.not-all g good;
+    opened = opening.some-open g good;
+    capacity-before = opening.capacity-before g good;
+    capacity-after = opening.capacity-after g good;
   }
 
   -- ---- places and owners
@@ -178,11 +184,33 @@ module _ (g : Geometry) (good : GoodArray g) where
       go false p = p
       go true p = absurd (home-full g good .no-blank S _ l (source-lt _ _ pn S e) (sym (owner-old (home g) g S e p) ∙ q))
 
-  new-block : g .moves ≡ totalOf g → (S j : ℕ) → S < g .stripes → j < g .new → layout g .owner S (blank g S j) ≡ Data (oldBlocks g + (S * g .new + j))
-  unfolding newBlock
-  new-block over S j l h =
-      owner-new (home g) g S (blank g S j) (listed S j h .free) (rw (counts.open-all g over) at l)
-      ∙ ap (λ x. Data (oldBlocks g + (S * g .new + x))) (listed S j h .rank)
+  module _ (X : ℕ) (o : Open g X) (S : ℕ) where
+    new-block : (j : ℕ) → S < X → j < g .new → layout g .owner S (blank g S j) ≡ Data (oldBlocks g + (S * g .new + j))
+    unfolding newBlock
+    new-block j l h =
+        owner-new (home g) g S (blank g S j) (listed S j h .free) (omega (arith, opening.open-is g good X o))
+        ∙ ap (λ x. Data (oldBlocks g + (S * g .new + x))) (listed S j h .rank)
+
+    none-left : (e : ℕ) → S < X → layout g .owner S e ≢ Blank
+    none-left e l =
+        let in-open : S < openStripes g = omega (arith, opening.open-is g good X o) in
+        open-full (home g) g pn (home-full g good .no-blank) S e (omega (arith, opening.open-le g good)) in-open
+
+    are-blank : (j : ℕ) → X ≤ S → j < g .new → layout g .owner S (blank g S j) ≡ Blank
+    are-blank j l h = owner-none (home g) g S (blank g S j) (listed S j h .free) (omega (arith, opening.open-is g good X o))
+
+  new-place : (X : ℕ) → Open g X → (k : ℕ) → k < X * g .new
+      → layout g .place (oldBlocks g + k) ≡ placeAt (k / g .new) (blank g (k / g .new) (k % g .new))
+  new-place X o k l =
+      let pm : 0 < g .new = positive X (g .new) k l in
+      let S : ℕ = k / g .new in
+      let j : ℕ = k % g .new in
+      let hj : k % g .new < g .new = mod-lt k pm in
+      let hS : k / g .new < X = div-lt-iff-lt-mul pm .1 l in
+      let inside : k / g .new < g .stripes = omega (arith, opening.open-is g good X o, opening.open-le g good) in
+      let q : S * g .new + j ≡ k = div-add-mod' k (g .new) in
+      ap (λ x. layout g .place (oldBlocks g + x)) (sym q)
+      ∙ owned S (blank g S j) inside (listed S j hj .under) _ (new-block X o S j hS hj) .1
 
   blanked : Blanked g
   blanked = record {
@@ -191,10 +219,11 @@ module _ (g : Geometry) (good : GoodArray g) where
     rising = rising;
     empty = empty;
     filled = filled;
-    are-blank = λ more S j h. owner-none (home g) g S (blank g S j) (listed S j h .free) (omega (arith, counts.open-none g (λ q. omega arith)));
-    no-other = λ more S e l he q. found S e he (free S e l q);
     new-block = new-block;
-    none-left = λ over S e l he. none-left (home g) g pn over (home-full g good .no-blank) S e l;
+    none-left = λ X o S e l he. none-left X o S e l;
+    new-place = new-place;
+    are-blank = are-blank;
+    no-other = λ S e l he q. found S e he (free S e l q);
   }
 
   -- ---- the tail
@@ -219,7 +248,7 @@ module _ (g : Geometry) (good : GoodArray g) where
         ∙ ap (placeAt S) (stays _)
 
     tail-new : g .moves ≡ totalOf g → (j : ℕ) → j < g .new → layout g .owner S (g .old + j) ≡ Data (oldBlocks g + (S * g .new + j))
-    tail-new over j h = rw (tail-blank j h) at (new-block over S j hS h)
+    tail-new over j h = rw (tail-blank j h) at (new-block (g .stripes) (at-last over) S j hS h)
 
     tailed : Tail g S
     unfolding grownParity
@@ -227,41 +256,74 @@ module _ (g : Geometry) (good : GoodArray g) where
       data-stays = data-stays;
       parity-stays = stays _;
       blanks-are = tail-blank;
-      are-blank = λ more j h. rw (tail-blank j h) at (blanked .are-blank more S j h);
+      are-blank = λ more j h.
+          owner-none (home g) g S (g .old + j) (rw (tail-blank j h) at (listed S j h .free)) (opening.tail-closed g good more G S w l);
       new-block = tail-new;
       new-place = λ over j h. owned S (g .old + j) hS (omega arith) _ (tail-new over j h) .1;
     }
 
-  -- ---- one move
+-- ---- as the growth goes on
 
-  next-move : g .moves < totalOf g → NextMove g
-  next-move more =
-      let pm : 0 < g .new = counts.has-new g good (g .moves) more in
-      let i = counts.inside g good pm (g .moves) more in
-      let f = home-full g good in
-      record {
-        block-goes = moving.place-moves (home g) g pn pm f more i;
-        parity-goes = moving.parity-moves (home g) g pn pm f more i;
-        takes = moving.takes (home g) g pn pm f more i;
-        onto-blank = moving.onto-blank (home g) g pn pm f more i;
-        arrives = moving.arrives (home g) g pn pm f more i;
-        kept = λ S e l he other. moving.kept (home g) g pn pm f more i S e other;
-        leaves-blank = moving.leaves-blank (home g) g pn pm f more i;
-        others = λ left S e l he other. moving.others (home g) g pn pm f more i left S e other;
-      }
+module _ (g : Geometry) (good : GoodArray g) where
+  module _ (more : g .moves < totalOf g) where
+    later : GoodArray (after g)
+    later = counts.good-later g good (suc (g .moves)) more
+
+    -- the move finishes zone Z: that zone's stripes are the first that are not open before it
+    module _ (Z Y : ℕ) (last : suc (g .moves) ≡ (Z + 1) * (g .old * g .new)) (o : Open (after g) Y) where
+      opens : Open g (Z * (g .old + g .new))
+      opens = so-far more Z (record { done = omega (arith, mul-pos {m = g .old} {n = g .new} (omega (arith, good .disks .n-low)) (counts.has-new g good (g .moves) more)); no-other = omega arith })
+
+      turns : (S j : ℕ) → Z * (g .old + g .new) ≤ S → S < Y → j < g .new
+          → (layout g .owner S (blank g S j) ≡ Blank) × (layout (after g) .owner S (blank (after g) S j) ≡ Data (oldBlocks g + (S * g .new + j)))
+      turns S j l h k = (blanked g good .are-blank _ opens S j l k, blanked (after g) later .new-block Y o S j h k)
+
+      behind : (S e : ℕ) → Y ≤ S → layout (after g) .owner S e ≡ layout g .owner S e
+      behind S e l =
+          moving.untouched (home g) g good (home-full g good) more S e
+          (λ q. absurd (omega (arith, q, opening.next-open g good more Z last Y o)))
+          (λ h. absurd (omega (arith, opening.open-is (after g) later Y o)))
+
+    next-move : NextMove g
+    next-move =
+        let f = home-full g good in
+        record {
+          block-goes = moving.place-moves (home g) g good f more;
+          parity-goes = moving.parity-moves (home g) g good f more;
+          takes = moving.takes (home g) g good f more;
+          onto-blank = moving.onto-blank (home g) g good f more;
+          arrives = moving.arrives (home g) g good f more;
+          kept = λ S e l he other. moving.kept (home g) g good f more S e other;
+          leaves-blank = moving.leaves-blank (home g) g good f more;
+          others = λ Z lo hi S e l he other. moving.others (home g) g good f more Z lo hi S e other;
+          turns = turns;
+          behind = λ Z Y last o S e l hS he. behind Z Y last o S e l;
+        }
+
+  -- ---- later
+
+  new-stays : (t : ℕ) → g .moves ≤ t → t ≤ totalOf g → (b : ℕ) → oldBlocks g ≤ b → b < capacity g → layout (at g t) .place b ≡ layout g .place b
+  new-stays t since le b l h = elim (ℕ-discrete (g .moves) (totalOf g)) [
+    | yes q ↦ (let e : t ≡ g .moves = omega arith in rw e refl)
+    | no q ↦ moving.stands g good (omega arith) t since (home g) b l (below g b h)
+  ]
+
+  goes-on : (t : ℕ) → g .moves ≤ t → t ≤ totalOf g → Later g (at g t)
+  goes-on t since le = record { capacity-kept = opening.capacity-rises g good t since le; new-stays = new-stays t since le }
 
   -- ---- all of it
 
   pub laid : Laid g
   laid = record {
-    ranks = ranked (g .old) pn;
-    order = λ pm. ordered (g .old) (g .new) (omega (arith, pn)) pm;
-    replay = λ pm. replayed (g .old) (g .new) (omega (arith, pn)) pm (g .moves);
-    numbers = numbers;
-    placed = placed;
-    blanked = blanked;
-    tail = tailed;
+    ranks = ranked (g .old) (pn g good);
+    order = λ pm. ordered (g .old) (g .new) (omega (arith, pn g good)) pm;
+    replay = λ pm. replayed (g .old) (g .new) (omega (arith, pn g good)) pm (g .moves);
+    numbers = numbers g good;
+    placed = placed g good;
+    blanked = blanked g good;
+    tail = tailed g good;
     next-move = next-move;
+    later = goes-on;
   }
 
 pub demand2 : Demand2

@@ -1,5 +1,5 @@
 -- The layout of an array: where each block stands, where each stripe's parity stands, and who owns each place.
-use Prim.Native.Nat.{ℕ, suc, _+_, _-_, _*_}
+use Prim.Native.Nat.{ℕ, suc, _+_, _-_, _*_, _/_}
 use mathlib.Core.Bool.{cond}
 use lib.Dec.{ltb, eqb}
 use Rattle.layout.specs.declared.Found.{Found}
@@ -35,11 +35,16 @@ at g t = record { old = g .old; new = g .new; stripes = g .stripes; moves = t }
 abbrev pub oldBlocks : Geometry → ℕ
 oldBlocks g = g .stripes * (g .old - 1)
 
--- the first stripes, whose blanks are new blocks: "Once t is the total", all; before, none
-unfoldable pub openStripes : Geometry → ℕ
-openStripes g = cond (eqb (g .moves) (totalOf g)) (g .stripes) 0
+-- F, its finished zones: a zone is finished once all its n × m moves are done
+abbrev pub finishedZones : Geometry → ℕ
+finishedZones g = g .moves / (g .old * g .new)
 
--- "Capacity becomes T × (n + m − 1); before, it stays the old one"
+-- the first stripes, whose blanks are new blocks: "After each finished zone its blanks become blocks" (document 02, (b)); "once t is the
+-- total", those of all stripes are, the tail's too
+unfoldable pub openStripes : Geometry → ℕ
+openStripes g = cond (eqb (g .moves) (totalOf g)) (g .stripes) (finishedZones g * disks g)
+
+-- "capacity is T × (n − 1) + F × (n + m) × m with F finished zones, and the full figure once t is the total": then T × (n + m − 1)
 unfoldable pub capacity : Geometry → ℕ
 capacity g = oldBlocks g + openStripes g * g .new
 

@@ -13,8 +13,8 @@ use Rattle.layout.specs.Closed.{diskAt}
 use Rattle.layout.specs.Blanks.{blanks}
 use Rattle.layout.specs.Layout.{disks, totalOf, capacity, layout, nextStripe, nextFrom, nextTo, after}
 
--- Where document 01 has a formula for a place of before the growth, it stands here in bare numbers, and not by its name, so that the name
--- cannot come to mean another one.
+-- Where the documents have a formula for a place of before the growth, for a new block's, for the total or for the capacity, it stands here
+-- in bare numbers, and not by its name, so that the name cannot come to mean another one.
 
 -- ---- before growth: "its rank .. counts data disks from the highest down, skipping parity", which is on disk S mod n
 
@@ -70,6 +70,17 @@ pub record WholeGroups (g : Geometry) (G : ℕ) : Type 0 where
   pub inside : G * g .old * (g .old + g .new) ≤ g .stripes
   pub no-other : g .stripes < (G + 1) * g .old * (g .old + g .new)
 
+-- F of its zones are finished, and no more: all their moves are done, n × m to a zone
+pub record Finished (g : Geometry) (F : ℕ) : Type 0 where
+  pub done : F * (g .old * g .new) ≤ g .moves
+  pub no-other : g .moves < (F + 1) * (g .old * g .new)
+
+-- the first X of its stripes are open: those whose blanks are blocks. "After each finished zone its blanks become blocks"; at the total all
+-- stripes are open, those of the tail too
+pub data Open (g : Geometry) : ℕ → Type 0 where
+  so-far : g .moves < totalOf g → (F : ℕ) → Finished g F → Open g (F * (g .old + g .new))
+  at-last : g .moves ≡ totalOf g → Open g (g .stripes)
+
 pub record Numbers (g : Geometry) : Type 0 where
   pub groups : (G : ℕ) × WholeGroups g G
   -- "Only whole groups move now": the moves below the total are those of their zones, n to a group and n × m moves to a zone, all of
@@ -82,8 +93,14 @@ pub record Numbers (g : Geometry) : Type 0 where
   pub inside : 0 < g .new → (G k : ℕ) → WholeGroups g G → k < totalOf g → moveStripe (g .old) (g .new) k < G * g .old * (g .old + g .new)
   -- "With no whole group the total is 0"
   pub no-group : g .stripes < g .old * (g .old + g .new) → totalOf g ≡ 0
-  -- "Capacity becomes T × (n + m − 1); before, it stays the old one"
-  pub capacity-before : g .moves < totalOf g → capacity g ≡ g .stripes * (g .old - 1)
+  -- the moves of finished zones are done, all of them, and of the next zone not the last one
+  pub finished : 0 < g .new → (F : ℕ) × Finished g F
+  pub all-done : (F Z p i : ℕ) → Finished g F → Z < F → p < disks g → i < g .old → moveIndex (g .old) (g .new) Z p i < g .moves
+  pub not-all : (F : ℕ) → Finished g F → g .moves ≤ moveIndex (g .old) (g .new) F (disks g - 1) (g .old - 1)
+  pub opened : (X : ℕ) × Open g X
+  -- "capacity is T × (n − 1) + F × (n + m) × m with F finished zones, and the full figure once t is the total"
+  pub capacity-before : g .moves < totalOf g → (F : ℕ) → Finished g F
+      → capacity g ≡ g .stripes * (g .old - 1) + F * (g .old + g .new) * g .new
   pub capacity-after : g .moves ≡ totalOf g → capacity g ≡ g .stripes * (g .old + g .new - 1)
 
 -- ---- number to place and place to number, after any count of moves
@@ -108,7 +125,7 @@ pub record Placed (g : Geometry) : Type 0 where
   pub owner-of-parity : (S : ℕ) → S < g .stripes → layout g .owner S (layout g .parity S) ≡ Parity
   pub parity-of-owner : (S e : ℕ) → S < g .stripes → e < disks g → layout g .owner S e ≡ Parity → layout g .parity S ≡ e
 
--- ---- the blanks of a stripe: m at every count of moves; at the total they are the new blocks, in order
+-- ---- the blanks of a stripe: m at every count of moves; once the stripe is open they are the new blocks, in order
 
 abbrev pub blank : Geometry → ℕ → ℕ → ℕ
 blank g S j = getD (blanks (g .old) (g .new) (g .moves) S) j 0
@@ -122,14 +139,16 @@ pub record Blanked (g : Geometry) : Type 0 where
   pub empty : (S j d : ℕ) → j < g .new → d < g .old → stands (g .old) (g .new) (g .moves) S d ≢ blank g S j
   pub filled : (S e : ℕ) → e < disks g → ((j : ℕ) → j < g .new → blank g S j ≢ e)
       → (d : ℕ) × (d < g .old) × (stands (g .old) (g .new) (g .moves) S d ≡ e)
-  -- while moves are left their owner is nobody, and no other place has that owner
-  pub are-blank : g .moves < totalOf g → (S j : ℕ) → j < g .new → layout g .owner S (blank g S j) ≡ Blank
-  pub no-other : g .moves < totalOf g → (S e : ℕ) → S < g .stripes → e < disks g → layout g .owner S e ≡ Blank
-      → (j : ℕ) × (j < g .new) × (blank g S j ≡ e)
-  -- at the total they are the new blocks, in order, and no place is blank
-  pub new-block : g .moves ≡ totalOf g → (S j : ℕ) → S < g .stripes → j < g .new
+  -- in a stripe that is open they are the new blocks, in order, and no place is blank
+  pub new-block : (X : ℕ) → Open g X → (S j : ℕ) → S < X → j < g .new
       → layout g .owner S (blank g S j) ≡ Data (g .stripes * (g .old - 1) + (S * g .new + j))
-  pub none-left : g .moves ≡ totalOf g → (S e : ℕ) → S < g .stripes → e < disks g → layout g .owner S e ≢ Blank
+  pub none-left : (X : ℕ) → Open g X → (S e : ℕ) → S < X → e < disks g → layout g .owner S e ≢ Blank
+  -- and from number to place: "New block T × (n − 1) + k is in stripe k div m, on blank place k mod m counted from the lowest disk"
+  pub new-place : (X : ℕ) → Open g X → (k : ℕ) → k < X * g .new
+      → layout g .place (g .stripes * (g .old - 1) + k) ≡ placeAt (k / g .new) (blank g (k / g .new) (k % g .new))
+  -- in any other stripe their owner is nobody, and no other place has that owner
+  pub are-blank : (X : ℕ) → Open g X → (S j : ℕ) → X ≤ S → j < g .new → layout g .owner S (blank g S j) ≡ Blank
+  pub no-other : (S e : ℕ) → S < g .stripes → e < disks g → layout g .owner S e ≡ Blank → (j : ℕ) × (j < g .new) × (blank g S j ≡ e)
 
 -- ---- the tail: "stripes behind the last one" of the whole groups "keep old parity and data places, with all m new places blank",
 -- after any count of moves
@@ -156,13 +175,29 @@ pub record NextMove (g : Geometry) : Type 0 where
   pub takes : layout g .owner (nextStripe g) (nextFrom g) ≢ Blank
   pub onto-blank : layout g .owner (nextStripe g) (nextTo g) ≡ Blank
   pub arrives : layout (after g) .owner (nextStripe g) (nextTo g) ≡ layout g .owner (nextStripe g) (nextFrom g)
-  -- every other place that is not blank keeps its owner, at the last move too
+  -- every other place that is not blank keeps its owner, new blocks too
   pub kept : (S e : ℕ) → S < g .stripes → e < disks g → (nextStripe g ≡ S → (e ≢ nextFrom g) × (e ≢ nextTo g))
       → layout g .owner S e ≢ Blank → layout (after g) .owner S e ≡ layout g .owner S e
-  -- and unless it is the last one (then the blanks are the new blocks) the place left is blank, and so is what was
-  pub leaves-blank : suc (g .moves) < totalOf g → layout (after g) .owner (nextStripe g) (nextFrom g) ≡ Blank
-  pub others : suc (g .moves) < totalOf g → (S e : ℕ) → S < g .stripes → e < disks g
-      → (nextStripe g ≡ S → (e ≢ nextFrom g) × (e ≢ nextTo g)) → layout (after g) .owner S e ≡ layout g .owner S e
+  -- a move of zone Z that does not finish it turns no blank into a block: the place left is blank, and so is what was ..
+  pub leaves-blank : (Z : ℕ) → Z * (g .old * g .new) ≤ g .moves → suc (g .moves) < (Z + 1) * (g .old * g .new)
+      → layout (after g) .owner (nextStripe g) (nextFrom g) ≡ Blank
+  pub others : (Z : ℕ) → Z * (g .old * g .new) ≤ g .moves → suc (g .moves) < (Z + 1) * (g .old * g .new)
+      → (S e : ℕ) → S < g .stripes → e < disks g → (nextStripe g ≡ S → (e ≢ nextFrom g) × (e ≢ nextTo g))
+      → layout (after g) .owner S e ≡ layout g .owner S e
+  -- .. and one that finishes it turns the blanks of that zone into blocks, the last move all that are left, so that Y stripes are open
+  -- behind it. In the stripes behind those nothing changes
+  pub turns : (Z Y : ℕ) → suc (g .moves) ≡ (Z + 1) * (g .old * g .new) → Open (after g) Y
+      → (S j : ℕ) → Z * (g .old + g .new) ≤ S → S < Y → j < g .new
+      → (layout g .owner S (blank g S j) ≡ Blank)
+      × (layout (after g) .owner S (blank (after g) S j) ≡ Data (g .stripes * (g .old - 1) + (S * g .new + j)))
+  pub behind : (Z Y : ℕ) → suc (g .moves) ≡ (Z + 1) * (g .old * g .new) → Open (after g) Y
+      → (S e : ℕ) → Y ≤ S → S < g .stripes → e < disks g → layout (after g) .owner S e ≡ layout g .owner S e
+
+-- ---- later in the same growth, g having become `then`: no number is taken back, and a new block never moves
+
+pub record Later (g then : Geometry) : Type 0 where
+  pub capacity-kept : capacity g ≤ capacity then
+  pub new-stays : (b : ℕ) → g .stripes * (g .old - 1) ≤ b → b < capacity g → layout then .place b ≡ layout g .place b
 
 -- ---- all of it, of one array ..
 
@@ -175,6 +210,7 @@ pub record Laid (g : Geometry) : Type 0 where
   pub blanked : Blanked g
   pub tail : (G S : ℕ) → WholeGroups g G → G * g .old * (g .old + g .new) ≤ S → S < g .stripes → Tail g S
   pub next-move : g .moves < totalOf g → NextMove g
+  pub later : (t : ℕ) → g .moves ≤ t → t ≤ totalOf g → Later g (record { old = g .old; new = g .new; stripes = g .stripes; moves = t })
 
 -- .. and of every array in document 01's limits, in bare numbers: every n, m, T and t together, t at most
 -- "(T div (n × (n + m))) × n × n × m"

@@ -82,7 +82,7 @@ fn disk_lift(n: u64, m: u64, x: Stripe, e: u64) -> u64
 }
 
 // Have all moves of the stripe's zone been made?
-fn is_settled(n: u64, m: u64, t: u64, x: Stripe) -> bool
+pub(crate) fn is_settled(n: u64, m: u64, t: u64, x: Stripe) -> bool
     requires { ⌜ TakenApart n m x ⌝ }
     ensures { λ r. ⌜ r ≡ leb (settled n m (x .number)) t ⌝ }
 {
@@ -97,10 +97,12 @@ pub(crate) fn nth_blank(n: u64, m: u64, t: u64, x: Stripe, j: u64) -> u64
     j + pick(is_settled(n, m, t, x), nth_lift(n, m, x, j), n)
 }
 
-// The way back: the number of blank places below disk e, if that is one itself.
+// The way back: the number of blank places below disk e, if that is one itself. (Of any stripe; where only some moves of its zone are made
+// the answer means nothing, and is at most e.)
 pub(crate) fn count_below(n: u64, m: u64, t: u64, x: Stripe, e: u64) -> u64
-    requires { ⌜ TakenApart n m x × Resting n m t (x .number) × (e < n + m) ⌝ }
-    ensures { λ r. ⌜ (r ≤ e) × (taken n m t (x .number) e ≡ false → r ≡ length (blanksBelow n m t (x .number) e)) ⌝ }
+    requires { ⌜ TakenApart n m x × (e < n + m) ⌝ }
+    ensures { λ r. ⌜ (r ≤ e) × (Resting n m t (x .number) → taken n m t (x .number) e ≡ false →
+        r ≡ length (blanksBelow n m t (x .number) e)) ⌝ }
 {
     excess(e, pick(is_settled(n, m, t, x), disk_lift(n, m, x, e), n))
 }

@@ -2,9 +2,9 @@
 ghost use Prim.Native.Nat.{_<_};
 ghost use mathlib.Core.Path.{_≡_};
 ghost use mathlib.Core.Bool.{false};
-ghost use lib.Dec.{leb, eqb};
+ghost use lib.Dec.{ltb, leb, eqb};
 ghost use Rattle.layout.specs.Closed.{taken};
-ghost use Rattle.layout.specs.Layout.{disks, totalOf, oldBlocks, openStripes, capacity};
+ghost use Rattle.layout.specs.Layout.{disks, totalOf, oldBlocks, finishedZones, openStripes, capacity};
 ghost use Rattle.layout.specs.Layout.{newOwner, layout, found};
 ghost use Rattle.layout.specs.Slots.{slotOf, slotDisk, InSlot};
 ghost use Rattle.layout.specs.Coded.{code};
@@ -16,6 +16,7 @@ use crate::Role;
 use crate::Slot;
 use crate::Stripe;
 use crate::blanks::count_below;
+use crate::blanks::is_settled;
 use crate::blanks::nth_blank;
 use crate::choice::pick;
 use crate::closed::disk_at;
@@ -60,12 +61,24 @@ fn old_blocks(g: Geometry) -> u64
     g.stripes * (g.old - 1)
 }
 
-// The stripes whose blanks are new blocks.
+// Its finished zones, where it has new disks.
+fn finished_zones(g: Geometry) -> u64
+    requires { ⌜ GoodArray g × (0 < g .new) ⌝ }
+    ensures { λ r. ⌜ r ≡ finishedZones g ⌝ }
+{
+    g.moves / (g.old * g.new)
+}
+
+// The stripes whose blanks are new blocks. (While moves are left there are new disks.)
 fn open_stripes(g: Geometry) -> u64
     requires { ⌜ GoodArray g ⌝ }
     ensures { λ r. ⌜ r ≡ openStripes g ⌝ }
 {
-    if all_moved(g) { g.stripes } else { 0 }
+    if all_moved(g) {
+        g.stripes
+    } else {
+        finished_zones(g) * (g.old + g.new)
+    }
 }
 
 // The number of blocks.
@@ -74,6 +87,18 @@ pub fn capacity_of(g: Geometry) -> u64
     ensures { λ r. ⌜ r ≡ capacity g ⌝ }
 {
     old_blocks(g) + open_stripes(g) * g.new
+}
+
+// Is b below the capacity? (Only a new block has to be asked how many there are, and only in mid-growth does that take a division.)
+pub fn has_block(g: Geometry, b: u64) -> bool
+    requires { ⌜ GoodArray g ⌝ }
+    ensures { λ r. ⌜ r ≡ ltb b (capacity g) ⌝ }
+{
+    let old = old_blocks(g);
+    if b < old {
+        return true;
+    }
+    b - old < open_stripes(g) * g.new
 }
 
 // The slot of block b.
@@ -156,17 +181,25 @@ pub fn find(g: Geometry, b: u64) -> Found
     }
 }
 
+// Is stripe x open: are its blanks new blocks? Its zone is finished, or the growth is over.
+fn is_open(g: Geometry, x: Stripe) -> bool
+    requires { ⌜ GoodArray g × TakenApart (g .old) (g .new) x × (x .number < g .stripes) ⌝ }
+    ensures { λ r. ⌜ r ≡ ltb (x .number) (openStripes g) ⌝ }
+{
+    if all_moved(g) {
+        return true;
+    }
+    is_settled(g.old, g.new, g.moves, x)
+}
+
 // What disk e of stripe x holds, coded, if nothing of before the growth.
 fn new_code(g: Geometry, x: Stripe, e: u64) -> u64
     requires { ⌜ GoodArray g × TakenApart (g .old) (g .new) x × (x .number < g .stripes) × (e < disks g) ⌝ }
     ensures { λ r. ⌜ (taken (g .old) (g .new) (g .moves) (x .number) e ≡ false → r ≡ code (newOwner g (x .number) e)) ⌝ }
 {
-    let s = x.number;
-    if s < open_stripes(g) {
-        old_blocks(g) + (s * g.new + count_below(g.old, g.new, g.moves, x, e))
-    } else {
-        BLANK
-    }
+    let j = count_below(g.old, g.new, g.moves, x, e);
+    let new = old_blocks(g) + (x.number * g.new + j);
+    pick(is_open(g, x), new, BLANK)
 }
 
 // What disk e of stripe s holds: what came to stand there, or a new block, or nothing.

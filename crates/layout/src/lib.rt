@@ -13,6 +13,7 @@ pub use home::home_place;
 pub use layout::all_moved;
 pub use layout::capacity_of;
 pub use layout::find;
+pub use layout::has_block;
 pub use layout::moves_fit;
 pub use layout::owner_of;
 pub use layout::place_of;

@@ -148,28 +148,38 @@ fn show_moves(five: Record, images: &mut [u8]) -> Record {
     three
 }
 
-fn show_last_move(three: Record, images: &mut [u8]) -> Record {
-    let most = moved(three, images, 14);
-    show(most, images, 30, b"17 moves made");
-    let all = moved(most, images, 1);
-    show(all, images, 30, b"18 moves made");
-    all
+// The sixth move is the last of its zone: behind it there is a block 30, in stripe 0 on disk 3.
+fn show_zone_end(three: Record, images: &mut [u8]) -> Record {
+    let five = moved(three, images, 2);
+    show(five, images, 30, b"5 moves made");
+    let six = moved(five, images, 1);
+    show(six, images, 30, b"6 moves made");
+    six
 }
 
-// Block 30 is in stripe 0 on disk 3.
-fn show_new_block(all: Record, images: &mut [u8]) {
+fn show_new_block(six: Record, images: &mut [u8]) {
     let bytes = mark(30);
-    array::write(all, images, 30, &bytes);
-    show(all, images, 30, b"written");
-    show_without(3, all, images, 30, b"written, disk 3 out");
+    array::write(six, images, 30, &bytes);
+    show(six, images, 30, b"6 moves made, written");
+    show_without(3, six, images, 30, b"6 moves made, written, disk 3 out");
+}
+
+// Block 50 is the first of the last zone.
+fn show_last_move(six: Record, images: &mut [u8]) {
+    let most = moved(six, images, 11);
+    show(most, images, 50, b"17 moves made");
+    let all = moved(most, images, 1);
+    show(all, images, 50, b"18 moves made");
+    show(all, images, 30, b"18 moves made");
 }
 
 fn show_growth(r: Record, images: &mut [u8]) {
     show(r, images, 4, b"images of 5 disks before growth");
     let five = grown(r, images, 2);
     let three = show_moves(five, images);
-    let all = show_last_move(three, images);
-    show_new_block(all, images);
+    let six = show_zone_end(three, images);
+    show_new_block(six, images);
+    show_last_move(six, images);
 }
 
 // One stripe on 3 disks, with blocks as long as `bytes`, which block b is written with. Block 0 is on disk 2, block 1 on disk 1.

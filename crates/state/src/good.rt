@@ -69,7 +69,7 @@ fn added_is_good(m: u64) -> bool
 }
 
 // Can the array have come this far? (With no new disk the total is 0. To ask for it there too costs less than to ask for m first: the
-// compiler then makes one division of this total and of the capacity's.)
+// compiler then makes one division of this and of the test whether all moves are made.)
 fn moves_are_good(r: Record) -> bool
     requires { ⌜ (3 ≤ r .old) × (r .old ≤ 16) × (r .stripes ≤ 1048576) ⌝ }
     ensures { λ x. ⌜ x ≡ movesGood (geometry r) ⌝ }

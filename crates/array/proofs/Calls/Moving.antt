@@ -10,11 +10,11 @@ use lib.ListN.{length}
 use Rattle.layout.specs.declared.Geometry.{Geometry}
 use Rattle.layout.specs.declared.Cursor.{Cursor}
 use Rattle.layout.specs.Moves.{cursorAt}
-use Rattle.layout.specs.Layout.{totalOf, capacity, nextStripe, nextFrom, nextTo, after}
+use Rattle.layout.specs.Layout.{totalOf, capacity, home, layout, nextStripe, nextFrom, nextTo}
 use Rattle.layout.specs.Limits.{Disks, GoodArray}
 use Rattle.layout.proofs.Laws.Counting.{own-index, counted-on}
 use Rattle.layout.proofs.Laws.Bounds.{total-high}
-use Rattle.layout.proofs.Laws.Standing.{standing, Carries, carries}
+use Rattle.layout.proofs.Laws.Standing.{carriedOwner, Carries, carries}
 use Rattle.blocks.specs.Block.{blockAt, store, zeros}
 use Rattle.blocks.specs.Stripe.{offset}
 use Rattle.blocks.proofs.Laws.Stripe.{place-in}
@@ -48,7 +48,7 @@ module _ (r : Record) where
   pub step : GoodRecord r → idle (geometry r) ≡ false → (x : Cursor) → x ≡ next → Step r x
   step l busy x e =
       let g : Geometry = geometry r in
-      let c : Carries (disksOf r) (r .stripes) (standing g) (standing (after g)) (nextStripe g) (nextFrom g) (nextTo g) = carries g (l .array) (some-left g (l .array) busy) in
+      let c : Carries (disksOf r) (r .stripes) (layout g .owner) (carriedOwner (home g) g) (nextStripe g) (nextFrom g) (nextTo g) = carries (home g) g (l .array) (some-left g (l .array) busy) in
       subst (λ (y : Cursor). Step r y) (sym e) record {
         stripe-lt = c .stripe-lt;
         from-lt = c .from-lt;

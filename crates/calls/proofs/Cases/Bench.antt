@@ -14,7 +14,7 @@ use Rattle.calls.specs.Cases.Bench.{Bench, Unmarked}
 pub bench : Bench
 unfolding dataDisk homeStripe homeDisk rankOf homeBlock homeOwner moveZone moveTo moveLag moveWithin moveStripe moveFrom total lag target turn isMoved diskAt source taken blanksBelow blanks newStripe newDisk newBlock openStripes capacity grownPlace grownParity newOwner grownOwner movesGood good stored recorded idle formable terms laterRows table refusal effect called
 bench = record {
-  numbers = (refl, refl, refl);
+  numbers = (refl, refl, refl, refl, refl, refl, refl);
   block-5 = (refl, refl);
   move-0 = (refl, refl, refl);
   move-1 = (refl, refl, refl);
@@ -22,7 +22,8 @@ bench = record {
   block-2 = (refl, refl);
   block-6 = refl;
   block-0 = λ t. refl;
-  new-blocks = (refl, refl, refl, refl, refl);
+  finished-zones = (refl, refl, refl, refl, refl);
+  new-blocks = (refl, refl, refl, refl);
 }
 
 pub unmarked : Unmarked

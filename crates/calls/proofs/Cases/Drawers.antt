@@ -2,7 +2,8 @@
 use mathlib.Core.Path.{refl}
 use Rattle.layout.specs.Home.{dataDisk, homeStripe, homeDisk}
 use Rattle.layout.specs.Moves.{moveZone, moveTo, moveLag, moveWithin, moveStripe, moveFrom, total}
-use Rattle.layout.specs.Closed.{lag, target, turn, isMoved, diskAt}
+use Rattle.layout.specs.Closed.{lag, target, turn, isMoved, diskAt, source, taken}
+use Rattle.layout.specs.Blanks.{blanksBelow, blanks, newStripe, newDisk}
 use Rattle.layout.specs.Layout.{openStripes, capacity, grownPlace, grownParity}
 use Rattle.state.specs.Good.{movesGood, good}
 use Rattle.calls.specs.Images.{seen, stored, recorded, fillDisk, zeroDisks}
@@ -11,7 +12,7 @@ use Rattle.calls.specs.Effect.{viewOf, scratchLeft, writeStores, moveSto
 use Rattle.calls.specs.Cases.Drawers.{Drawers}
 
 pub drawers : Drawers
-unfolding dataDisk homeStripe homeDisk moveZone moveTo moveLag moveWithin moveStripe moveFrom total lag target turn isMoved diskAt openStripes capacity grownPlace grownParity movesGood good seen stored recorded fillDisk zeroDisks idle formable terms laterRows table refusal viewOf scratchLeft writeStores moveStores advanceStores effect called
+unfolding dataDisk homeStripe homeDisk moveZone moveTo moveLag moveWithin moveStripe moveFrom total lag target turn isMoved diskAt source taken blanksBelow blanks newStripe newDisk openStripes capacity grownPlace grownParity movesGood good seen stored recorded fillDisk zeroDisks idle formable terms laterRows table refusal viewOf scratchLeft writeStores moveStores advanceStores effect called
 drawers = record {
   move = refl;
   no-move = refl;
@@ -27,6 +28,12 @@ drawers = record {
   second-out = refl;
   grown = refl;
   formats = refl;
+  written-new = refl;
+  new-left = refl;
+  written-new-degraded = refl;
+  read-new-degraded = refl;
+  rebuilt-new = refl;
+  no-block = refl;
   move-stores = refl;
   write-stores = refl;
   written-unsound = refl;

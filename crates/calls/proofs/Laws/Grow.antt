@@ -11,9 +11,9 @@ use borrow.Author.Tests.{lt-ltb, le-ltb}
 use Rattle.layout.specs.declared.Geometry.{Geometry}
 use Rattle.layout.specs.declared.Role.the-variants.{Blank}
 use Rattle.layout.specs.declared.Role.{Role}
-use Rattle.layout.specs.Layout.{totalOf, oldBlocks, openStripes, capacity, layout}
+use Rattle.layout.specs.Layout.{totalOf, oldBlocks, openStripes, capacity, home, layout}
 use Rattle.layout.specs.Limits.{GoodArray}
-use Rattle.layout.proofs.Laws.Standing.{standing, starts, starts-owned, starts-blank}
+use Rattle.layout.proofs.Laws.Standing.{ownedWith, is-owner, Opened, opened, starts, starts-blank}
 use Rattle.layout.proofs.Laws.Zones.{total-none}
 use Rattle.blocks.proofs.Laws.Grid.{Grid}
 use Rattle.blocks.proofs.Laws.Rows.{sum-ext, sum-extend}
@@ -29,7 +29,7 @@ use Rattle.calls.specs.Table.{laterRows, word}
 use Rattle.calls.specs.Effect.{effect, act}
 use Rattle.calls.proofs.Laws.Column.{Mask, Fits, fits-of, Agree, Even, Holds, Stored, relent}
 use Rattle.calls.proofs.Laws.Stores.{Within, length-stored, cell-stored, stored-last, recorded-last, column-below, column-zero, within-zero}
-use Rattle.calls.proofs.Laws.Lists.{with-new, bytes-with-new, count-with-new, whole-with-new, stored-with-new}
+use Rattle.calls.proofs.Laws.Lists.{with-new, bytes-with-new, count-with-new, whole-with-new, stored-opened}
 use Rattle.calls.proofs.Laws.Holding.{Holding, Leaves, Kept, bytesAt, cellIn}
 use Rattle.calls.proofs.Laws.Passed as passed
 
@@ -90,6 +90,16 @@ module _ (r : Record) (left img room : List ℕ) (bs : List (List ℕ)) (h : Hol
   unfolding capacity
   count-old z = h .count ∙ omega (arith, ap (λ (x : ℕ). openStripes g * x) z)
 
+  -- none open at first, then as many as the numbers say
+  opened-first : (bytes : List ℕ) → length bytes ≡ oldBlocks g′ → (S d : ℕ) → Opened (length bytes) (ownedWith 0 (home g′) g′ S d) (layout g′ .owner S d)
+  opened-first bytes e S d =
+      let q : oldBlocks g′ + 0 * m ≡ length bytes = omega arith in
+      rw (is-owner (home g′) g′ S d) (subst (λ (x : ℕ). Opened x (ownedWith 0 (home g′) g′ S d) (ownedWith (openStripes g′) (home g′) g′ S d)) q (opened (home g′) g′ 0 (openStripes g′) (omega arith) S d))
+
+  enough : r .new ≡ 0 → length bs ≤ capacity g′
+  unfolding capacity
+  enough z = omega (arith, count-old z)
+
   pub grows : word (laterRows (grow m) r c (length img) k) ≡ 0
       → Leaves (act (record { call = grow m; images = img; room = room }) r) done (grownBy r m) (with-new g′ (r .block) bs)
   unfolding effect Agree
@@ -113,13 +123,14 @@ module _ (r : Record) (left img room : List ℕ) (bs : List (List ℕ)) (h : Hol
       relent (disksOf r) (r .stripes) (layout g .owner) (absent (r .health)) (cellIn r left j) (cellIn r img j) (bytesAt j bs) (h .stored nl j lj) (λ S d lS ld u. lends long S d j lS ld lj u) in
       let s₂ : Stored (r .old) (r .stripes) (layout g .owner) (absent (r .health)) (cellIn r img j) (bytesAt j bs) =
       subst (λ (y : ℕ). Stored y (r .stripes) (layout g .owner) (absent (r .health)) (cellIn r img j) (bytesAt j bs)) N-is s₁ in
-      let s₃ : Stored (r .old + m) (r .stripes) (standing g′) (absent (r .health)) (cellIn r J j) (bytesAt j bs) =
-      stored-grow (r .old) m (r .stripes) (layout g .owner) (standing g′) (λ S d l. starts g′ good refl S d l ∙ sym (starts-owned g (h .limits .array) tz S d l))
-      (λ S d l. starts-blank g′ good refl S d l) (absent (r .health)) (cellIn r img j) (cellIn r J j) (bytesAt j bs) in-all s₂
+      let s₃ : Stored (r .old + m) (r .stripes) (ownedWith 0 (home g′) g′) (absent (r .health)) (cellIn r J j) (bytesAt j bs) =
+      stored-grow (r .old) m (r .stripes) (layout g .owner) (ownedWith 0 (home g′) g′) (λ S d l. starts (home g′) g′ good refl S 0 d l ∙ sym (is-owner (home g) g S d ∙ starts (home g) g (h .limits .array) tz S (openStripes g) d l))
+      (λ S d l. starts-blank (home g′) g′ good refl S d l) (absent (r .health)) (cellIn r img j) (cellIn r J j) (bytesAt j bs) in-all s₂
       (λ S d lS ld. cell-stored (r .block) (r .stripes) (r .old + m) ps img w long j S d lj lS ∙ column-below (r .block) (r .stripes) (r .old) j m (cellIn r img j) S d lS ld)
       (λ S d lS lo hi. cell-stored (r .block) (r .stripes) (r .old + m) ps img w long j S d lj lS ∙ column-zero (r .block) (r .stripes) (r .old) j m (cellIn r img j) S d lS lo hi) in
       rw (bytes-with-new g′ (r .block) bs j)
-      (stored-with-new g′ good (absent (r .health)) (cellIn r J j) (bytesAt j bs) (capacity g′ - length bs) (length-map bs (λ (y : List ℕ). getD y j 0) ∙ count-old mz) s₃) in
+      (stored-opened (r .old + m) (r .stripes) (ownedWith 0 (home g′) g′) (layout g′ .owner) (absent (r .health)) (cellIn r J j) (bytesAt j bs) (capacity g′ - length bs)
+      (λ S d. opened-first (bytesAt j bs) (length-map bs (λ (y : List ℕ). getD y j 0) ∙ count-old mz) S d) s₃) in
       record {
         answer = refl;
         state = recorded-last ps x r;
@@ -127,7 +138,7 @@ module _ (r : Record) (left img room : List ℕ) (bs : List (List ℕ)) (h : Hol
             record {
               limits = record { array = good; block-low = h .limits .block-low; block-high = h .limits .block-high; out = rw hw tt };
               long = rw (stored-last (r .block) (r .stripes) ps x img) (length-stored (r .block) (r .stripes) ps img ∙ long);
-              count = count-with-new g′ (r .block) bs (count-old mz);
+              count = count-with-new g′ (r .block) bs (enough mz);
               whole = whole-with-new g′ (r .block) bs (h .whole);
               stored = λ nl′ j lj. rw (stored-last (r .block) (r .stripes) ps x img) (held j lj);
             };

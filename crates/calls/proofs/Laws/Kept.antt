@@ -20,7 +20,7 @@ use Rattle.calls.specs.Effect.{moveStores, advanceStores}
 use Rattle.calls.specs.Alone.{Inside}
 use Rattle.calls.proofs.Laws.Column.{Mask, storeIf}
 use Rattle.calls.proofs.Laws.Stores.{Within, within-append}
-use Rattle.calls.proofs.Laws.Advance.{moved, good-moved, within-move, long-move}
+use Rattle.calls.proofs.Laws.Moved.{moved, good-moved, within-move, long-move}
 
 -- ---- N disks of T stripes of B bytes
 

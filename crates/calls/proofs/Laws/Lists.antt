@@ -1,18 +1,18 @@
 -- The lists of blocks that the images hold: zero at first, longer by zero blocks as stripes are opened. Assumes nothing.
-use Prim.Native.Nat.{ℕ, zero, suc, _+_, _-_, _*_, _≤_, _<_}
+use Prim.Native.Nat.{ℕ, zero, suc, _+_, _-_, _≤_, _<_}
 use mathlib.Core.Path.{_≡_, refl, sym, ap, _∙_}
-use mathlib.Core.List.{List, [], _∷_, _++_, map, map-append}
+use mathlib.Core.List.{List, [], _∷_, _++_, map, map-append, append-nil, append-assoc}
 use native.Mathlib.Decide.{decLt}
+use native.Mathlib.Nat.{zero-add, suc-add}
 use native.Mathlib.Omega.{arith}
-use lib.ListN.{length, getD, replicate, length-append, length-replicate, getD-replicate, List·getD-append}
+use lib.ListN.{length, getD, replicate, length-append, length-replicate, getD-replicate, List·getD-append, List·getD-eq-default}
 use lib.Seq.{getD-append-add}
 use Rattle.layout.specs.declared.Geometry.{Geometry}
 use Rattle.layout.specs.declared.Role.the-variants.{Data, Parity, Blank}
 use Rattle.layout.specs.declared.Role.{Role}
-use Rattle.layout.specs.Layout.{disks, oldBlocks, capacity, layout}
-use Rattle.layout.specs.Limits.{GoodArray}
+use Rattle.layout.specs.Layout.{capacity}
 use Rattle.layout.proofs.Laws.Standing.Opened.{kept, new}
-use Rattle.layout.proofs.Laws.Standing.{standing, Opened, opened, standing-old}
+use Rattle.layout.proofs.Laws.Standing.{Opened}
 use Rattle.blocks.specs.Block.{zeros}
 use Rattle.blocks.proofs.Laws.Grid.{Grid}
 use Rattle.blocks.proofs.Laws.Xor.{getD-zeros}
@@ -48,9 +48,8 @@ module _ (g : Geometry) (B : ℕ) (bs : List (List ℕ)) where
   length-with-new : length (with-new g B bs) ≡ length bs + (capacity g - length bs)
   length-with-new = length-append bs more ∙ ap (λ (x : ℕ). length bs + x) (length-replicate (capacity g - length bs) (zeros B))
 
-  pub count-with-new : length bs ≡ oldBlocks g → length (with-new g B bs) ≡ capacity g
-  unfolding capacity
-  count-with-new e = length-with-new ∙ omega arith
+  pub count-with-new : length bs ≤ capacity g → length (with-new g B bs) ≡ capacity g
+  count-with-new le = length-with-new ∙ omega arith
 
   pub whole-with-new : ((b : ℕ) → b < length bs → length (getD bs b []) ≡ B) → (b : ℕ) → b < length (with-new g B bs) → length (getD (with-new g B bs) b []) ≡ B
   whole-with-new f b h = go (decLt b (length bs))
@@ -62,23 +61,39 @@ module _ (g : Geometry) (B : ℕ) (bs : List (List ℕ)) where
           let h′ : b < length bs + (capacity g - length bs) = rw length-with-new at h in
           ap (λ (x : ℕ). length (getD (bs ++ more) x [])) q ∙ ap length (getD-append-add bs more (b - length bs) []) ∙ whole-blank (capacity g - length bs) B (b - length bs) (omega arith)
 
+  -- a list that is long enough is as it was
+  pub same-with-new : length bs ≡ capacity g → with-new g B bs ≡ bs
+  same-with-new e =
+      let none : capacity g - length bs ≡ 0 = omega arith in
+      ap (λ (c : ℕ). bs ++ blank-blocks c B) none ∙ append-nil bs
+
+-- lengthened twice: as if at once
+replicate-add : {A : Type 0} (x : A) (c d : ℕ) → replicate c x ++ replicate d x ≡ replicate (c + d) x
+replicate-add x zero d = ap (λ (n : ℕ). replicate n x) (sym (zero-add d))
+replicate-add x (suc c) d = ap (λ r. x ∷ r) (replicate-add x c d) ∙ ap (λ (n : ℕ). replicate n x) (sym (suc-add c d))
+
+pub twice-with-new : (g g′ : Geometry) (B : ℕ) (bs : List (List ℕ)) → length bs ≤ capacity g → capacity g ≤ capacity g′ → with-new g′ B (with-new g B bs) ≡ with-new g′ B bs
+twice-with-new g g′ B bs le le′ =
+    let c : ℕ = capacity g - length bs in
+    let d : ℕ = capacity g′ - length (with-new g B bs) in
+    let e : c + d ≡ capacity g′ - length bs = omega (arith, count-with-new g B bs le) in
+    append-assoc bs (blank-blocks c B) (blank-blocks d B) ∙ ap (λ x. bs ++ x) (replicate-add (zeros B) c d) ∙ ap (λ (x : ℕ). bs ++ blank-blocks x B) e
+
 -- ---- on one byte of every place
 
-zero-behind : (bs : List ℕ) (c b : ℕ) → length bs ≤ b → getD (bs ++ zeros c) b 0 ≡ 0
-zero-behind bs c b l =
-    let q : b ≡ length bs + (b - length bs) = omega arith in
-    ap (λ (x : ℕ). getD (bs ++ zeros c) x 0) q ∙ getD-append-add bs (zeros c) (b - length bs) 0 ∙ getD-zeros c (b - length bs)
+-- zeroes behind a list change no entry: where there was none, none is other than zero
+padded : (bs : List ℕ) (c b : ℕ) → getD (bs ++ zeros c) b 0 ≡ getD bs b 0
+padded [] c b = getD-zeros c b
+padded (x ∷ bs) c zero = refl
+padded (x ∷ bs) c (suc b) = padded bs c b
 
-fits-opened : (bs : List ℕ) (old c : ℕ) → length bs ≡ old → {o o′ : Role} (x : ℕ) → Opened old o o′ → ((b : ℕ) → o ≡ Data b → b < old)
-    → Fits bs o x → Fits (bs ++ zeros c) o′ x
-fits-opened bs old c e {o = Data b} x kept h f = f ∙ sym (List·getD-append bs (zeros c) 0 b (rw e (h b refl)))
-fits-opened bs old c e {o = Parity} x kept h f = tt
-fits-opened bs old c e {o = Blank} x kept h f = f
-fits-opened bs old c e x (new b l) h f = f ∙ sym (zero-behind bs c b (rw e l))
+fits-opened : (bs : List ℕ) (c : ℕ) {o o′ : Role} (x : ℕ) → Opened (length bs) o o′ → Fits bs o x → Fits (bs ++ zeros c) o′ x
+fits-opened bs c {o = Data b} x kept f = f ∙ sym (padded bs c b)
+fits-opened bs c {o = Parity} x kept f = tt
+fits-opened bs c {o = Blank} x kept f = f
+fits-opened bs c x (new b l) f = f ∙ sym (padded bs c b ∙ List·getD-eq-default bs 0 l)
 
 -- new blocks, however many, stand on blanks, and are zero
-pub stored-with-new : (g : Geometry) → GoodArray g → (a : Mask) (I : Grid) (bs : List ℕ) (c : ℕ) → length bs ≡ oldBlocks g → Stored (disks g) (g .stripes) (standing g) a I bs
-    → Stored (disks g) (g .stripes) (layout g .owner) a I (bs ++ zeros c)
-stored-with-new g good a I bs c e s =
-    reowned (disks g) (g .stripes) (standing g) (layout g .owner) a I bs (bs ++ zeros c) s
-    (λ S d x lS ld f. fits-opened bs (oldBlocks g) c e x (opened g S d) (standing-old g good S d lS) f)
+pub stored-opened : (N T : ℕ) (own own′ : ℕ → ℕ → Role) (a : Mask) (I : Grid) (bs : List ℕ) (c : ℕ) → ((S d : ℕ) → Opened (length bs) (own S d) (own′ S d))
+    → Stored N T own a I bs → Stored N T own′ a I (bs ++ zeros c)
+stored-opened N T own own′ a I bs c o s = reowned N T own own′ a I bs (bs ++ zeros c) s (λ S d x lS ld f. fits-opened bs c x (o S d) f)

@@ -1,5 +1,5 @@
--- The worked cases of document 01, "Drawers on the bench", over the definitions of the calls. `Bench` is the one table of those marked (P),
--- `Unmarked` has the others; `bench` and `unmarked` of proofs/Cases/Bench.antt compute them.
+-- The worked cases of document 01, "Drawers on the bench", as document 02 has changed them, over the definitions of the calls. `Bench` is
+-- the one table of those marked (P), `Unmarked` has the others; `bench` and `unmarked` of proofs/Cases/Bench.antt compute them.
 use Prim.Native.Nat.{ℕ, _*_}
 use mathlib.Core.Path.{_≡_}
 use mathlib.Core.List.{[]}
@@ -38,9 +38,11 @@ abbrev pub owner-at : ℕ → ℕ → Record → Answer
 owner-at S d r = asked (owner S d) r
 
 pub record Bench : Type 0 where
-  -- "total 18, capacity 30, then 60"
+  -- "total 18, capacity 30, then 60"; on the way, since "After each finished zone its blanks become blocks" (document 02, (b)), 40 and 50
   pub numbers : (asked status small ≡ figures 30 0 0 Whole)
-      × (asked status (mill 17) ≡ figures 30 17 18 Whole) × (asked status (mill 18) ≡ figures 60 18 18 Whole)
+      × (asked status (mill 5) ≡ figures 30 5 18 Whole) × (asked status (mill 6) ≡ figures 40 6 18 Whole)
+      × (asked status (mill 11) ≡ figures 40 11 18 Whole) × (asked status (mill 12) ≡ figures 50 12 18 Whole)
+      × (asked status (mill 17) ≡ figures 50 17 18 Whole) × (asked status (mill 18) ≡ figures 60 18 18 Whole)
   -- "(P) Block 5 before growth: stripe 2, disk 0."
   pub block-5 : (located 5 small ≡ at 2 0) × (located 5 (mill 0) ≡ at 2 0)
   -- "(P) Move 0: parity of stripe 3, disk 0 to 3."
@@ -55,8 +57,12 @@ pub record Bench : Type 0 where
   pub block-6 : located 6 (mill 18) ≡ at 3 4
   -- "(P) Block 0 never moves."
   pub block-0 : (t : ℕ) → placeOf (mill t) 0 ≡ placeAt 0 2
-  -- "(P) After 17 moves block 30 is refused 8; (P) after 18 it is (0, 3). (P) Block 32: (1, 2). (P) Block 59: (14, 3). Block 60: 8."
-  pub new-blocks : (located 30 (mill 17) ≡ refused 8) × (located 30 (mill 18) ≡ at 0 3)
+  -- "(P) After 17 moves block 30 is refused 8" no longer: "after 17 moves block 30 exists, as two zones are done" (document 02, (b)), and
+  -- block 50, of the third, is refused; before the sixth move there is no block 30
+  pub finished-zones : (located 30 (mill 5) ≡ refused 8) × (located 30 (mill 6) ≡ at 0 3) × (located 30 (mill 17) ≡ at 0 3)
+      × (located 49 (mill 17) ≡ at 9 3) × (located 50 (mill 17) ≡ refused 8)
+  -- "(P) after 18 it is (0, 3). (P) Block 32: (1, 2). (P) Block 59: (14, 3). Block 60: 8."
+  pub new-blocks : (located 30 (mill 18) ≡ at 0 3)
       × (located 32 (mill 18) ≡ at 1 2) × (located 59 (mill 18) ≡ at 14 3) × (located 60 (mill 18) ≡ refused 8)
 
 -- ---- cases not marked (P)

@@ -1,6 +1,7 @@
--- One cabinet, byte by byte: 3 disks growing by 1, 12 stripes, blocks of one byte, 4 of 9 moves made; block b holds b + 1. What some calls
--- leave of it, by a program that was written from document 01 and replays the moves; `drawers` of proofs/Cases/Drawers.antt computes that
--- the definitions say the same. Then the same cabinet with blocks of two bytes, `wide`.
+-- One cabinet, byte by byte: 3 disks growing by 1, 12 stripes, blocks of one byte, 4 of 9 moves made; block b holds b + 1. Zone 0, 4
+-- stripes, is finished, so that blocks 24 to 27 are there, still zero. What some calls leave of it, by a program that was written from
+-- documents 01 and 02 and replays the moves; `drawers` of proofs/Cases/Drawers.antt computes that the definitions say the same. Then the
+-- same cabinet with blocks of two bytes, `wide`.
 use Prim.Native.Nat.{ℕ}
 use mathlib.Core.Path.{_≡_}
 use mathlib.Core.List.{List, [], _∷_, _++_}
@@ -9,7 +10,7 @@ use Rattle.state.specs.declared.Health.the-variants.{Whole, Out, Lost}
 use Rattle.state.specs.declared.Health.{Health}
 use Rattle.state.specs.declared.Record.{Record}
 use Rattle.state.specs.Update.{formatted, grownBy, withMoves, withHealth}
-use Rattle.calls.specs.Call.{Call, format, read, view, write, grow, advance, out, rebuild, Answer, bytes, made, done}
+use Rattle.calls.specs.Call.{Call, format, read, view, write, grow, advance, out, rebuild, Answer, refused, bytes, made, done}
 use Rattle.calls.specs.Images.{block, header}
 use Rattle.calls.specs.Effect.{writeStores, moveStores, Left, called}
 
@@ -33,7 +34,7 @@ disk2 = 1 ∷ 0 ∷ 3 ∷ 7 ∷ 9 ∷ 7 ∷ 13 ∷ 15 ∷ 3 ∷ 19 ∷ 21 ∷ 15
 abbrev pub disk3 : List ℕ
 disk3 = 0 ∷ 3 ∷ 5 ∷ 15 ∷ 0 ∷ 0 ∷ 0 ∷ 31 ∷ 0 ∷ 0 ∷ 0 ∷ 0 ∷ []
 
--- what disk 2 holds while it is out
+-- what a disk holds while it is out
 abbrev pub garbage : List ℕ
 garbage = 77 ∷ 77 ∷ 77 ∷ 77 ∷ 77 ∷ 77 ∷ 77 ∷ 77 ∷ 77 ∷ 77 ∷ 77 ∷ 77 ∷ []
 
@@ -46,6 +47,19 @@ degraded = disk0 ++ disk1 ++ garbage ++ disk3
 -- disk 3 too, so that its blank places are not zero
 abbrev pub spoilt : List ℕ
 spoilt = disk0 ++ disk1 ++ garbage ++ garbage
+
+-- with block 26 written: disks 1 and 2; and the same with disk 1 out
+abbrev pub disk1Written : List ℕ
+disk1Written = 2 ∷ 7 ∷ 200 ∷ 8 ∷ 3 ∷ 11 ∷ 14 ∷ 0 ∷ 17 ∷ 20 ∷ 3 ∷ 23 ∷ []
+
+abbrev pub disk2Written : List ℕ
+disk2Written = 1 ∷ 0 ∷ 203 ∷ 7 ∷ 9 ∷ 7 ∷ 13 ∷ 15 ∷ 3 ∷ 19 ∷ 21 ∷ 15 ∷ []
+
+abbrev pub withNew : List ℕ
+withNew = disk0 ++ disk1Written ++ disk2Written ++ disk3
+
+abbrev pub newDegraded : List ℕ
+newDegraded = disk0 ++ garbage ++ disk2Written ++ disk3
 
 -- a call on these images, with a block or scratch of one byte, 9
 abbrev pub on : List ℕ → Record → Call → Left Record
@@ -133,6 +147,22 @@ pub record Drawers : Type 0 where
   pub grown : on (disk0 ++ disk1 ++ disk2 ++ garbage) fresh (grow 1)
       ≡ left (cabinet Whole 0) (disk0 ++ disk1 ++ disk2 ++ zeros 12) (9 ∷ []) done
   pub formats : on (garbage ++ garbage ++ garbage) (cabinet Lost 4) (format 3 1 12) ≡ left fresh (zeros 36) (9 ∷ []) done
+  -- ---- a new block in mid-growth: block 26 is on disk 1 of stripe 2, which block 4 left; the parity is on disk 2, 3 xor 0 xor 200 is 203
+  pub written-new : on standing (cabinet Whole 4) (write 26 (200 ∷ [])) ≡ left (cabinet Whole 4) withNew (9 ∷ []) done
+  -- a later move, block 12 again, leaves it
+  pub new-left : on withNew (cabinet Whole 4) (advance 1)
+      ≡ left (cabinet Whole 5)
+      (disk0 ++ disk1Written ++ (1 ∷ 0 ∷ 203 ∷ 7 ∷ 9 ∷ 7 ∷ 0 ∷ 15 ∷ 3 ∷ 19 ∷ 21 ∷ 15 ∷ [])
+      ++ (0 ∷ 3 ∷ 5 ∷ 15 ∷ 0 ∷ 0 ∷ 13 ∷ 31 ∷ 0 ∷ 0 ∷ 0 ∷ 0 ∷ []))
+      (9 ∷ []) (made 1)
+  -- with disk 1 out it is written to the parity alone, read by the others, and rebuilt
+  pub written-new-degraded : on (disk0 ++ garbage ++ disk2 ++ disk3) (cabinet (Out 1) 4) (write 26 (200 ∷ []))
+      ≡ left (cabinet (Out 1) 4) newDegraded (9 ∷ []) done
+  pub read-new-degraded : on newDegraded (cabinet (Out 1) 4) (read 26)
+      ≡ left (cabinet (Out 1) 4) newDegraded (200 ∷ []) (bytes (200 ∷ []))
+  pub rebuilt-new : on newDegraded (cabinet (Out 1) 4) (rebuild 1) ≡ left (cabinet Whole 4) withNew (9 ∷ []) done
+  -- zone 1 is not finished: there is no block 28
+  pub no-block : on standing (cabinet Whole 4) (read 28) ≡ left (cabinet Whole 4) standing (9 ∷ []) (refused 8)
   -- in order: the copy, the zeroes, the record; the parity, the data
   pub move-stores : moveStores (cabinet Whole 4) standing ≡ block 6 3 (13 ∷ []) ∷ block 6 2 (0 ∷ []) ∷ header (cabinet Whole 5) ∷ []
   pub write-stores : writeStores (cabinet Whole 4) standing 6 (200 ∷ []) ≡ block 3 3 (192 ∷ []) ∷ block 3 2 (200 ∷ []) ∷ []

@@ -58,7 +58,7 @@ small = encode fresh
 abbrev pub of-stripes : ℕ → List ℕ
 of-stripes T = encode (formatted 3 1 T)
 
--- .. grown by 2, of length 150, with t of 18 moves done, and capacity 30 or at last 60
+-- .. grown by 2, of length 150, with t of 18 moves done, 6 to a zone: capacity 30, then 40, 50, and at last 60
 abbrev pub growing : Health → ℕ → List ℕ
 growing h t = encode (withHealth (withMoves (grownBy fresh 2) t) h)
 
@@ -98,18 +98,21 @@ ones c len room =
 abbrev pub reads : (ℕ → ℕ → Call) → List ℕ
 reads c =
     -- 1, 2
-    asks short (c 30 1) 89 1 ∷ asks bad (c 30 1) 89 1 ∷ asks sixth (c 30 1) 89 1 ∷ asks lost (c 30 1) 149 1
+    asks short (c 50 1) 89 1 ∷ asks bad (c 50 1) 89 1 ∷ asks sixth (c 50 1) 89 1 ∷ asks lost (c 50 1) 149 1
     -- 7, 8, 9, none
-    ∷ asks (growing Whole 17) (c 30 1) 149 1 ∷ asks (growing Whole 17) (c 30 1) 150 1
-    ∷ asks (growing Whole 17) (c 29 1) 150 1 ∷ asks (growing Whole 17) (c 29 2) 150 2
+    ∷ asks (growing Whole 17) (c 50 1) 149 1 ∷ asks (growing Whole 17) (c 50 1) 150 1
+    ∷ asks (growing Whole 17) (c 49 1) 150 1 ∷ asks (growing Whole 17) (c 49 2) 150 2
     -- degraded, grown and idle are no matter
-    ∷ asks (growing (Out 4) 17) (c 29 2) 150 2 ∷ asks (growing Whole 18) (c 59 2) 150 2 ∷ asks small (c 29 2) 90 2
+    ∷ asks (growing (Out 4) 17) (c 49 2) 150 2 ∷ asks (growing Whole 18) (c 59 2) 150 2 ∷ asks small (c 29 2) 90 2
     -- the other sides of the bounds
     ∷ asks (growing Whole 18) (c 60 2) 150 2 ∷ asks small (c 30 2) 90 2 ∷ asks small (c 29 2) 91 2 ∷ asks small (c 29 3) 90 3
+    -- around the last move of zone 0: block 30; block 40 is of zone 1
+    ∷ asks (growing Whole 5) (c 29 2) 150 2 ∷ asks (growing Whole 5) (c 30 2) 150 2
+    ∷ asks (growing Whole 6) (c 30 2) 150 2 ∷ asks (growing Whole 6) (c 39 2) 150 2 ∷ asks (growing (Out 4) 6) (c 40 2) 150 2
     ∷ []
 
 abbrev pub read-numbers : List ℕ
-read-numbers = 1 ∷ 1 ∷ 1 ∷ 2 ∷ 7 ∷ 8 ∷ 9 ∷ 0 ∷ 0 ∷ 0 ∷ 0 ∷ 8 ∷ 8 ∷ 7 ∷ 9 ∷ []
+read-numbers = 1 ∷ 1 ∷ 1 ∷ 2 ∷ 7 ∷ 8 ∷ 9 ∷ 0 ∷ 0 ∷ 0 ∷ 0 ∷ 8 ∷ 8 ∷ 7 ∷ 9 ∷ 0 ∷ 8 ∷ 0 ∷ 0 ∷ 8 ∷ []
 
 -- data of so many bytes
 abbrev pub bytes : ℕ → List ℕ
@@ -178,10 +181,11 @@ pub record Refusals : Type 0 where
   -- 1, 8, none; health and images are no matter
   pub locates :
       asks short (locate 30) 0 0 ∷ asks bad (locate 30) 0 0 ∷ asks small (locate 30) 0 0
-      ∷ asks small (locate 29) 0 0 ∷ asks lost (locate 29) 0 0 ∷ asks lost (locate 30) 0 0
+      ∷ asks small (locate 29) 0 0 ∷ asks lost (locate 49) 0 0 ∷ asks lost (locate 50) 0 0
       ∷ asks (growing (Out 4) 18) (locate 59) 0 0 ∷ asks (growing (Out 4) 18) (locate 60) 0 0
+      ∷ asks (growing Whole 5) (locate 30) 0 0 ∷ asks (growing Whole 6) (locate 30) 0 0 ∷ asks (growing Whole 6) (locate 40) 0 0
       ∷ []
-      ≡ 1 ∷ 1 ∷ 8 ∷ 0 ∷ 0 ∷ 8 ∷ 0 ∷ 8 ∷ []
+      ≡ 1 ∷ 1 ∷ 8 ∷ 0 ∷ 0 ∷ 8 ∷ 0 ∷ 8 ∷ 8 ∷ 0 ∷ 8 ∷ []
   -- 1, 8 by the stripe, 10 by the disk, none; health and images are no matter
   pub owners :
       asks short (owner 15 5) 0 0 ∷ asks bad (owner 15 5) 0 0 ∷ asks lost (owner 15 5) 0 0

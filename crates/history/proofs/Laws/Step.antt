@@ -6,7 +6,7 @@ use mathlib.Core.List.{List, _++_}
 use native.Mathlib.Omega.{arith}
 use lib.Dec.{eqb}
 use lib.ListN.{length, getD}
-use Rattle.layout.specs.Layout.{totalOf, openStripes, capacity}
+use Rattle.layout.specs.Layout.{totalOf, finishedZones, openStripes, capacity}
 use Rattle.blocks.proofs.Laws.Stripe.{getD-place}
 use Rattle.state.specs.declared.Health.the-variants.{Whole, Out, Lost}
 use Rattle.state.specs.declared.Health.{Health}
@@ -60,9 +60,13 @@ same-length : (r : Record) → capacity (geometry r) ≡ reached r
 unfolding capacity openStripes
 same-length r = go (eqb (r .moves) (totalOf (geometry r)))
   where
-    go : (b : Bool) → r .stripes * (r .old - 1) + cond b (r .stripes) 0 * r .new ≡ r .stripes * (r .old - 1) + cond b (r .stripes * r .new) 0
+    zones : ℕ
+    zones = finishedZones (geometry r)
+
+    go : (b : Bool) → r .stripes * (r .old - 1) + cond b (r .stripes) (zones * (r .old + r .new)) * r .new
+        ≡ r .stripes * (r .old - 1) + cond b (r .stripes * r .new) (zones * (r .old + r .new) * r .new)
     go true = refl
-    go false = omega arith
+    go false = refl
 
 longer : {x : Left Record} {a : Answer} (r : Record) (bs : List (List ℕ)) → Leaves x a r (with-new (geometry r) (r .block) bs) → Leaves x a r (lengthened r bs)
 longer {x} {a} r bs l = subst (λ (n : ℕ). Leaves x a r (bs ++ zeroBlocks (n - length bs) (r .block))) (same-length r) l

@@ -1,7 +1,7 @@
--- One history of one cabinet, run through both machines. 3 disks of 12 stripes, with blocks of 2 bytes, and then a fourth: 9 moves,
--- capacity 24, then 36. At last, formatted anew as 4 disks, a fifth, with which nothing has to move. The expected answers are literals,
--- printed by a program that was written from document 01 and knows none of these definitions: it replays the moves one by one on a table of
--- places. (Those of `odd` were worked out by hand.) `sample` of proofs/Cases/Sample.antt computes both machines.
+-- One history of one cabinet, run through both machines. 3 disks of 12 stripes, with blocks of 2 bytes, and then a fourth: 9 moves, 3 to a
+-- zone, capacity 24, then 28, 32 and 36. At last, formatted anew as 4 disks, a fifth, with which nothing has to move. The expected answers
+-- are literals, printed by a program that was written from documents 01 and 02 and knows none of these definitions: it replays the moves
+-- one by one on a table of places. `sample` of proofs/Cases/Sample.antt computes both machines.
 use Prim.Native.Nat.{ℕ, zero, suc, _+_, _*_, _%_}
 use mathlib.Core.Path.{_≡_}
 use mathlib.Core.List.{List, [], _∷_, _++_, map}
@@ -100,7 +100,7 @@ growing =
     ∷ plain (read 4)
     ∷ plain (write 7 (200 ∷ 100 ∷ []))  -- its parity in the new place
     ∷ plain (read 7)
-    ∷ plain (read 24)  -- no new block before the last move
+    ∷ plain (read 24)  -- no new block before the last move of its zone
     ∷ []
 
 -- disk 2 is out, and holds other bytes before every call
@@ -124,22 +124,54 @@ degraded =
     ∷ spoilt 2 67 (rebuild 2)
     ∷ []
 
--- whole again: the other seven moves, and the new blocks
-abbrev pub finished : List Step
-finished =
+-- whole again: the last move of zone 0, and its four blanks are blocks. One of them is written in mid-growth, between two moves of zone 1,
+-- and again with its disk out, which is then rebuilt
+abbrev pub handedOut : List Step
+handedOut =
     plain (read 6)
     ∷ plain (read 4)
     ∷ plain (read 7)
-    ∷ plain (advance 100)
+    ∷ plain (read 24)  -- not yet
+    ∷ plain (advance 1)  -- block 2 goes to disk 3, the last of zone 0
+    ∷ plain status  -- 28 blocks
+    ∷ plain (locate 26)  -- on the place that block 4 left
+    ∷ plain (owner 2 1)
+    ∷ plain (owner 4 3)  -- of zone 1, and blank
+    ∷ plain (read 26)  -- zeroes
+    ∷ plain (read 28)  -- of zone 1: not yet
+    ∷ plain (advance 1)  -- the first of zone 1
+    ∷ plain (write 26 (35 ∷ 36 ∷ []))
+    ∷ plain (read 26)
+    ∷ plain (out 1)
+    ∷ spoilt 1 109 (read 26)  -- on disk 1
+    ∷ spoilt 1 113 (write 26 (45 ∷ 46 ∷ []))  -- the parity alone takes it
+    ∷ spoilt 1 127 (view 26)
+    ∷ spoilt 1 131 (write 24 (61 ∷ 62 ∷ []))  -- another, on disk 3
+    ∷ spoilt 1 137 (rebuild 1)
+    ∷ plain (read 26)
+    ∷ plain (advance 2)  -- the other two of zone 1
+    ∷ plain status  -- 32 blocks
+    ∷ plain (locate 26)  -- where it was
+    ∷ plain (read 26)
+    ∷ plain (read 31)  -- zeroes
+    ∷ []
+
+-- the other three moves, and the last new blocks
+abbrev pub finished : List Step
+finished =
+    plain (advance 100)
     ∷ plain (advance 1)
     ∷ longer (grow 1)
     ∷ plain status
     ∷ plain (read 2)  -- moved third
     ∷ plain (read 19)  -- moved last
-    ∷ plain (locate 26)  -- a new block, on the place that block 4 left
+    ∷ plain (locate 26)  -- where it was in mid-growth
     ∷ plain (owner 2 1)
-    ∷ plain (read 26)  -- zeroes
-    ∷ plain (read 27)  -- on the place that stripe 3's parity left
+    ∷ plain (read 26)  -- as it was written there
+    ∷ plain (read 24)
+    ∷ plain (read 27)  -- zeroes, on the place that stripe 3's parity left
+    ∷ plain (locate 35)  -- the last
+    ∷ plain (read 35)  -- zeroes
     ∷ plain (write 26 (5 ∷ 6 ∷ []))
     ∷ plain (read 26)
     ∷ []
@@ -196,7 +228,7 @@ odd =
 
 -- all of it
 abbrev pub script : List Step
-script = begun ++ growing ++ degraded ++ finished ++ turnedAway ++ lost ++ anew ++ odd
+script = begun ++ growing ++ degraded ++ handedOut ++ finished ++ turnedAway ++ lost ++ anew ++ odd
 
 -- ---- both machines before the first format
 
@@ -265,11 +297,35 @@ expected =
     ∷ (refused 10, after 3 1 1 2 2)  -- out 2
     ∷ (refused 10, after 3 1 1 2 2)  -- rebuild 1
     ∷ (done, after 3 1 0 0 2)  -- rebuild 2
-    -- finished
+    -- handedOut
     ∷ (bytes (40 ∷ 50 ∷ []), after 3 1 0 0 2)  -- read 6
     ∷ (bytes (12 ∷ 21 ∷ []), after 3 1 0 0 2)  -- read 4
     ∷ (bytes (99 ∷ 98 ∷ []), after 3 1 0 0 2)  -- read 7
-    ∷ (made 7, after 3 1 0 0 9)  -- advance 100
+    ∷ (refused 8, after 3 1 0 0 2)  -- read 24
+    ∷ (made 1, after 3 1 0 0 3)  -- advance 1
+    ∷ (figures 28 3 9 Whole, after 3 1 0 0 3)  -- status
+    ∷ (placed (placeAt 2 1), after 3 1 0 0 3)  -- locate 26
+    ∷ (owned (Data 26), after 3 1 0 0 3)  -- owner 2 1
+    ∷ (owned Blank, after 3 1 0 0 3)  -- owner 4 3
+    ∷ (bytes (0 ∷ 0 ∷ []), after 3 1 0 0 3)  -- read 26
+    ∷ (refused 8, after 3 1 0 0 3)  -- read 28
+    ∷ (made 1, after 3 1 0 0 4)  -- advance 1
+    ∷ (done, after 3 1 0 0 4)  -- write 26 (35 ∷ 36 ∷ [])
+    ∷ (bytes (35 ∷ 36 ∷ []), after 3 1 0 0 4)  -- read 26
+    ∷ (done, after 3 1 1 1 4)  -- out 1
+    ∷ (bytes (35 ∷ 36 ∷ []), after 3 1 1 1 4)  -- read 26
+    ∷ (done, after 3 1 1 1 4)  -- write 26 (45 ∷ 46 ∷ [])
+    ∷ (bytes (45 ∷ 46 ∷ []), after 3 1 1 1 4)  -- view 26
+    ∷ (done, after 3 1 1 1 4)  -- write 24 (61 ∷ 62 ∷ [])
+    ∷ (done, after 3 1 0 0 4)  -- rebuild 1
+    ∷ (bytes (45 ∷ 46 ∷ []), after 3 1 0 0 4)  -- read 26
+    ∷ (made 2, after 3 1 0 0 6)  -- advance 2
+    ∷ (figures 32 6 9 Whole, after 3 1 0 0 6)  -- status
+    ∷ (placed (placeAt 2 1), after 3 1 0 0 6)  -- locate 26
+    ∷ (bytes (45 ∷ 46 ∷ []), after 3 1 0 0 6)  -- read 26
+    ∷ (bytes (0 ∷ 0 ∷ []), after 3 1 0 0 6)  -- read 31
+    -- finished
+    ∷ (made 3, after 3 1 0 0 9)  -- advance 100
     ∷ (refused 5, after 3 1 0 0 9)  -- advance 1
     ∷ (refused 4, after 3 1 0 0 9)  -- grow 1
     ∷ (figures 36 9 9 Whole, after 3 1 0 0 9)  -- status
@@ -277,8 +333,11 @@ expected =
     ∷ (bytes (3 ∷ 4 ∷ []), after 3 1 0 0 9)  -- read 19
     ∷ (placed (placeAt 2 1), after 3 1 0 0 9)  -- locate 26
     ∷ (owned (Data 26), after 3 1 0 0 9)  -- owner 2 1
-    ∷ (bytes (0 ∷ 0 ∷ []), after 3 1 0 0 9)  -- read 26
+    ∷ (bytes (45 ∷ 46 ∷ []), after 3 1 0 0 9)  -- read 26
+    ∷ (bytes (61 ∷ 62 ∷ []), after 3 1 0 0 9)  -- read 24
     ∷ (bytes (0 ∷ 0 ∷ []), after 3 1 0 0 9)  -- read 27
+    ∷ (placed (placeAt 11 2), after 3 1 0 0 9)  -- locate 35
+    ∷ (bytes (0 ∷ 0 ∷ []), after 3 1 0 0 9)  -- read 35
     ∷ (done, after 3 1 0 0 9)  -- write 26 (5 ∷ 6 ∷ [])
     ∷ (bytes (5 ∷ 6 ∷ []), after 3 1 0 0 9)  -- read 26
     -- turnedAway

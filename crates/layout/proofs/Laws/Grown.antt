@@ -1,8 +1,8 @@
 -- A growth takes a lawful layout to a lawful layout, after any number of moves. Assumes nothing.
 use Prim.Native.Nat.{ℕ, zero, suc, _+_, _-_, _*_, _≤_, _<_}
-use mathlib.Core.Path.{_≡_, refl, ap, _∙_}
+use mathlib.Core.Path.{_≡_, refl, sym, ap, _∙_}
 use mathlib.Core.Bool.{Bool, true, false}
-use mathlib.Core.Logic.{inl, inr}
+use mathlib.Core.Logic.{inl, inr, _≢_}
 use native.Mathlib.Nat.{div-lt-iff-lt-mul}
 use native.Mathlib.Omega.{arith}
 use lib.Arith.{digits-lt}
@@ -45,6 +45,14 @@ module _ (h : Layout) (g : Geometry) where
   pub owner-none : (S e : ℕ) → taken (g .old) (g .new) (g .moves) S e ≡ false → openStripes g ≤ S → grownOwner h g S e ≡ Blank
   unfolding grownOwner newOwner
   owner-none S e q l = simp (q, le-ltb _ _ l)
+
+  -- a stripe that is open has no blank, if h has none
+  pub open-full : 2 ≤ g .old → ((S e : ℕ) → S < g .stripes → e < g .old → h .owner S e ≢ Blank) → (S e : ℕ) → S < g .stripes → S < openStripes g → grownOwner h g S e ≢ Blank
+  open-full pn no-blank S e hS l = go (taken (g .old) (g .new) (g .moves) S e) refl
+    where
+      go : (b : Bool) → taken (g .old) (g .new) (g .moves) S e ≡ b → grownOwner h g S e ≢ Blank
+      go true q z = no-blank S _ hS (source-lt _ _ pn S e) (sym (owner-old S e q) ∙ z)
+      go false q z = let w : _≡_ {A = ℕ} 0 1 = cc (owner-new S e q l) in omega arith
 
 -- a number below the capacity
 pub data Below (g : Geometry) : ℕ → Type 0 where

@@ -1,12 +1,12 @@
 -- The layout of the array is lawful; what a program finds that looks for a block, and for an owner. Assumes nothing.
 use Prim.Native.Nat.{ℕ, _+_, _-_, _*_, _/_, _%_, _≤_, _<_}
 use mathlib.Core.Path.{_≡_, refl, sym, ap, _∙_}
-use mathlib.Core.Bool.{true, false, cond, false≢true}
+use mathlib.Core.Bool.{Bool, true, false, cond, false≢true}
 use mathlib.Core.Logic.{_≢_, inl, inr}
 use native.Mathlib.Decide.{ℕ-discrete}
 use native.Mathlib.Nat.{div-lt-iff-lt-mul, mod-lt}
 use native.Mathlib.Omega.{arith}
-use lib.Dec.{eqb}
+use lib.Dec.{eqb, ltb}
 use lib.ListN.{length}
 use borrow.Author.Tests.{lt-ltb, le-ltb, eq-eqb, ne-eqb}
 use Rattle.layout.specs.declared.Found.{Found}
@@ -18,6 +18,7 @@ use Rattle.layout.specs.declared.Stripe.{Stripe}
 use Rattle.layout.specs.Home.{placeAt, homeStripe, homeDisk}
 use Rattle.layout.specs.Closed.{stripeOf, diskAt, source, taken}
 use Rattle.layout.specs.Blanks.{blanksBelow, newStripe, newDisk, newBlock}
+use Rattle.layout.specs.Runs.{Resting}
 use Rattle.layout.specs.Layout.{disks, oldBlocks, openStripes, capacity, home, layout, found}
 use Rattle.layout.specs.Layout.{carried, newPlace, grownPlace, grownParity, newOwner, grownOwner}
 use Rattle.layout.specs.Slots.{slotOf, slotDisk, InSlot}
@@ -27,7 +28,7 @@ use Rattle.layout.proofs.Laws.Basics.{times, le-or-lt}
 use Rattle.layout.proofs.Laws.Closed.{disk-stays}
 use Rattle.layout.proofs.Laws.Source.{says-taken}
 use Rattle.layout.proofs.Laws.Apart.{apart}
-use Rattle.layout.proofs.Laws.Numbers.{open-le, open-resting}
+use Rattle.layout.proofs.Laws.Opening.{open-le, open-resting}
 use Rattle.layout.proofs.Laws.Bounds.{old-high, sizes-of}
 use Rattle.layout.proofs.Laws.Lawful.Held.{a-block, the-parity, nothing}
 use Rattle.layout.proofs.Laws.Lawful.{Lawful, Full, Held}
@@ -56,16 +57,16 @@ module _ (g : Geometry) (good : GoodArray g) where
   home-full = home-layout-full (g .old) (g .stripes) pn
 
   pub lawful : Lawful (g .old + g .new) (g .stripes) (capacity g) (layout g)
-  lawful = grown-lawful (home g) g pn (open-le g) (home-full .lawful)
+  lawful = grown-lawful (home g) g pn (open-le g good) (home-full .lawful)
 
   pub open-room : openStripes g * g .new ≤ 16777216
-  open-room = times 1048576 16 (omega (arith, open-le g, good .stripes-high)) (good .disks .m-high)
+  open-room = times 1048576 16 (omega (arith, open-le g good, good .stripes-high)) (good .disks .m-high)
 
   pub new-room : (k : ℕ) → k < openStripes g * g .new → (0 < g .new) × (k / g .new < g .stripes) × (k / g .new < openStripes g)
   new-room k l =
       let pm : 0 < g .new = positive (openStripes g) (g .new) k l in
       let h : k / g .new < openStripes g = div-lt-iff-lt-mul pm .1 l in
-      (pm, omega (arith, open-le g), h)
+      (pm, omega (arith, open-le g good), h)
 
   -- ---- what a program finds that looks for block b
 
@@ -171,19 +172,35 @@ module _ (g : Geometry) (good : GoodArray g) where
               ap (λ z. record { place = placeAt (y .stripe) d; parity = z }) (ep ∙ ap (layout g .parity) number-is)
               ∙ ap (λ (q : Place). record { place = q; parity = layout g .parity (q .stripe) }) (slot-place d ed)
 
+  -- ---- for whether there is a block b
+
+  module _ (b old : ℕ) (e : old ≡ oldBlocks g) where
+    pub has-old : b < old → true ≡ ltb b (capacity g)
+    unfolding capacity
+    has-old l = sym (lt-ltb b (oldBlocks g + openStripes g * g .new) (omega arith))
+
+    pub has-new : (X : ℕ) → X ≡ openStripes g → old ≤ b → ltb (b - old) (X * g .new) ≡ ltb b (capacity g)
+    unfolding capacity
+    has-new X eo l = rw eo (elim (le-or-lt (openStripes g * g .new) (b - old)) [
+      | inl h ↦ le-ltb _ _ h ∙ sym (le-ltb b (oldBlocks g + openStripes g * g .new) (omega arith))
+      | inr h ↦ lt-ltb _ _ h ∙ sym (lt-ltb b (oldBlocks g + openStripes g * g .new) (omega arith))
+    ])
+
   -- ---- and for the owner of place (S, e)
 
   pub new-times : (S : ℕ) → S < g .stripes → S * g .new ≤ 16777216
   new-times S l = times {a = S} {b = g .new} 1048576 16 (omega (arith, good .stripes-high)) (good .disks .m-high)
 
   module _ (S e : ℕ) where
-    pub code-new : S < openStripes g → (old : ℕ) → old ≡ oldBlocks g → (j : ℕ) → (taken (g .old) (g .new) (g .moves) S e ≡ false → j ≡ length (blanksBelow (g .old) (g .new) (g .moves) S e)) → taken (g .old) (g .new) (g .moves) S e ≡ false → old + (S * g .new + j) ≡ code (newOwner g S e)
+    -- what is new there: test says whether the stripe is open, j is the count of its blanks below disk e
+    pub code-new : (old j r : ℕ) (test : Bool) → old ≡ oldBlocks g → test ≡ ltb S (openStripes g)
+        → (Resting (g .old) (g .new) (g .moves) S → taken (g .old) (g .new) (g .moves) S e ≡ false → j ≡ length (blanksBelow (g .old) (g .new) (g .moves) S e))
+        → r ≡ cond test (old + (S * g .new + j)) 4294967297 → taken (g .old) (g .new) (g .moves) S e ≡ false → r ≡ code (newOwner g S e)
     unfolding code newOwner newBlock
-    code-new l old eo j ej f = rw (lt-ltb _ _ l, eo, ej f) refl
-
-    pub code-none : openStripes g ≤ S → 4294967297 ≡ code (newOwner g S e)
-    unfolding code newOwner
-    code-none l = rw (le-ltb _ _ l) refl
+    code-new old j r test eo et ej er f = elim (le-or-lt (openStripes g) S) [
+      | inl l ↦ (let c : test ≡ false = et ∙ le-ltb _ _ l in rw (le-ltb _ _ l) (rw c at er))
+      | inr l ↦ (let c : test ≡ true = et ∙ lt-ltb _ _ l in rw (lt-ltb _ _ l, ← eo, ← ej (open-resting g good S l) f) (rw c at er))
+    ]
 
     -- no block has the number of parity or of a blank
     coded : S < g .stripes → e < disks g → roleOf (code (layout g .owner S e)) ≡ layout g .owner S e

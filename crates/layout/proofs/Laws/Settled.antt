@@ -1,5 +1,5 @@
 -- A stripe once all moves of its zone are made, and while none is: which of its disks are taken. Assumes nothing.
-use Prim.Native.Nat.{ℕ, zero, suc, _+_, _-_, _≤_, _<_}
+use Prim.Native.Nat.{ℕ, zero, suc, _+_, _-_, _*_, _≤_, _<_}
 use mathlib.Core.Path.{_≡_, refl, sym, ap, ap₂, _∙_}
 use mathlib.Core.Bool.{Bool, true, false, true≢false, cond}
 use mathlib.Core.List.{[], _∷_, _++_}
@@ -12,7 +12,7 @@ use borrow.Author.Tests.{le-leb, lt-leb}
 use Rattle.layout.specs.Home.{parityDisk}
 use Rattle.layout.specs.Moves.{zoneOf, withinZone}
 use Rattle.layout.specs.Closed.{lag, target, turn, diskAt, source, taken}
-use Rattle.layout.specs.Blanks.{blanksBelow, blanks}
+use Rattle.layout.specs.Blanks.{blanksBelow, blanks, newBlock}
 use Rattle.layout.specs.Runs.{awaited, settled, Resting}
 use Rattle.layout.proofs.Laws.Basics.{le-or-lt}
 use Rattle.layout.proofs.Laws.Lag.{lag-lt, lag-le, lag-lag}
@@ -51,6 +51,19 @@ module _ (n m : ℕ) (pn : 2 ≤ n) (S : ℕ) where
     unfolding blanksBelow
     same-below zero = refl
     same-below (suc e) = ap₂ (λ l b. l ++ cond b [] (e ∷ [])) (same-below e) (same-taken e)
+
+  -- nor do they change what is new on its blanks
+  module _ (t t′ : ℕ) (over : settled n m S ≤ t) (since : t ≤ t′) where
+    same-count : (e : ℕ) → blanksBelow n m t′ S e ≡ blanksBelow n m t S e
+    same-count e = same-below t′ (omega arith) e ∙ sym (same-below t over e)
+
+    pub same-block : (e : ℕ) → newBlock n m t′ S e ≡ newBlock n m t S e
+    unfolding newBlock
+    same-block e = ap (λ l. S * m + length l) (same-count e)
+
+    pub same-nth : (j : ℕ) → getD (blanks n m t′ S) j 0 ≡ getD (blanks n m t S) j 0
+    unfolding blanks
+    same-nth j = ap (λ l. getD l j 0) (same-count (n + m))
 
   -- ---- an old disk is taken exactly if no move leaves it
 
@@ -114,23 +127,23 @@ module _ (n m : ℕ) (pn : 2 ≤ n) (S t : ℕ) (before : t ≤ awaited n m S) w
 
 -- ---- so with all moves of its zone made, or none: what a program picks that has seen which
 
-module _ (n m : ℕ) (pn : 2 ≤ n) (S t : ℕ) (rest : Resting n m t S) (test : Bool) (e : test ≡ leb (settled n m S) t) where
-  pub resting-nth : (j lift r : ℕ) → j + lift ≡ getD (blanks n m (settled n m S) S) j 0 → r ≡ cond test lift n → j < m → j + r ≡ getD (blanks n m t S) j 0
+module _ (n m : ℕ) (pn : 2 ≤ n) (S t : ℕ) (test : Bool) (e : test ≡ leb (settled n m S) t) where
+  pub resting-nth : Resting n m t S → (j lift r : ℕ) → j + lift ≡ getD (blanks n m (settled n m S) S) j 0 → r ≡ cond test lift n → j < m → j + r ≡ getD (blanks n m t S) j 0
   unfolding blanks
-  resting-nth j lift r el er h = ap (λ x. j + x) er ∙ elim (le-or-lt (settled n m S) t) [
+  resting-nth rest j lift r el er h = ap (λ x. j + x) er ∙ elim (le-or-lt (settled n m S) t) [
     | inl l ↦ rw (e ∙ le-leb _ _ l) (el ∙ ap (λ x. getD x j 0) (sym (same-below n m pn S t l (n + m))))
     | inr l ↦ rw (e ∙ lt-leb _ _ l) (omega arith ∙ awaited-nth n m pn S t (rest l) j h)
   ]
 
   -- so it is a disk of the array
-  pub resting-lt : (j lift r : ℕ) → j + lift ≡ getD (blanks n m (settled n m S) S) j 0 → r ≡ cond test lift n → j < m → j + r < n + m
-  resting-lt j lift r el er h = rw (resting-nth j lift r el er h) (nth-listed n m pn t S j h .under)
+  pub resting-lt : Resting n m t S → (j lift r : ℕ) → j + lift ≡ getD (blanks n m (settled n m S) S) j 0 → r ≡ cond test lift n → j < m → j + r < n + m
+  resting-lt rest j lift r el er h = rw (resting-nth rest j lift r el er h) (nth-listed n m pn t S j h .under)
 
   pub resting-below : (d lift r k : ℕ) → (taken n m (settled n m S) S d ≡ false → d - lift ≡ length (blanksBelow n m (settled n m S) S d)) → r ≡ cond test lift n → k ≡ d - r
-      → (k ≤ d) × (taken n m t S d ≡ false → k ≡ length (blanksBelow n m t S d))
+      → (k ≤ d) × (Resting n m t S → taken n m t S d ≡ false → k ≡ length (blanksBelow n m t S d))
   resting-below d lift r k el er ek = (
     omega arith,
-    λ f. ek ∙ ap (λ x. d - x) er ∙ elim (le-or-lt (settled n m S) t) [
+    λ rest f. ek ∙ ap (λ x. d - x) er ∙ elim (le-or-lt (settled n m S) t) [
       | inl l ↦ rw (e ∙ le-leb _ _ l) (el (sym (same-taken n m pn S t l d) ∙ f) ∙ ap length (sym (same-below n m pn S t l d)))
       | inr l ↦ rw (e ∙ lt-leb _ _ l) (awaited-below n m pn S t (rest l) d f)
     ],

@@ -1,4 +1,4 @@
--- Worked cases over the definitions; `paper` of proofs/Cases/Paper.antt computes them: the paper's table 2, figure 5 and figure 6(a), and
+-- Worked cases over the definitions; `paper` of proofs/Cases/Paper.antt computes them: the paper's table 2, figure 6(a) and figure 5, and
 -- three growths whose values were found by replaying the moves of document 01's rule one by one on a table of places.
 -- (Document 01's cases are one table over the calls: crate `calls`, specs/Cases/Bench.antt.)
 use Prim.Native.Nat.{ℕ, zero, suc}
@@ -11,6 +11,7 @@ use Rattle.layout.specs.declared.Role.the-variants.{Data, Parity, Blank}
 use Rattle.layout.specs.declared.Role.{Role}
 use Rattle.layout.specs.Home.{placeAt}
 use Rattle.layout.specs.Moves.{moveOf}
+use Rattle.layout.specs.Blanks.{blanks}
 use Rattle.layout.specs.Layout.{totalOf, layout}
 
 -- ---- four arrays, after t moves: 3 disks grown by 2 (18 moves), 4 by 1 (16), 5 by 3 (75), and the most disks there may be, 16, by 3 (768)
@@ -52,25 +53,37 @@ unfoldable pub parities : Geometry → ℕ → ℕ → List ℕ
 parities g S zero = []
 parities g S (suc count) = layout g .parity S ∷ parities g (suc S) count
 
+-- the blanks of some stripes, from S on
+unfoldable pub blankDisks : Geometry → ℕ → ℕ → List (List ℕ)
+blankDisks g S zero = []
+blankDisks g S (suc count) = blanks (g .old) (g .new) (g .moves) S ∷ blankDisks g (suc S) count
+
 pub record Paper : Type 0 where
   -- the paper's table 2: zone 1, p = 3 and p = 4
   pub table-2 :
       moves 3 2 6 6
       ≡ move 1 3 8 2 3 ∷ move 1 2 7 0 3 ∷ move 1 1 6 1 3 ∷
       move 1 4 9 0 4 ∷ move 1 3 8 1 4 ∷ move 1 2 7 2 4 ∷ []
-  -- the paper's figure 6(a): zone 0 with its six moves made, disk by disk ..
-  pub figure-6 :
-      (row (mill 6) 0 0 5 ≡ Parity ∷ Data 3 ∷ Blank ∷ Blank ∷ Data 9 ∷ []) ×
-      (row (mill 6) 1 0 5 ≡ Data 1 ∷ Parity ∷ Blank ∷ Data 7 ∷ Blank ∷ []) ×
-      (row (mill 6) 2 0 5 ≡ Data 0 ∷ Blank ∷ Parity ∷ Blank ∷ Data 8 ∷ []) ×
-      (row (mill 6) 3 0 5 ≡ Blank ∷ Data 2 ∷ Data 4 ∷ Parity ∷ Blank ∷ []) ×
-      (row (mill 6) 4 0 5 ≡ Blank ∷ Blank ∷ Data 5 ∷ Data 6 ∷ Parity ∷ [])
-  -- .. and the same figure read from number to place: its blocks 0 to 9, and P₀ to P₄
+  -- the paper's figure 6(a): zone 0 with its six moves made. Its blocks 0 to 9, P₀ to P₄, and the blanks of its five stripes ..
   pub figure-6-places :
       places (mill 6) 0 10
       ≡ placeAt 0 2 ∷ placeAt 0 1 ∷ placeAt 1 3 ∷ placeAt 1 0 ∷ placeAt 2 3 ∷
       placeAt 2 4 ∷ placeAt 3 4 ∷ placeAt 3 1 ∷ placeAt 4 2 ∷ placeAt 4 0 ∷ []
   pub figure-6-parities : parities (mill 6) 0 5 ≡ 0 ∷ 1 ∷ 2 ∷ 3 ∷ 4 ∷ []
+  pub figure-6-blanks : blankDisks (mill 6) 0 5 ≡ (3 ∷ 4 ∷ []) ∷ (2 ∷ 4 ∷ []) ∷ (0 ∷ 1 ∷ []) ∷ (0 ∷ 2 ∷ []) ∷ (1 ∷ 3 ∷ []) ∷ []
+  -- .. and figure 5, where blanks are given to new blocks: with that zone finished all of them are, disk by disk and from number to place.
+  -- Figure 5 shows one zone of five stripes, whose ten old blocks are 0 to 9, and so calls the first three new ones 10, 11 and 12; here
+  -- there are three such zones, so thirty old blocks, and the ten new ones of this zone are 30 to 39
+  pub figure-5 :
+      (row (mill 6) 0 0 5 ≡ Parity ∷ Data 3 ∷ Data 34 ∷ Data 36 ∷ Data 9 ∷ []) ×
+      (row (mill 6) 1 0 5 ≡ Data 1 ∷ Parity ∷ Data 35 ∷ Data 7 ∷ Data 38 ∷ []) ×
+      (row (mill 6) 2 0 5 ≡ Data 0 ∷ Data 32 ∷ Parity ∷ Data 37 ∷ Data 8 ∷ []) ×
+      (row (mill 6) 3 0 5 ≡ Data 30 ∷ Data 2 ∷ Data 4 ∷ Parity ∷ Data 39 ∷ []) ×
+      (row (mill 6) 4 0 5 ≡ Data 31 ∷ Data 33 ∷ Data 5 ∷ Data 6 ∷ Parity ∷ [])
+  pub figure-5-places :
+      places (mill 6) 30 10
+      ≡ placeAt 0 3 ∷ placeAt 0 4 ∷ placeAt 1 2 ∷ placeAt 1 4 ∷ placeAt 2 0 ∷
+      placeAt 2 1 ∷ placeAt 3 0 ∷ placeAt 3 2 ∷ placeAt 4 1 ∷ placeAt 4 3 ∷ []
   -- on the way to it, four of the six moves made: blocks 5 and 6 wait for theirs
   pub mid-zone :
       (row (mill 4) 0 0 5 ≡ Parity ∷ Data 3 ∷ Data 5 ∷ Blank ∷ Data 9 ∷ []) ×
@@ -82,9 +95,6 @@ pub record Paper : Type 0 where
       places (mill 4) 0 10
       ≡ placeAt 0 2 ∷ placeAt 0 1 ∷ placeAt 1 3 ∷ placeAt 1 0 ∷ placeAt 2 3 ∷
       placeAt 2 0 ∷ placeAt 3 2 ∷ placeAt 3 1 ∷ placeAt 4 2 ∷ placeAt 4 0 ∷ []
-  -- the paper's figure 5: the first three new blocks. It shows one zone of five stripes, whose ten old blocks are 0 to 9, and so calls them
-  -- 10, 11 and 12; here there are three such zones, so thirty old blocks, and they are 30, 31 and 32
-  pub figure-5 : places (mill 18) 30 3 ≡ placeAt 0 3 ∷ placeAt 0 4 ∷ placeAt 1 2 ∷ []
   -- n = 4, an even number: zone 0 takes two blocks each from disks 0 and 2, zone 1 two each from disks 1 and 3
   pub even-moves :
       moves 4 1 0 8

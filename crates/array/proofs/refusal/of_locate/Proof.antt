@@ -9,7 +9,6 @@ use Rattle.state.proofs.Laws.Good.{limits}
 use Rattle.conditions.proofs.Tests.{went-on, returned}
 use Rattle.calls.specs.Table.{pastEnd}
 use Rattle.calls.proofs.Laws.Table.{given, skipped, locate-rows}
-use Rattle.conditions.proofs.Asked.{under, over}
 use Rattle.array.proofs.refusal.of_locate.Statement.{statement}
 use Rattle.array.proofs.refusal.of_locate.Tie as tie
 
@@ -26,8 +25,8 @@ returns c =
 was-good : (c : tie.Else1) → good (c .before .before .args .r) ≡ true
 was-good c = went-on (c .before .is-good .ensures) (c .if1 .left)
 
-blocks-of-requires : tie.Need-blocks-of-requires
-blocks-of-requires c κs = limits _ (was-good c)
+is-block-requires : tie.Need-is-block-requires
+is-block-requires c κs = limits _ (was-good c)
 
 returns-2 : tie.Need-returns-2
 returns-2 c =
@@ -35,7 +34,7 @@ returns-2 c =
     let a = c1 .before .before .args in
     let cap = capacity (geometry (a .r)) in
     sym (locate-rows (a .r) cap 0 0 (a .b) ∙ skipped 1 (pastEnd (a .b) cap ∷ []) (ap not (was-good c1))
-    ∙ given 8 [] (ap not (over (c .before .blocks-of .ensures) (c .if2 .taken))))
+    ∙ given 8 [] (ap not (returned (c .before .is-block .ensures) (c .if2 .taken))))
 
 returns-3 : tie.Need-returns-3
 returns-3 c =
@@ -43,7 +42,7 @@ returns-3 c =
     let a = c1 .before .before .args in
     let cap = capacity (geometry (a .r)) in
     sym (locate-rows (a .r) cap 0 0 (a .b) ∙ skipped 1 (pastEnd (a .b) cap ∷ []) (ap not (was-good c1))
-    ∙ skipped 8 [] (ap not (under (c .before .blocks-of .ensures) (c .if2 .left))))
+    ∙ skipped 8 [] (ap not (went-on (c .before .is-block .ensures) (c .if2 .left))))
 
 pub of-locate-spec : {M : Type 1} → statement M
 of-locate-spec =
@@ -51,6 +50,6 @@ of-locate-spec =
     (tie.spec
     is-good-requires
     returns
-    blocks-of-requires
+    is-block-requires
     returns-2
     returns-3)

@@ -4,7 +4,8 @@ use mathlib.Core.Path.{_≡_, refl, sym, ap, _∙_}
 use mathlib.Core.Bool.{not}
 use mathlib.Core.List.{List, [], _∷_}
 use borrow.Author.Needs.{needs}
-use Rattle.conditions.proofs.Asked.{same, other, under, over}
+use Rattle.conditions.proofs.Asked.{same, other}
+use Rattle.conditions.proofs.Tests.{went-on, returned}
 use Rattle.layout.specs.Layout.{capacity}
 use Rattle.state.specs.declared.Record.{Record}
 use Rattle.state.specs.Good.{geometry}
@@ -37,20 +38,20 @@ past-1 c =
     read-rows (a .r) (capacity (geometry (a .r))) (a .images) (a .room) (a .b)
     ∙ lent-on (a .r) (from-8 (a .r) (a .b) (a .room)) (a .images) (c .before .of-lent .ensures) (c .if1 .left)
 
-blocks-of-requires : tie.Need-blocks-of-requires
-blocks-of-requires c κs = let a = c .before .before .args in ready-lent (a .r) (a .images) (c .before .of-lent .ensures) (c .if1 .left)
+is-block-requires : tie.Need-is-block-requires
+is-block-requires c κs = let a = c .before .before .args in ready-lent (a .r) (a .images) (c .before .of-lent .ensures) (c .if1 .left)
 
 returns-2 : tie.Need-returns-2
 returns-2 c =
     let c1 = c .before .before in
     let a = c1 .before .before .args in
-    sym (past-1 c1 ∙ given 8 (from-9 (a .r) (a .room)) (ap not (over (c .before .blocks-of .ensures) (c .if2 .taken))))
+    sym (past-1 c1 ∙ given 8 (from-9 (a .r) (a .room)) (ap not (returned (c .before .is-block .ensures) (c .if2 .taken))))
 
 past-2 : (c : tie.Else2) → let a = c .before .before .before .before .args in refusalOf (a .r) (feed (read (a .b)) (a .images) (a .room)) ≡ word (from-9 (a .r) (a .room))
 past-2 c =
     let c1 = c .before .before in
     let a = c1 .before .before .args in
-    past-1 c1 ∙ skipped 8 (from-9 (a .r) (a .room)) (ap not (under (c .before .blocks-of .ensures) (c .if2 .left)))
+    past-1 c1 ∙ skipped 8 (from-9 (a .r) (a .room)) (ap not (went-on (c .before .is-block .ensures) (c .if2 .left)))
 
 cast-if3 : tie.Need-cast-if3
 cast-if3 c = search needs
@@ -67,7 +68,7 @@ of-reach-spec =
     (tie.spec
     of-lent-requires
     returns
-    blocks-of-requires
+    is-block-requires
     returns-2
     cast-if3
     returns-3
