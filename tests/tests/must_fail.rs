@@ -50,6 +50,7 @@ const COMPUTED: &[(&str, &str, &[&str])] = &[
             "calls/place_left_full",
             "calls/read_of_zeros",
             "calls/rebuild_sums_itself",
+            "calls/refusal_clears_block",
             "calls/second_out_kept",
             "calls/view_fills_always",
         ],
@@ -69,12 +70,6 @@ const BY_LAW: &[(&str, &str, &[&str])] = &[
         "/proofs/Laws/Block.antt:",
         "`blockAt-store`",
         &["blocks/block_from_start"],
-    ),
-    // a refused call leaves what it was lent
-    (
-        "/proofs/Theorem.antt:",
-        "`kept`",
-        &["calls/refusal_clears_block"],
     ),
     // format is refused 6 for what document 01 says, and nothing else
     (
@@ -143,6 +138,8 @@ fn kind(words: &str) -> Option<Kind> {
         "unsolved ?",
         "list the missing equation with its arguments",
         "replace that `_` with the term",
+        // `record X has no field y`, whose end may stand in the next line
+        "record `",
     ]) || has(&[
             "is not in scope",
             "that can be named from here",
@@ -377,6 +374,10 @@ fn kinds_of_error() {
             Some(Kind::Shape),
         ),
         ("`turn-of-move`: `ap₃` is not in scope", Some(Kind::Shape)),
+        (
+            "`mul-result`: record `layout.open_stripes.Lts.After-struct-known`",
+            Some(Kind::Shape),
+        ),
         (
             "`indices`: `_∷_` is not a constructor of `ℕ`: it is a constructor of `List`",
             Some(Kind::Shape),
