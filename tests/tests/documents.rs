@@ -841,6 +841,13 @@ fn the_drawer_of_the_layout() {
     }
     layout_says("It is of zone 0, which is finished: no place of it is blank.");
 
+    // a line of the table of a stripe; gives the bytes that stand there
+    let shows = |stripe: usize, disk: usize, what: &str| {
+        let at = (disk * 15 + stripe) * 4;
+        let holds = hex(&loan.images[at..at + 4]);
+        layout_says(&format!("| {disk} | {at} | {holds} | {what} |"));
+        holds
+    };
     let says = [
         "blank (block 15 stood here until move 7)",
         "parity",
@@ -849,9 +856,7 @@ fn the_drawer_of_the_layout() {
         "blank",
     ];
     for (disk, what) in says.iter().enumerate() {
-        let at = (disk * 15 + 7) * 4;
-        let holds = hex(&loan.images[at..at + 4]);
-        layout_says(&format!("| {disk} | {at} | {holds} | {what} |"));
+        let holds = shows(7, disk, what);
         let line = match disk {
             3 => format!("{holds} their xor: \"fir \""),
             _ => format!("{holds} disk {disk}"),
@@ -866,9 +871,7 @@ fn the_drawer_of_the_layout() {
         "block 33, new: \"oak \"",
     ];
     for (disk, what) in says.iter().enumerate() {
-        let at = (disk * 15 + 1) * 4;
-        let holds = hex(&loan.images[at..at + 4]);
-        layout_says(&format!("| {disk} | {at} | {holds} | {what} |"));
+        shows(1, disk, what);
     }
     assert_eq!(&loan.images[244..248], b"oak ");
     assert_eq!(&loan.images[208..212], b"fir ");

@@ -1,7 +1,7 @@
 -- What an accepted call does, whatever bytes it is lent: `acts`. Assumes nothing.
 use Prim.Native.Nat.{ℕ, suc, _+_, _-_, _*_, _≤_, _<_, min}
 use mathlib.Core.Path.{_≡_, refl, sym, ap, _∙_, subst}
-use mathlib.Core.Bool.{Bool, true, false, not}
+use mathlib.Core.Bool.{Bool, true, false}
 use mathlib.Core.Logic.{_≢_}
 use mathlib.Core.List.{List, [], _++_}
 use native.Mathlib.Nat.{zero-mul}
@@ -20,7 +20,7 @@ use Rattle.blocks.proofs.Laws.Xor.{getD-zeros}
 use Rattle.state.specs.declared.Health.the-variants.{Whole, Out, Lost}
 use Rattle.state.specs.declared.Health.{Health}
 use Rattle.state.specs.declared.Record.{Record}
-use Rattle.state.specs.Good.{geometry, good, GoodRecord}
+use Rattle.state.specs.Good.{geometry, GoodRecord}
 use Rattle.state.specs.Update.{formatted, grownBy, withMoves, withHealth}
 use Rattle.calls.specs.Call.{Call, format, read, view, write, grow, advance, out, rebuild, status, locate, owner}
 use Rattle.calls.specs.Call.{Event, Answer, done, bytes, made}
@@ -34,7 +34,7 @@ use Rattle.calls.proofs.Laws.Column.{Mask, storeIf}
 use Rattle.calls.proofs.Laws.Stores.{length-stored, cell-stored, stored-append, stored-last, recorded-last, column-fill, column-zero}
 use Rattle.calls.proofs.Laws.Holding.{cellIn}
 use Rattle.calls.proofs.Laws.Read.{viewed-is}
-use Rattle.calls.proofs.Laws.Write.{parity-apart, lS, ld, lp, length-w, recorded-write, cell-write}
+use Rattle.calls.proofs.Laws.Write.{parity-apart, lS, ld, lp, length-w, cell-write}
 use Rattle.calls.proofs.Laws.Passed.{Reaches}
 use Rattle.calls.proofs.Laws.Kept.{storeIf-other}
 use Rattle.calls.proofs.Laws.Table.{some-new}

@@ -3,9 +3,8 @@ use Prim.Native.Nat.{ℕ, zero, suc, _+_, _-_, _≤_, _<_}
 use mathlib.Core.Path.{_≡_, refl, sym, ap, _∙_}
 use mathlib.Core.List.{List, [], _∷_, _++_, map, map-append, append-nil, append-assoc}
 use native.Mathlib.Decide.{decLt}
-use native.Mathlib.Nat.{zero-add, suc-add}
 use native.Mathlib.Omega.{arith}
-use lib.ListN.{length, getD, replicate, length-append, length-replicate, getD-replicate, List·getD-append, List·getD-eq-default}
+use lib.ListN.{length, getD, replicate, length-append, length-replicate, getD-replicate, replicate-append-replicate, List·getD-append, List·getD-eq-default}
 use lib.Seq.{getD-append-add}
 use Rattle.layout.specs.declared.Geometry.{Geometry}
 use Rattle.layout.specs.declared.Role.the-variants.{Data, Parity, Blank}
@@ -68,16 +67,12 @@ module _ (g : Geometry) (B : ℕ) (bs : List (List ℕ)) where
       ap (λ (c : ℕ). bs ++ blank-blocks c B) none ∙ append-nil bs
 
 -- lengthened twice: as if at once
-replicate-add : {A : Type 0} (x : A) (c d : ℕ) → replicate c x ++ replicate d x ≡ replicate (c + d) x
-replicate-add x zero d = ap (λ (n : ℕ). replicate n x) (sym (zero-add d))
-replicate-add x (suc c) d = ap (λ r. x ∷ r) (replicate-add x c d) ∙ ap (λ (n : ℕ). replicate n x) (sym (suc-add c d))
-
 pub twice-with-new : (g g′ : Geometry) (B : ℕ) (bs : List (List ℕ)) → length bs ≤ capacity g → capacity g ≤ capacity g′ → with-new g′ B (with-new g B bs) ≡ with-new g′ B bs
 twice-with-new g g′ B bs le le′ =
     let c : ℕ = capacity g - length bs in
     let d : ℕ = capacity g′ - length (with-new g B bs) in
     let e : c + d ≡ capacity g′ - length bs = omega (arith, count-with-new g B bs le) in
-    append-assoc bs (blank-blocks c B) (blank-blocks d B) ∙ ap (λ x. bs ++ x) (replicate-add (zeros B) c d) ∙ ap (λ (x : ℕ). bs ++ blank-blocks x B) e
+    append-assoc bs (blank-blocks c B) (blank-blocks d B) ∙ ap (λ x. bs ++ x) (replicate-append-replicate c d (zeros B)) ∙ ap (λ (x : ℕ). bs ++ blank-blocks x B) e
 
 -- ---- on one byte of every place
 

@@ -10,6 +10,7 @@ use Rattle.layout.specs.declared.Geometry.{Geometry}
 use Rattle.layout.specs.Layout.{capacity, totalOf, oldBlocks, openStripes, home, layout, nextStripe, nextFrom, nextTo, after}
 use Rattle.layout.specs.Limits.{GoodArray}
 use Rattle.layout.proofs.Laws.Layout.{lawful}
+use Rattle.layout.proofs.Laws.Numbers.{good-later}
 use Rattle.layout.proofs.Laws.Opening.{capacity-rises}
 use Rattle.layout.proofs.Laws.Standing.{carriedOwner, Carries, carries, Opened, opens, was-parity}
 use Rattle.layout.proofs.Theorem.{laid}
@@ -38,13 +39,7 @@ abbrev pub moved : Record → Record
 moved r = withMoves r (suc (r .moves))
 
 pub good-moved : (r : Record) → GoodArray (geometry r) → idle (geometry r) ≡ false → GoodArray (geometry (moved r))
-good-moved r good busy =
-    record {
-      disks = good .disks;
-      stripes-low = good .stripes-low;
-      stripes-high = good .stripes-high;
-      moves = some-left (geometry r) good busy;
-    }
+good-moved r good busy = good-later (geometry r) good (suc (r .moves)) (some-left (geometry r) good busy)
 
 module _ (r : Record) (img : List ℕ) (good : GoodArray (geometry r)) (busy : idle (geometry r) ≡ false) (long : length img ≡ size r) where
   abbrev g : Geometry
