@@ -88,6 +88,14 @@ static void run_peer(struct world *w, const struct call *c)
     }
 }
 
+static void run_at_will(struct world *w, const struct call *c)
+{
+    if (c->op == WRITE)
+        w->answer = peer_write_at_will(w->record, c->record_len, w->images, c->images_len, c->x, w->block, c->block_len);
+    else
+        run_peer(w, c);
+}
+
 static void run_isal(struct world *w, const struct call *c)
 {
     if (c->op == READ || c->op == VIEW)
@@ -110,14 +118,34 @@ static uint32_t total_of(struct shape h) { return h.stripes / group_len(h) * h.n
 static uint32_t one_before(uint32_t moves) { return moves > 0 ? moves - 1 : 0; }
 static uint32_t one_behind(struct shape h, uint32_t moves) { return moves < total_of(h) ? moves + 1 : moves; }
 
-/* Any, and one in four at the end: the last one, the first that is not there, and the next. */
-static uint64_t likely_block(struct random *r, struct shape h, const uint8_t *record)
+static uint64_t any_block(struct random *r, struct shape h, const uint8_t *record)
+{
+    return random_below(r, (uint64_t)h.stripes * (h.n + record[PBM_AT_M] - 1) + 1);
+}
+
+/* The last one, the first that is not there, and the next. */
+static uint64_t block_at_the_end(struct random *r, const uint8_t *record)
 {
     uint64_t capacity, moves, total, health, out;
-    if (random_below(r, 4) > 0)
-        return random_below(r, (uint64_t)h.stripes * (h.n + record[PBM_AT_M] - 1) + 1);
     pbm_status(record, PBM_RECORD_LEN, &capacity, &moves, &total, &health, &out);
     return capacity + random_below(r, 3) - 1;
+}
+
+/* What stands on the disk that is out; where that is the parity, or no block yet, another of the stripe. */
+static uint64_t block_on_disk_out(struct random *r, struct shape h, const uint8_t *record)
+{
+    uint64_t stripe = random_below(r, h.stripes), role, block;
+    pbm_owner(record, PBM_RECORD_LEN, stripe, record[PBM_AT_OUT], &role, &block);
+    return role == PBM_DATA ? block : stripe * (h.n - 1) + random_below(r, h.n - 1);
+}
+
+static uint64_t likely_block(struct random *r, struct shape h, const uint8_t *record)
+{
+    switch (random_below(r, 4)) {
+    case 0: return block_at_the_end(r, record);
+    case 1: return block_on_disk_out(r, h, record);
+    default: return any_block(r, h, record);
+    }
 }
 
 /* A call that the record lets through, if the health and t do; arguments run a little over their limits. */
@@ -306,17 +334,22 @@ static bool layouts(struct random *r)
     return true;
 }
 
-/* n, m, B, T: whole groups, then tails of several lengths, then no whole group. */
+/*
+ * n, m, B, T: whole groups, then tails of several lengths, then no whole group; then, for a write whose disk is out, 8, 9, 16,
+ * 17, 31 and 11 sources, and blocks that are no multiple of what is summed at a time.
+ */
 static const struct shape shapes[] = {
-    {5, 3, 64, 40},  {5, 3, 4096, 40}, {16, 16, 64, 512}, {3, 2, 7, 15},   {4, 1, 1, 20},   {5, 3, 33, 40},
-    {5, 3, 64, 41},  {5, 3, 4096, 61}, {16, 16, 64, 769}, {3, 2, 7, 29},   {4, 1, 1, 25},   {5, 3, 32, 79},
-    {5, 3, 96, 48},  {5, 3, 64, 39},   {16, 16, 32, 511}, {3, 2, 7, 14},   {4, 1, 1, 19},   {16, 1, 32, 1}};
+    {5, 3, 64, 40},   {5, 3, 4096, 40}, {16, 16, 64, 512}, {3, 2, 7, 15},    {4, 1, 1, 20},     {5, 3, 33, 40},
+    {5, 3, 64, 41},   {5, 3, 4096, 61}, {16, 16, 64, 769}, {3, 2, 7, 29},    {4, 1, 1, 25},     {5, 3, 32, 79},
+    {5, 3, 96, 48},   {5, 3, 64, 39},   {16, 16, 32, 511}, {3, 2, 7, 14},    {4, 1, 1, 19},     {16, 1, 32, 1},
+    {6, 3, 85, 54},   {6, 4, 85, 60},   {9, 8, 149, 153},  {16, 2, 67, 288}, {16, 16, 95, 512}, {7, 5, 15, 84},
+    {16, 16, 4095, 2}};
 
 bool peers_agree(uint64_t seed)
 {
     struct random r = {seed};
     for (size_t i = 0; i < sizeof shapes / sizeof shapes[0]; i++) {
-        if (!histories(&r, shapes[i], run_peer))
+        if (!histories(&r, shapes[i], run_peer) || !histories(&r, shapes[i], run_at_will))
             return false;
         if (shapes[i].block_len % 32 == 0 && !histories(&r, shapes[i], run_isal))
             return false;

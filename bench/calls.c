@@ -100,9 +100,9 @@ static struct lent lend(struct stage *s, enum state state, bool new)
     return l;
 }
 
-static struct lent lend_degraded(struct stage *s)
+static struct lent lend_degraded(struct stage *s, struct list blocks)
 {
-    return (struct lent){s->degraded, s->images, s->images_len, list_on_disk_out(s)};
+    return (struct lent){s->degraded, s->images, s->images_len, blocks};
 }
 
 typedef void asking(struct stage *s, const struct set *c, struct lent l, size_t times);
@@ -129,9 +129,11 @@ static bool run(struct stage *s, const struct set *c, const char *name, size_t t
         if (strcmp(name, asked[i].name) == 0)
             return asked[i].ask(s, c, lend(s, asked[i].state, asked[i].new), times), true;
     if (strcmp(name, "degraded-read") == 0)
-        reads(s, c, lend_degraded(s), times);
+        reads(s, c, lend_degraded(s, list_on_disk_out(s)), times);
     else if (strcmp(name, "write-out") == 0)
-        writes(s, c, lend_degraded(s), times);
+        writes(s, c, lend_degraded(s, list_on_disk_out(s)), times);
+    else if (strcmp(name, "write-parity-out") == 0)
+        writes(s, c, lend_degraded(s, list_parity_out(s)), times);
     else if (strcmp(name, "rebuild") == 0)
         rebuilds(s, c, times);
     else if (strcmp(name, "growth") == 0)

@@ -23,6 +23,13 @@ static struct contestant held(struct contestant c, double out, double in)
     return c;
 }
 
+/* And at B = 64, out of cache and in cache. */
+static struct contestant held_short(struct contestant c, double target)
+{
+    c.target_short = target;
+    return c;
+}
+
 static struct contestant reader(const char *name, read_call *call, struct list l)
 {
     return (struct contestant){.name = name, .turn = reads, .list = l, .read = call};
@@ -106,10 +113,12 @@ static void reading_degraded(struct stage *s, struct settings set, struct report
     free(l.items);
 }
 
+/* Against C, and against C at will if that plays too. */
 static void writing_to(struct stage *s, struct settings set, struct report *report, const char *name,
-                       const uint8_t record[PBM_RECORD_LEN], struct list l)
+                       const uint8_t record[PBM_RECORD_LEN], struct list l, bool at_will_too)
 {
-    struct series x = {name, {writer("library", pbm_write, l), held(writer("C", peer_write, l), 0.95, 0.8)}, 2, 1};
+    struct series x = {name, {writer("library", pbm_write, l), held(writer("C", peer_write, l), 0.92, 0.9),
+                              writer("C, at will", peer_write_at_will, l)}, at_will_too ? 3 : 2, 1};
     lend(s, record);
     series_run(&x, s, set, report);
     parity_must_hold(s);
@@ -118,24 +127,45 @@ static void writing_to(struct stage *s, struct settings set, struct report *repo
 
 static void writing(struct stage *s, struct settings set, struct report *report)
 {
-    writing_to(s, set, report, "write", s->half, list_blocks(s));
+    writing_to(s, set, report, "write", s->half, list_blocks(s), true);
+}
+
+static void writing_plainly(struct stage *s, struct settings set, struct report *report)
+{
+    writing_to(s, set, report, "write", s->half, list_blocks(s), false);
 }
 
 static void writing_grown(struct stage *s, struct settings set, struct report *report)
 {
     stage_grown(s);
-    writing_to(s, set, report, "write, any block, grown", s->grown, list_all_blocks(s));
+    writing_to(s, set, report, "write, any block, grown", s->grown, list_all_blocks(s), false);
 }
 
+/* With the disk out: parities are right if they hold once it is rebuilt. */
+static void write_degraded(struct stage *s, struct settings set, struct report *report, const struct series *x)
+{
+    lend(s, s->degraded);
+    series_run(x, s, set, report);
+    must(pbm_rebuild(s->record, PBM_RECORD_LEN, s->images, s->images_len, OUT_DISK) == 0, "rebuild");
+    parity_must_hold(s);
+}
+
+/* Up to nine disks are up to eight sources, one pass: there C at will is C. */
 static void writing_degraded(struct stage *s, struct settings set, struct report *report)
 {
     struct list l = list_on_disk_out(s);
     struct series x = {"write, its disk out",
-                       {writer("library", pbm_write, l), held(writer("C", peer_write, l), 0.8, 0.6)}, 2, 1};
-    lend(s, s->degraded);
-    series_run(&x, s, set, report);
-    must(pbm_rebuild(s->record, PBM_RECORD_LEN, s->images, s->images_len, OUT_DISK) == 0, "rebuild");
-    parity_must_hold(s);
+                       {writer("library", pbm_write, l), held_short(held(writer("C", peer_write, l), 0.9, 0.7), 0.9),
+                        writer("C, at will", peer_write_at_will, l)}, s->disks > 9 ? 3 : 2, 1};
+    write_degraded(s, set, report, &x);
+    free(l.items);
+}
+
+static void writing_parity_out(struct stage *s, struct settings set, struct report *report)
+{
+    struct list l = list_parity_out(s);
+    struct series x = {"write, its parity's disk out", {writer("library", pbm_write, l), writer("C", peer_write, l)}, 2, 1};
+    write_degraded(s, set, report, &x);
     free(l.items);
 }
 
@@ -272,6 +302,7 @@ void cases_run(struct stage *s, struct settings set, struct report *report)
     reading_degraded(s, set, report);
     writing(s, set, report);
     writing_degraded(s, set, report);
+    writing_parity_out(s, set, report);
     if (!s->few_stripes) {
         rebuilding(s, set, report);
         growing(s, set, report);
@@ -287,7 +318,7 @@ static void play_beside(one_case *play, struct stage *whole, struct stage *taile
 
 void cases_beside(struct stage *whole, struct stage *tailed, struct settings set, struct report *report)
 {
-    static one_case *const blocks[] = {reading_plainly, writing, reading_grown, writing_grown};
+    static one_case *const blocks[] = {reading_plainly, writing_plainly, reading_grown, writing_grown};
     for (size_t i = 0; i < sizeof blocks / sizeof blocks[0]; i++)
         play_beside(blocks[i], whole, tailed, set, report);
     if (!whole->few_stripes)

@@ -54,8 +54,12 @@ uint8_t peer_view(const uint8_t *record, size_t record_len, const uint8_t *image
     return PBM_DONE;
 }
 
+typedef void summing(uint8_t *restrict into, const uint8_t *const *sources, unsigned count, size_t len);
+typedef void replacing(uint8_t *restrict old, uint8_t *restrict parity, const uint8_t *restrict data, size_t len);
+
 /* The parity with the data's disk out needs neither its old value nor the old block: it is the data and all the rest. */
-static void write_around(const struct array *a, uint8_t *images, struct place q, uint32_t parity, const uint8_t *data)
+static void write_around(const struct array *a, uint8_t *images, struct place q, uint32_t parity, const uint8_t *data,
+                         summing *sum_up)
 {
     const uint8_t *sources[MAX_DISKS];
     unsigned count = 0;
@@ -63,10 +67,19 @@ static void write_around(const struct array *a, uint8_t *images, struct place q,
     for (uint32_t d = 0; d < a->disks; d++)
         if (d != q.disk && d != parity)
             sources[count++] = images + offset_of(a, q.stripe.number, d);
-    sum(images + offset_of(a, q.stripe.number, parity), sources, count, a->block_len);
+    sum_up(images + offset_of(a, q.stripe.number, parity), sources, count, a->block_len);
 }
 
+/* The parity, then the block. */
 static void replace(uint8_t *restrict old, uint8_t *restrict parity, const uint8_t *restrict data, size_t len)
+{
+    for (size_t i = 0; i < len; i++)
+        parity[i] ^= old[i] ^ data[i];
+    memcpy(old, data, len);
+}
+
+/* Both at once. */
+static void replace_at_will(uint8_t *restrict old, uint8_t *restrict parity, const uint8_t *restrict data, size_t len)
 {
     for (size_t i = 0; i < len; i++) {
         parity[i] ^= old[i] ^ data[i];
@@ -74,8 +87,10 @@ static void replace(uint8_t *restrict old, uint8_t *restrict parity, const uint8
     }
 }
 
-uint8_t peer_write(const uint8_t *record, size_t record_len, uint8_t *images, size_t images_len, uint64_t block,
-                   const uint8_t *data, size_t data_len)
+/* The first two are constants where this is called. */
+__attribute__((always_inline)) static inline uint8_t write_with(summing *sum_up, replacing *put, const uint8_t *record,
+                                                                size_t record_len, uint8_t *images, size_t images_len,
+                                                                uint64_t block, const uint8_t *data, size_t data_len)
 {
     struct array a;
     struct place q;
@@ -84,15 +99,27 @@ uint8_t peer_write(const uint8_t *record, size_t record_len, uint8_t *images, si
         return refused;
     uint32_t parity = disk_now(&a, q.stripe, q.stripe.parity);
     if (is_out(&a, q.disk)) {
-        write_around(&a, images, q, parity, data);
+        write_around(&a, images, q, parity, data, sum_up);
         return PBM_DONE;
     }
     uint8_t *old = images + offset_of(&a, q.stripe.number, q.disk);
     if (is_out(&a, parity))
         memcpy(old, data, a.block_len);
     else
-        replace(old, images + offset_of(&a, q.stripe.number, parity), data, a.block_len);
+        put(old, images + offset_of(&a, q.stripe.number, parity), data, a.block_len);
     return PBM_DONE;
+}
+
+uint8_t peer_write(const uint8_t *record, size_t record_len, uint8_t *images, size_t images_len, uint64_t block,
+                   const uint8_t *data, size_t data_len)
+{
+    return write_with(sum_at_once, replace, record, record_len, images, images_len, block, data, data_len);
+}
+
+uint8_t peer_write_at_will(const uint8_t *record, size_t record_len, uint8_t *images, size_t images_len, uint64_t block,
+                           const uint8_t *data, size_t data_len)
+{
+    return write_with(sum, replace_at_will, record, record_len, images, images_len, block, data, data_len);
 }
 
 uint8_t peer_grow(uint8_t *record, size_t record_len, uint8_t *images, size_t images_len, uint64_t m)

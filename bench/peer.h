@@ -14,6 +14,9 @@ uint8_t peer_view(const uint8_t *record, size_t record_len, const uint8_t *image
                   uint8_t *scratch, size_t scratch_len, const uint8_t **view);
 uint8_t peer_write(const uint8_t *record, size_t record_len, uint8_t *images, size_t images_len, uint64_t block,
                    const uint8_t *data, size_t data_len);
+/* The same without the library's rule for stores: parity and block at once; a sum of more than eight is stored several times. */
+uint8_t peer_write_at_will(const uint8_t *record, size_t record_len, uint8_t *images, size_t images_len, uint64_t block,
+                           const uint8_t *data, size_t data_len);
 uint8_t peer_grow(uint8_t *record, size_t record_len, uint8_t *images, size_t images_len, uint64_t m);
 uint8_t peer_advance(uint8_t *record, size_t record_len, uint8_t *images, size_t images_len, uint64_t k,
                      uint64_t *made);

@@ -3,6 +3,7 @@
 
 #include <stdio.h>
 #include <stdlib.h>
+#include <string.h>
 
 enum { MOST_ROUNDS = 64 };
 
@@ -54,14 +55,22 @@ static double median(double *numbers, size_t count)
     return quantile(numbers, count, 0.5);
 }
 
+static double target_of(const struct contestant *peer, const struct plan *plan)
+{
+    switch (plan->block_len) {
+    case 4096: return plan->in_cache ? peer->target_in : peer->target_out;
+    case 64: return peer->target_short;
+    default: return 0;
+    }
+}
+
 static void add_row(struct report *report, const struct series *x, const struct contestant *peer, const struct stage *s,
                     double *ratios, size_t rounds, double ns)
 {
-    double target = s->plan.block_len != 4096 ? 0 : s->plan.in_cache ? peer->target_in : peer->target_out;
     struct row row = {.call = x->name, .peer = peer->name, .plan = s->plan, .images_len = s->images_len};
     row.stripes = s->stripes;
     row.ns = ns;
-    row.target = target;
+    row.target = target_of(peer, &s->plan);
     row.median = median(ratios, rounds);
     row.low = quantile(ratios, rounds, 0.25);
     row.high = quantile(ratios, rounds, 0.75);
@@ -69,8 +78,17 @@ static void add_row(struct report *report, const struct series *x, const struct 
     report->rows[report->count++] = row;
 }
 
+/* By the name's text that the environment asks for, if it does. */
+static bool is_wanted(const char *name)
+{
+    const char *only = getenv("ONLY");
+    return only == NULL || strstr(name, only) != NULL;
+}
+
 void series_run(const struct series *x, struct stage *s, struct settings set, struct report *report)
 {
+    if (!is_wanted(x->name))
+        return;
     static double times[4][MOST_ROUNDS];
     struct cut cut = choose_cut(s, &x->who[0], set);
     for (size_t c = 0; c < x->count; c++)

@@ -33,6 +33,7 @@ struct contestant {
     owner_call *owner;
     bool in_place; /* of a restripe: not into a second image */
     double target_out, target_in; /* least ratio at B = 4096, out of cache and in cache; 0: none is set */
+    double target_short;          /* at B = 64, out of cache and in cache */
 };
 
 /* The first contestant is the library, the others are held against it. */

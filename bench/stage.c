@@ -84,6 +84,8 @@ uint32_t capacity_by(const uint8_t record[PBM_RECORD_LEN])
     return (uint32_t)capacity;
 }
 
+typedef bool choosing(const struct stage *s, uint32_t block);
+
 static bool block_on_disk_out(const struct stage *s, uint32_t block)
 {
     uint64_t stripe, disk;
@@ -91,21 +93,42 @@ static bool block_on_disk_out(const struct stage *s, uint32_t block)
     return disk == OUT_DISK;
 }
 
-/* Random stripes, of 1 MiB together, each with a block on the disk that is out. */
-static void choose_stripes(struct stage *s)
+/* Of a block of before the growth. */
+static bool parity_on_disk_out(const struct stage *s, uint32_t block)
+{
+    uint64_t role, none;
+    must(pbm_owner(s->half, PBM_RECORD_LEN, block / (s->plan.n - 1), OUT_DISK, &role, &none) == 0, "owner");
+    return role == PBM_PARITY;
+}
+
+static bool has_block(const struct stage *s, uint32_t stripe, choosing *fits)
 {
     uint32_t data = s->plan.n - 1;
-    size_t wanted = s->plan.images_len / ((size_t)s->disks * s->plan.block_len);
-    while (s->visited_count < wanted && s->visited_count < 64) {
+    bool found = false;
+    for (uint32_t b = 0; b < data; b++)
+        found |= fits(s, stripe * data + b);
+    return found;
+}
+
+static bool is_visited(const struct visited *v, uint32_t stripe)
+{
+    bool found = false;
+    for (uint32_t i = 0; i < v->count; i++)
+        found |= v->stripes[i] == stripe;
+    return found;
+}
+
+/* Random stripes, of 1 MiB together, each with a block that fits; none unless few are to be visited. */
+static struct visited choose_stripes(struct stage *s, choosing *fits)
+{
+    struct visited v = {.count = 0};
+    size_t wanted = s->few_stripes ? s->plan.images_len / ((size_t)s->disks * s->plan.block_len) : 0;
+    while (v.count < wanted && v.count < 64) {
         uint32_t stripe = (uint32_t)random_below(&s->random, s->stripes);
-        bool fit = false, taken = false;
-        for (uint32_t b = 0; b < data; b++)
-            fit |= block_on_disk_out(s, stripe * data + b);
-        for (uint32_t i = 0; i < s->visited_count; i++)
-            taken |= s->visited[i] == stripe;
-        if (fit && !taken)
-            s->visited[s->visited_count++] = stripe;
+        if (has_block(s, stripe, fits) && !is_visited(&v, stripe))
+            v.stripes[v.count++] = stripe;
     }
+    return v;
 }
 
 void stage_open(struct stage *s, struct plan plan, uint64_t seed)
@@ -126,8 +149,7 @@ void stage_open(struct stage *s, struct plan plan, uint64_t seed)
     fill_home(s);
     stage_half(s);
     s->few_stripes = plan.in_cache && s->images_len / 2 > plan.images_len;
-    if (s->few_stripes)
-        choose_stripes(s);
+    s->visited = choose_stripes(s, block_on_disk_out);
 }
 
 void stage_close(struct stage *s)
@@ -142,13 +164,13 @@ static struct list list_of(size_t most)
     return l;
 }
 
-/* The old blocks of each stripe that is visited, and `added` new ones. */
-static struct list blocks_of_stripes(struct stage *s, uint32_t added)
+/* The old blocks of each stripe, or of these few, and `added` new ones. */
+static struct list blocks_of_stripes(struct stage *s, const struct visited *few, uint32_t added)
 {
-    uint32_t data = s->plan.n - 1, stripes = s->few_stripes ? s->visited_count : s->stripes;
+    uint32_t data = s->plan.n - 1, stripes = s->few_stripes ? few->count : s->stripes;
     struct list l = list_of((size_t)stripes * (data + added));
     for (uint32_t i = 0; i < stripes; i++) {
-        uint32_t stripe = s->few_stripes ? s->visited[i] : i;
+        uint32_t stripe = s->few_stripes ? few->stripes[i] : i;
         for (uint32_t b = 0; b < data; b++)
             l.items[l.count++] = stripe * data + b;
         for (uint32_t b = 0; b < added; b++)
@@ -158,18 +180,26 @@ static struct list blocks_of_stripes(struct stage *s, uint32_t added)
     return l;
 }
 
-struct list list_blocks(struct stage *s) { return blocks_of_stripes(s, 0); }
-struct list list_all_blocks(struct stage *s) { return blocks_of_stripes(s, s->plan.m); }
+struct list list_blocks(struct stage *s) { return blocks_of_stripes(s, &s->visited, 0); }
+struct list list_all_blocks(struct stage *s) { return blocks_of_stripes(s, &s->visited, s->plan.m); }
 
-struct list list_on_disk_out(struct stage *s)
+static struct list only_fit(const struct stage *s, struct list l, choosing *fits)
 {
-    struct list l = list_blocks(s);
     size_t kept = 0;
     for (size_t i = 0; i < l.count; i++)
-        if (block_on_disk_out(s, l.items[i]))
+        if (fits(s, l.items[i]))
             l.items[kept++] = l.items[i];
     l.count = kept;
     return l;
+}
+
+struct list list_on_disk_out(struct stage *s) { return only_fit(s, list_blocks(s), block_on_disk_out); }
+
+/* Not of the stripes that are visited else: each of those has a block on the disk. */
+struct list list_parity_out(struct stage *s)
+{
+    struct visited few = choose_stripes(s, parity_on_disk_out);
+    return only_fit(s, blocks_of_stripes(s, &few, 0), parity_on_disk_out);
 }
 
 struct list list_some_blocks(struct stage *s, uint32_t first, uint32_t end)

@@ -23,6 +23,11 @@ struct list {
     size_t count;
 };
 
+/* The few stripes of a big array that are visited in cache. */
+struct visited {
+    uint32_t stripes[64], count;
+};
+
 struct stage {
     struct plan plan;
     uint32_t disks, stripes, total;
@@ -35,7 +40,7 @@ struct stage {
     uint8_t record[PBM_RECORD_LEN]; /* the one lent in the case that is played */
     uint8_t *into, *data;           /* one block; DATA_BLOCKS blocks */
     bool few_stripes; /* the images are above the wish: only these stripes are visited, which are about it */
-    uint32_t visited[64], visited_count;
+    struct visited visited;
     struct random random;
 };
 
@@ -53,6 +58,7 @@ uint32_t capacity_by(const uint8_t record[PBM_RECORD_LEN]);
 struct list list_blocks(struct stage *s);      /* all blocks of before the growth */
 struct list list_all_blocks(struct stage *s);  /* and the new ones */
 struct list list_on_disk_out(struct stage *s); /* those of before the growth that stand on OUT_DISK */
+struct list list_parity_out(struct stage *s);  /* those of before the growth whose parity stands on OUT_DISK */
 struct list list_some_blocks(struct stage *s, uint32_t first, uint32_t end);
 struct list list_some_places(struct stage *s, uint32_t disks);
 /* The number of the place on which each block stands: d * T + S. */

@@ -1,4 +1,7 @@
-/* The xor of several blocks: up to eight sources a pass, so that the sum is stored but once for every eight. */
+/*
+ * The xor of several blocks, in two ways: in passes of up to eight sources, where the sum is stored once for every eight; and
+ * in one pass over all of them, where each byte of it is stored once.
+ */
 #ifndef BENCH_SUM_H
 #define BENCH_SUM_H
 
@@ -45,6 +48,71 @@ static inline void sum(uint8_t *restrict into, const uint8_t *const *sources, un
     some(into, sources, count < PASS ? count : PASS, false, len);
     for (unsigned i = PASS; i < count; i += PASS)
         some(into, sources + i, count - i < PASS ? count - i : PASS, true, len);
+}
+
+typedef uint8_t lane __attribute__((vector_size(16)));
+
+enum { LANE = sizeof(lane), LANES = 4 * LANE };
+
+static inline lane load(const uint8_t *from)
+{
+    lane x;
+    memcpy(&x, from, LANE);
+    return x;
+}
+
+static inline void store(uint8_t *into, lane x) { memcpy(into, &x, LANE); }
+
+/*
+ * Four lanes of the sum, in registers until all sources are in. Four are a line of the cache: with eight, 32 disks take 0.8
+ * of the time in cache, but 1.6 times as long out of it.
+ */
+static inline void sum_lanes(uint8_t *restrict into, const uint8_t *const *sources, unsigned count, size_t at)
+{
+    lane a = {0}, b = a, c = a, d = a;
+    for (unsigned i = 0; i < count; i++) {
+        const uint8_t *from = sources[i] + at;
+        a ^= load(from);
+        b ^= load(from + LANE);
+        c ^= load(from + 2 * LANE);
+        d ^= load(from + 3 * LANE);
+    }
+    store(into + at, a);
+    store(into + at + LANE, b);
+    store(into + at + 2 * LANE, c);
+    store(into + at + 3 * LANE, d);
+}
+
+static inline void sum_lane(uint8_t *restrict into, const uint8_t *const *sources, unsigned count, size_t at)
+{
+    lane x = {0};
+    for (unsigned i = 0; i < count; i++)
+        x ^= load(sources[i] + at);
+    store(into + at, x);
+}
+
+static inline void sum_byte(uint8_t *restrict into, const uint8_t *const *sources, unsigned count, size_t at)
+{
+    uint8_t x = 0;
+    for (unsigned i = 0; i < count; i++)
+        x ^= sources[i][at];
+    into[at] = x;
+}
+
+/* As sum, with each byte stored once. */
+static inline void sum_at_once(uint8_t *restrict into, const uint8_t *const *sources, unsigned count, size_t len)
+{
+    size_t at = 0;
+    if (count <= PASS) {
+        some(into, sources, count, false, len);
+        return;
+    }
+    for (; at + LANES <= len; at += LANES)
+        sum_lanes(into, sources, count, at);
+    for (; at + LANE <= len; at += LANE)
+        sum_lane(into, sources, count, at);
+    for (; at < len; at++)
+        sum_byte(into, sources, count, at);
 }
 
 /* Sets into to the xor of the places of a stripe on all disks but one. */

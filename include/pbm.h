@@ -70,9 +70,9 @@
  *      save a disk that is out; and no older copy takes their place: an old record beside newer images is a good record,
  *      and a block read by it may be another block.
  *   6. A call that has begun runs to its end. See below what a kill leaves.
- *   7. There are 16 KiB of stack left for a call. (Measured, not proved: less than 5 KiB in pbm_write and pbm_rebuild, less
- *      than 1 KiB in all others; some 3 KiB more where the dynamic linker looks up memcpy, memmove or memset, at their first
- *      use. Signal handlers on the same stack need theirs beside it.)
+ *   7. There are 16 KiB of stack left for a call. (Measured, not proved: less than 5 KiB in pbm_rebuild, less than 1 KiB in
+ *      all others; some 3 KiB more where the dynamic linker looks up memcpy, memmove or memset, at their first use. Signal
+ *      handlers on the same stack need theirs beside it.)
  *   Where these are kept nothing else can go wrong: any numbers, and slices of any length, are answered, if by a refusal.
  *   Where 5 alone is broken a call still answers, whatever bytes the record holds, and stays within what it is lent, but
  *   what it reads and writes may be anything. The archive is for x86-64 and Linux.

@@ -11,6 +11,8 @@ pub struct Function {
     pub returns: Option<String>,
     pub requires: Vec<Clause>,
     pub ensures: Vec<Clause>,
+    /// What stands between the braces.
+    pub body: String,
 }
 
 #[derive(Clone, Copy, Debug, PartialEq, Eq)]
@@ -90,6 +92,7 @@ fn function(head: Option<&str>, text: &str) -> Function {
         returns: None,
         requires: Vec::new(),
         ensures: Vec::new(),
+        body: String::new(),
     };
     let mut rest = rest.trim_start();
     if let Some(behind) = rest.strip_prefix("->") {
@@ -119,6 +122,7 @@ fn function(head: Option<&str>, text: &str) -> Function {
         }
         rest = behind.trim_start();
     }
+    f.body = bracketed(&rest[1..], '{', '}').0.to_string();
     f
 }
 
@@ -172,13 +176,13 @@ pub fn handed_on(lib: &str) -> Vec<String> {
         .collect()
 }
 
-fn without_comments(text: &str) -> String {
+pub(crate) fn without_comments(text: &str) -> String {
     let code = |line: &str| format!("{}\n", line.split("//").next().unwrap());
     text.lines().map(code).collect()
 }
 
 /// What stands before the bracket that closes an open one, and behind it.
-fn bracketed(text: &str, open: char, close: char) -> (&str, &str) {
+pub(crate) fn bracketed(text: &str, open: char, close: char) -> (&str, &str) {
     let mut depth = 1;
     for (at, c) in text.char_indices() {
         depth += i32::from(c == open) - i32::from(c == close);
@@ -210,13 +214,16 @@ const INHABITED: &[&str] = &["ℕ", "Record", "List ℕ"];
 /// says what `after` and `next` are.
 pub const RECORDS: &[(&str, &[usize])] = &[("Stored", &[3, 4])];
 
-/// What definitions make of an answer that is an enum; those of one type together leave nothing of it open.
-const ENUMS: &[(&str, &[&str])] = &[
+/// What definitions make of an answer that is an enum, or a struct of bytes; those of one type together leave nothing of it
+/// open.
+const MADE: &[(&str, &[&str])] = &[
     ("Changed", &["changedAnswer", "changedRecord"]),
     ("Advanced", &["advancedAnswer", "advancedRecord"]),
     ("Report", &["reportAnswer"]),
     ("Located", &["locatedAnswer"]),
     ("Owned", &["ownedAnswer"]),
+    ("Lane", &["laneBytes"]),
+    ("Quad", &["quadBytes"]),
 ];
 
 type Words = Vec<String>;
@@ -396,12 +403,13 @@ impl Function {
     }
 }
 
-/// Whether the sides have a value of this type: itself, all fields of a struct, or all that the definitions make of an enum.
+/// Whether the sides have a value of this type: itself, all fields of a struct, or all that the definitions make of
+/// it, for an enum or a struct of bytes.
 fn says_all(given: &[String], value: &str, kind: &str, structs: &Structs) -> bool {
     if given.iter().any(|side| side == value) {
         return true;
     }
-    if let Some((_, definitions)) = ENUMS.iter().find(|(name, _)| *name == kind) {
+    if let Some((_, definitions)) = MADE.iter().find(|(name, _)| *name == kind) {
         let says = |name: &&str| given.iter().any(|side| is_made(side, name, value));
         return definitions.iter().all(says);
     }

@@ -19,6 +19,8 @@ pub mod moves;
 pub mod pbm;
 pub mod program;
 pub mod random;
+pub mod reach;
 pub mod record;
 pub mod statements;
 pub mod table;
+pub mod trace;

@@ -230,10 +230,7 @@ fn the_stack_of_a_call() {
         let (call, depths) = line.split_once(": ").unwrap();
         let (first, then) = depths.split_once(", then ").unwrap();
         let (first, then): (u64, u64) = (first.parse().unwrap(), then.parse().unwrap());
-        let limit = match call.starts_with("write") || call == "rebuild" {
-            true => 5 * 1024,
-            false => 1024,
-        };
+        let limit = if call == "rebuild" { 5 * 1024 } else { 1024 };
         assert!(then < limit && first <= 16 * 1024, "{line}");
     }
 }

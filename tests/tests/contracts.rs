@@ -220,6 +220,8 @@ fn an_answer_is_set_equal_to_something() {
         ("Pair", "ensures { λ p. ⌜ p .a ≡ x ⌝ }\n    ensures { λ p. ⌜ (p .b .number ≡ 0) × (p .b .made ≡ 1) ⌝ }"),
         ("Report", "ensures { λ x. ⌜ reportAnswer x ≡ called (on status [] []) y .answer ⌝ }"),
         ("Changed", "ensures { λ x. ⌜ changedAnswer x ≡ a ⌝ }\n    ensures { λ x. ⌜ changedRecord y x ≡ b ⌝ }"),
+        ("Lane", "ensures { λ z. ⌜ laneBytes z ≡ xorB (laneBytes x) y ⌝ }"),
+        ("Quad", "ensures { λ z. ⌜ quadBytes z ≡ f x ⌝ }"),
     ] {
         assert!(answering(kind, clause), "{clause}");
     }
@@ -256,6 +258,9 @@ fn less_is_no_answer() {
         ("Changed", "ensures { λ x. ⌜ changedAnswer x ≡ a ⌝ }"),
         ("Changed", "ensures { λ x. ⌜ changedRecord y x ≡ b ⌝ }"),
         ("Report", "ensures { λ x. ⌜ changedAnswer x ≡ a ⌝ }"),
+        ("Quad", "ensures { λ z. ⌜ laneBytes z ≡ x ⌝ }"),
+        ("Lane", "ensures { λ z. ⌜ f (laneBytes z) ≡ x ⌝ }"),
+        ("Lane", "ensures { λ z. ⌜ z .b0 ≡ x ⌝ }"),
         ("u64", "// ensures { λ r. ⌜ r ≡ 2 ⌝ }"),
     ] {
         assert!(!answering(kind, clause), "{clause}");

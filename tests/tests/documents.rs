@@ -1006,5 +1006,5 @@ fn the_instructions_of_speed() {
             "{row:?}"
         );
     }
-    assert_eq!(rows.len(), 2 + 33);
+    assert_eq!(rows.len(), 2 + 36);
 }

@@ -11,9 +11,9 @@ use crate::health::is_absent;
 use crate::places::place_at;
 use crate::refusal::disks_of;
 use crate::refusal::of_reach;
-use blocks::copy_in;
 use blocks::fold_others;
 use blocks::fold_parity;
+use blocks::store_bytes;
 use layout::find;
 use state::Record;
 use state::geometry_of;
@@ -44,7 +44,7 @@ fn put(r: Record, images: &mut [u8], b: u64, bytes: &[u8])
     if !is_absent(health, q.stripe, p) {
         fold_parity(images, place_at(r, q.stripe, p), at, bytes);
     }
-    copy_in(images, at, bytes);
+    store_bytes(images, at, bytes);
 }
 
 pub fn write(r: Record, images: &mut [u8], b: u64, bytes: &[u8]) -> u8

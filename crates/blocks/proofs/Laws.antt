@@ -1,4 +1,4 @@
--- The laws of the definitions, from the bottom, and of the two kinds of loops.
+-- The laws of the definitions, from the bottom, and of the kinds of loops.
 pub mod Block
 pub mod Xor
 pub mod Rows
@@ -6,3 +6,5 @@ pub mod Grid
 pub mod Stripe
 pub mod Fill
 pub mod Summed
+pub mod Lanes
+pub mod Fold

@@ -1,5 +1,6 @@
-// One block zeroed, copied or moved. A copy goes through a block of its own, of 4,096 bytes, the longest that there is: then it is right
-// whatever overlaps, and the compiler, which cannot tell two lent slices apart, makes one `memmove` of it, and no block.
+// One block zeroed, stored, copied or moved. A copy goes through a block of its own, of 4,096 bytes, the longest that there is: then it is
+// right whatever overlaps, and the compiler, which cannot tell two lent slices apart, makes one `memmove` of it, and no block. A write may
+// have no such block (document 02, request (c)), and stores its bytes from where they are lent.
 ghost use mathlib.Core.Path.{_≡_};
 ghost use Prim.Native.Nat.{_+_, _≤_};
 ghost use lib.ListN.{length};
@@ -30,9 +31,9 @@ pub(crate) fn load_bytes(source: &[u8], at: usize, block: &mut [u8])
 }
 
 // Stores bytes into the target, from at on.
-pub(crate) fn store_bytes(target: &mut [u8], at: usize, bytes: &[u8])
+pub fn store_bytes(target: &mut [u8], at: usize, bytes: &[u8])
     requires { ⌜ at + length (now bytes) ≤ length (now target) ⌝ }
-    ensures { λ _. ⌜ now (target .exit) ≡ store (now (target .entry)) at (now (bytes .entry)) ⌝ }
+    ensures target { λ _. ⌜ now (target .exit) ≡ store (now (target .entry)) at (now (bytes .entry)) ⌝ }
 {
     let mut i = 0;
     while i < bytes.len() {
@@ -62,7 +63,7 @@ fn copy_within_through(images: &mut [u8], from: usize, to: usize, own: &mut [u8]
 }
 
 // Copies bytes into the images, from at on.
-pub fn copy_in(images: &mut [u8], at: usize, bytes: &[u8])
+pub(crate) fn copy_in(images: &mut [u8], at: usize, bytes: &[u8])
     requires { ⌜ (length (now bytes) ≤ 4096) × (at + length (now bytes) ≤ length (now images)) ⌝ }
     ensures images { λ _. ⌜ now (images .exit) ≡ store (now (images .entry)) at (now (bytes .entry)) ⌝ }
 {

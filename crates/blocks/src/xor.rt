@@ -3,7 +3,7 @@ ghost use mathlib.Core.Path.{_≡_};
 ghost use Prim.Native.Nat.{_+_, _≤_};
 ghost use lib.ListN.{length};
 ghost use Rattle.blocks.specs.Block.{blockAt, store, Disjoint};
-ghost use Rattle.blocks.specs.Xor.{xorB, foldedOver, folded};
+ghost use Rattle.blocks.specs.Xor.{xorB, folded};
 
 // Xors the images' bytes from at on into block.
 pub(crate) fn xor_out(images: &[u8], at: usize, block: &mut [u8])
@@ -17,7 +17,7 @@ pub(crate) fn xor_out(images: &[u8], at: usize, block: &mut [u8])
     }
 }
 
-// Folds a write of bytes at `at` into the parity, from `parity` on. The bytes themselves are not stored.
+// Folds a write of bytes at `at` into the parity, from `parity` on (a read-modify-write). The bytes themselves are not stored.
 pub fn fold_parity(images: &mut [u8], parity: usize, at: usize, bytes: &[u8])
     requires { ⌜ (parity + length (now bytes) ≤ length (now images)) × (at + length (now bytes) ≤ length (now images))
         × Disjoint parity (length (now bytes)) at (length (now bytes)) ⌝ }
@@ -27,19 +27,6 @@ pub fn fold_parity(images: &mut [u8], parity: usize, at: usize, bytes: &[u8])
     let mut i = 0;
     while i < bytes.len() {
         images[parity + i] = images[parity + i] ^ images[at + i] ^ bytes[i];
-        i += 1;
-    }
-}
-
-// The same where the old block does not stand in the images.
-pub(crate) fn fold_block(images: &mut [u8], parity: usize, old: &[u8], bytes: &[u8])
-    requires { ⌜ (parity + length (now bytes) ≤ length (now images)) × (length (now old) ≡ length (now bytes)) ⌝ }
-    ensures { λ _. ⌜ now (images .exit) ≡
-        store (now (images .entry)) parity (foldedOver (now (images .entry)) parity (now (old .entry)) (now (bytes .entry))) ⌝ }
-{
-    let mut i = 0;
-    while i < bytes.len() {
-        images[parity + i] = images[parity + i] ^ old[i] ^ bytes[i];
         i += 1;
     }
 }

@@ -93,7 +93,7 @@ fn show_disk_out(r: Record, images: &mut [u8])
     requires { ⌜ length (now images) ≡ 180 ⌝ }
 {
     let out = without(r, 1);
-    blocks::copy_in(images, blocks::offset_of(15, 4, 2, 1), &[9, 9, 9, 9]);
+    blocks::store_bytes(images, blocks::offset_of(15, 4, 2, 1), &[9, 9, 9, 9]);
     show(out, images, 4, b"disk 1 out and overwritten");
     show(out, images, 5, b"disk 1 out and overwritten");
     show(r, images, 4, b"by the record from before");

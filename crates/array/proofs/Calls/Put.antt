@@ -1,8 +1,8 @@
 -- The stores of a write, by which of its two disks is absent. Assumes nothing.
-use Prim.Native.Nat.{ℕ, _+_, _*_, _≤_, _<_}
+use Prim.Native.Nat.{ℕ, _+_, _≤_, _<_}
 use mathlib.Core.Path.{_≡_, refl, sym, ap, _∙_}
 use mathlib.Core.Bool.{Bool, true, false}
-use mathlib.Core.Logic.{inr}
+use mathlib.Core.Logic.{_≢_, inr}
 use mathlib.Core.List.{List}
 use lib.ListN.{length}
 use Rattle.layout.specs.declared.Geometry.{Geometry}
@@ -10,7 +10,7 @@ use Rattle.layout.specs.declared.Place.{Place}
 use Rattle.layout.specs.Layout.{layout}
 use Rattle.blocks.specs.Block.{store, Disjoint}
 use Rattle.blocks.specs.Xor.{xorB, folded}
-use Rattle.blocks.specs.Stripe.{offset, place, others}
+use Rattle.blocks.specs.Stripe.{offset, place, PlaceInside, others}
 use Rattle.blocks.proofs.Laws.Block.{length-store}
 use Rattle.blocks.proofs.Laws.Stripe.{place-in, places-apart}
 use Rattle.state.specs.declared.Record.{Record}
@@ -41,26 +41,30 @@ module _ {r : Record} {len b : ℕ} {v : List ℕ} {q : Place} {p : ℕ} (a : Ai
   pub parity-lt : p < disksOf r
   parity-lt = rw y (x .parity-lt)
 
+  -- no block stands on its parity's disk
+  apart : q .disk ≢ p
+  apart z = x .apart (sym y ∙ sym z)
+
   -- with the data's disk out the parity's is in
   other-in : absent (r .health) (q .stripe) (q .disk) ≡ true → absent (r .health) (q .stripe) p ≡ false
   unfolding Single
   other-in u = go (absent (r .health) (q .stripe) p) refl
     where
       go : (c : Bool) → absent (r .health) (q .stripe) p ≡ c → c ≡ false
-      go true w = absurd (x .apart (sym y ∙ single (disksOf r) (r .stripes) (r .health) (x .here) (q .stripe) p (q .disk) w u))
+      go true w = absurd (apart (sym (single (disksOf r) (r .stripes) (r .health) (x .here) (q .stripe) p (q .disk) w u)))
       go false w = refl
 
   -- ---- what the folds ask for
 
-  pub sums : {N : ℕ} → N ≡ disksOf r → (1 ≤ length v) × (length v ≤ 4096) × (q .stripe < r .stripes) × (p < N) × (N * (r .stripes * length v) ≤ len)
-  sums e = let (i, s, l) = summed x e in (i, short x, s, rw e parity-lt, l)
+  pub sums : {N : ℕ} → N ≡ disksOf r → PlaceInside (length v) (r .stripes) (q .stripe) p N len × (q .disk ≢ p)
+  sums e = let (i, s, l) = summed x e in ((i, short x, s, rw e parity-lt, l), apart)
 
   pub folds : {at to : ℕ} → at ≡ offset (r .block) (r .stripes) (q .stripe) (q .disk) → to ≡ offset (r .block) (r .stripes) (q .stripe) p
       → (to + length v ≤ len) × (at + length v ≤ len) × Disjoint to (length v) at (length v)
   folds f t = (
     rw (t, x .whole, x .long) (place-in (r .block) (r .stripes) (q .stripe) p (disksOf r) (x .stripe-lt) parity-lt),
     inside x f,
-    rw (f, t, x .whole) (places-apart (r .block) (r .stripes) (q .stripe) p (q .stripe) (q .disk) (x .stripe-lt) (x .stripe-lt) (inr (λ z. x .apart (sym y ∙ sym z)))),
+    rw (f, t, x .whole) (places-apart (r .block) (r .stripes) (q .stripe) p (q .stripe) (q .disk) (x .stripe-lt) (x .stripe-lt) (inr apart)),
   )
 
   -- ---- what the stores leave

@@ -6,7 +6,7 @@ use mathlib.Core.List.{List, [], _∷_, _++_}
 use native.Mathlib.Nat.{zero-add, suc-add}
 use native.Mathlib.Omega.{arith}
 use lib.ListN.{length, getD, set, take, drop, length-drop, length-replicate, replicate-append-replicate}
-use lib.Seq.{length-take-le, getD-take, getD-drop, take-take, drop-drop}
+use lib.Seq.{length-take-le, getD-take, getD-drop, take-take, take-add, drop-drop}
 use Rattle.blocks.specs.Block.{blockAt, store, zeros, Disjoint}
 
 pub length-store : (l : List ℕ) (at : ℕ) (b : List ℕ) → length (store l at b) ≡ length l
@@ -125,3 +125,12 @@ blockAt-zeros (suc k) (suc at) n h = blockAt-zeros k at n (omega arith)
 -- a block of zeroes is two, one behind the other
 pub zeros-append : (a b : ℕ) → zeros (a + b) ≡ zeros a ++ zeros b
 zeros-append a b = sym (replicate-append-replicate a b 0)
+
+-- a block is its first byte and the rest of it; or two blocks, one behind the other
+pub blockAt-cons : (l : List ℕ) (at n : ℕ) → at < length l → blockAt l at (suc n) ≡ getD l at 0 ∷ blockAt l (at + 1) n
+blockAt-cons [] at n h = absurd (omega arith)
+blockAt-cons (x ∷ l) zero n h = refl
+blockAt-cons (x ∷ l) (suc at) n h = rw suc-add (blockAt-cons l at n (omega arith))
+
+pub blockAt-split : (l : List ℕ) (at m n : ℕ) → blockAt l at (m + n) ≡ blockAt l at m ++ blockAt l (at + m) n
+blockAt-split l at m n = take-add m n (drop at l) ∙ ap (λ (r : List ℕ). take m (drop at l) ++ take n r) (drop-drop m at l)

@@ -5,7 +5,7 @@ use mathlib.Core.List.{List, [], _∷_, _++_}
 use native.Mathlib.Nat.{mod-lt, zero-lt-suc}
 use native.Mathlib.Omega.{arith}
 use lib.Arith.{bin-ind}
-use lib.Bits.{bitXor, differ, xor-step, xor-shr, xor-mod, xor-comm, xor-zero-r}
+use lib.Bits.{bitXor, differ, xor-step, xor-shr, xor-mod, xor-comm, xor-self, xor-zero-l, xor-zero-r}
 use lib.ListN.{length, getD, take, drop}
 use Rattle.blocks.specs.Block.{blockAt, zeros}
 use Rattle.blocks.specs.Xor.{xorB, xorAll, without}
@@ -89,6 +89,20 @@ drop-xorB (suc n) (x ∷ a) (y ∷ b) = drop-xorB n a b
 -- a part of the xor is the xor of the parts
 pub blockAt-xorB : (a b : List ℕ) (at n : ℕ) → blockAt (xorB a b) at n ≡ xorB (blockAt a at n) (blockAt b at n)
 blockAt-xorB a b at n = ap (take n) (drop-xorB at a b) ∙ take-xorB n (drop at a) (drop at b)
+
+-- xor with zeroes changes nothing
+pub xorB-zeros : (a : List ℕ) (n : ℕ) → n ≤ length a → xorB a (zeros n) ≡ a
+xorB-zeros a zero h = xorB-nil a
+xorB-zeros [] (suc n) h = absurd (omega arith)
+xorB-zeros (x ∷ a) (suc n) h = ap₂ (λ (y : ℕ) (r : List ℕ). y ∷ r) (xor-zero-r x) (xorB-zeros a n (omega arith))
+
+-- what is xored in twice is gone
+pub xorB-cancel : (a b : List ℕ) → length a ≤ length b → xorB a (xorB b a) ≡ b
+xorB-cancel [] b h = xorB-nil b
+xorB-cancel (x ∷ a) [] h = absurd (omega arith)
+xorB-cancel (x ∷ a) (y ∷ b) h =
+    ap₂ (λ (z : ℕ) (r : List ℕ). z ∷ r) (ap (bitXor x) (xor-comm y x) ∙ sym (xor-assoc x x y) ∙ ap (λ (z : ℕ). bitXor z y) (xor-self x) ∙ xor-zero-l y)
+    (xorB-cancel a b (omega arith))
 
 -- ---- lists of blocks
 

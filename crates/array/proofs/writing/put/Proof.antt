@@ -11,7 +11,7 @@ use Rattle.calls.specs.Images.{stored}
 use Rattle.calls.specs.Effect.{writeStores}
 use Rattle.conditions.proofs.Asked.{told}
 use Rattle.calls.proofs.Laws.Table.{write-rows}
-use Rattle.array.proofs.Calls.Reach.{asked, reached, inside, short}
+use Rattle.array.proofs.Calls.Reach.{asked, reached, inside}
 use Rattle.array.proofs.Calls.Put.{Aimed, aimed, parity-lt, sums, folds, data-out, both-in, parity-out}
 use Rattle.array.proofs.writing.put.Statement.{statement}
 use Rattle.array.proofs.writing.put.Tie as tie
@@ -86,19 +86,19 @@ lays c =
       | inr w ↦ parity-out a _ (c1 .place-at .ensures) u (went-on i (w .0 .left)) (w .1)
     ]
 
-copy-in-requires : tie.Need-copy-in-requires
-copy-in-requires c κs =
+store-bytes-requires : tie.Need-store-bytes-requires
+store-bytes-requires c κs =
     let c1 = c .before .before .before in
     let l = lays (c .before) .0 in
     let x = aims (c1 .before .before .before) .reach in
     let i = inside x (c1 .place-at .ensures) in
-    (short x, omega arith)
+    omega arith
 
 same-length-2 : tie.Need-same-length-2
 same-length-2 c = let l = lays (c .before .before .before .before) .0 in search needs
 
 returns-2 : tie.Need-returns-2
-returns-2 c = c .before .before .copy-in .ensures ∙ lays (c .before .before .before .before) .1
+returns-2 c = c .before .before .store-bytes .ensures ∙ lays (c .before .before .before .before) .1
 
 pub put-spec : {M : Type 1} → statement M
 put-spec =
@@ -116,6 +116,6 @@ put-spec =
     is-absent-requires-2
     place-at-requires-2
     fold-parity-requires
-    copy-in-requires
+    store-bytes-requires
     same-length-2
     returns-2)

@@ -1,0 +1,74 @@
+/*
+ * Calls for a memory trace: tests/tests/stores.rs runs this under valgrind's lackey, which tells every load and store. Each argument
+ * is `w` or `r`, a record of 32 hexadecimal digits, a colon and a number: write the block of that number, or rebuild the disk. Just
+ * before a call `begin` is stored to, just behind it `end`. Prints where these, record and images stand, and where the stack of the
+ * calls ends.
+ */
+#include "pbm.h"
+
+#include <stdio.h>
+#include <stdlib.h>
+#include <string.h>
+
+enum { BLOCK = 4096, MOST = 8 * 41 * BLOCK };
+
+/* Zeroes are an array after any number of moves. */
+static uint8_t record[PBM_RECORD_LEN], images[MOST], data[BLOCK];
+static volatile uint8_t begin, end, helped;
+
+/*
+ * What the library asks of the C library, byte by byte: that one's own stores some bytes twice, and is looked up at its first use,
+ * which takes stack. They store to `helped`: a write is to call none of them.
+ */
+void *memmove(void *to, const void *from, size_t len)
+{
+    uint8_t *t = to;
+    const uint8_t *f = from;
+    size_t i;
+    helped = 1;
+    if (t <= f) for (i = 0; i < len; i++) t[i] = f[i];
+    else for (i = len; i > 0; i--) t[i - 1] = f[i - 1];
+    return to;
+}
+
+void *memcpy(void *to, const void *from, size_t len) { return memmove(to, from, len); }
+
+void *memset(void *to, int byte, size_t len)
+{
+    uint8_t *t = to;
+    size_t i;
+    helped = 1;
+    for (i = 0; i < len; i++) t[i] = (uint8_t)byte;
+    return to;
+}
+
+static uint8_t call(char name, uint64_t of)
+{
+    uint64_t images_len = pbm_images_len_by(record, 0);
+    size_t data_len = record[PBM_AT_BLOCK_LEN] | (size_t)record[PBM_AT_BLOCK_LEN + 1] << 8;
+    uint8_t answer;
+    if (images_len > sizeof images) exit(2);
+    begin = 1;
+    if (name == 'w') answer = pbm_write(record, sizeof record, images, images_len, of, data, data_len);
+    else answer = pbm_rebuild(record, sizeof record, images, images_len, of);
+    end = 1;
+    return answer;
+}
+
+static void tell(const char *name, const volatile void *where) { printf("%s %lx\n", name, (unsigned long)where); }
+
+int main(int count, char **arguments)
+{
+    int i;
+    size_t j;
+    tell("begin", &begin), tell("end", &end);
+    tell("record", record), tell("images", images), tell("helped", &helped);
+    tell("stack", __builtin_frame_address(0));
+    for (i = 1; i < count; i++) {
+        const char *argument = arguments[i], *colon = strchr(argument, ':');
+        for (j = 0; j < sizeof record; j++)
+            if (sscanf(argument + 1 + 2 * j, "%2hhx", &record[j]) != 1) return 4;
+        if (colon == NULL || call(argument[0], strtoull(colon + 1, NULL, 10)) != PBM_DONE) return 3;
+    }
+    return 0;
+}
