@@ -37,7 +37,7 @@ fn a_write_has_no_array() {
     for (in_crate, name) in in_all_crates("write") {
         let reached = sources.reached(in_crate, &name);
         for fold in ["fold_others", "fold_parity"] {
-            assert!(has(&reached, "blocks", fold), "{name} reaches {fold}");
+            assert!(has(&reached, "parity", fold), "{name} reaches {fold}");
         }
         assert!(has(&reached, "array", "put") && has(&reached, "state", "Record"));
         assert_eq!(arrays_of(&reached), [""; 0], "{name} of {in_crate}");

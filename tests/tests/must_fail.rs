@@ -15,11 +15,7 @@ const COMPUTED: &[(&str, &str, &[&str])] = &[
     (
         "/proofs/Cases/Folds.antt:",
         "`folds`",
-        &[
-            "blocks/block_from_start",
-            "blocks/old_parity_left_in",
-            "blocks/out_summed_in",
-        ],
+        &["parity/old_parity_left_in", "parity/out_summed_in"],
     ),
     (
         "/proofs/Cases/Paper.antt:",
@@ -74,6 +70,12 @@ const COMPUTED: &[(&str, &str, &[&str])] = &[
 /// The edits of definitions that no computed case shows, and the law, or the proof of a contract, that must be the first to
 /// refuse them.
 const BY_LAW: &[(&str, &str, &[&str])] = &[
+    // what is stored is read back
+    (
+        "/proofs/Laws/Block.antt:",
+        "`blockAt-store`",
+        &["blocks/block_from_start"],
+    ),
     // format is refused 6 for what document 01 says, and nothing else
     (
         "/proofs/Laws/Reasons.antt:",

@@ -11,10 +11,10 @@ use crate::health::is_absent;
 use crate::places::place_at;
 use crate::refusal::disks_of;
 use crate::refusal::of_reach;
-use blocks::fold_others;
-use blocks::fold_parity;
 use blocks::store_bytes;
 use layout::find;
+use parity::fold_others;
+use parity::fold_parity;
 use state::Record;
 use state::geometry_of;
 

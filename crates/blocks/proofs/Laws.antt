@@ -6,5 +6,3 @@ pub mod Grid
 pub mod Stripe
 pub mod Fill
 pub mod Summed
-pub mod Lanes
-pub mod Fold

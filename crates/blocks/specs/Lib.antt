@@ -3,6 +3,3 @@ pub mod Block
 pub mod Xor
 pub mod Stripe
 pub mod Sum
-pub mod Lanes
-pub mod Fold
-pub mod Cases

@@ -1,0 +1,86 @@
+-- `fold_lanes` meets its contract. The loop has stored the new parity from `first` to before `at`. Assumes nothing.
+use Prim.Native.Nat.{_+_, _-_, _≤_}
+use native.Mathlib.Omega.{arith}
+use borrow.Author.Needs.{needs}
+use lib.ListN.{length}
+use Rattle.parity.specs.Fold.{startOf}
+use Rattle.parity.proofs.Laws.Fold.{place-inside, Replaced, replaced-none, replaced-more, still-inside}
+use Rattle.parity.proofs.reconstruct.fold_lanes.Statement.{statement}
+use Rattle.parity.proofs.reconstruct.fold_lanes.Tie as tie
+
+abbrev Inv-loop : tie.InvT-loop
+Inv-loop images₀ g bytes first to at₀ images at = Replaced g images₀ bytes first images at
+
+abbrev μ-loop : tie.MeasureT-loop
+μ-loop images₀ g bytes first to at₀ images at = g .len - at
+
+-- where the parity ends
+ends : (c : tie.Start Inv-loop μ-loop) → startOf (c .args .g) (c .args .g .parity) + c .args .g .len ≤ length (c .args .images .now)
+ends c = let w = c .pre .0 .0 in place-inside w (w .parity-lt)
+
+offset-of-requires : tie.Need-offset-of-requires Inv-loop μ-loop
+offset-of-requires c κs = omega (arith, ends (c .before .before))
+
+loop-holds : tie.Need-loop-holds Inv-loop μ-loop
+loop-holds c = let st = c .before .before .before in replaced-none (st .args .g) (st .args .images .now) (st .args .bytes .now) (st .args .first) (st .pre .1)
+
+sub-if1 : tie.Need-sub-if1 Inv-loop μ-loop
+sub-if1 c = omega (arith, c .before .loop .inv .within)
+
+add-store-lane : tie.Need-add-store-lane Inv-loop μ-loop
+add-store-lane c =
+    let l = c .before .before .before in
+    omega (arith, l .before .offset-of .ensures, ends (l .before .before .before .before))
+
+load-lane-requires : tie.Need-load-lane-requires Inv-loop μ-loop
+load-lane-requires c κs = search needs
+
+sum-lane-requires : tie.Need-sum-lane-requires Inv-loop μ-loop
+sum-lane-requires c κs =
+    let l = c .before .before .before .before .before in
+    (still-inside (l .loop .inv) (l .before .before .before .before .pre .0 .0), omega arith)
+
+store-lane-requires : tie.Need-store-lane-requires Inv-loop μ-loop
+store-lane-requires c κs =
+    let l = c .before .before .before .before .before .before in
+    omega (arith, l .loop .inv .size, l .before .offset-of .ensures, ends (l .before .before .before .before))
+
+add-at : tie.Need-add-at Inv-loop μ-loop
+add-at c = let l = c .before .before .before .before .before .before .before .before .before in omega (arith, ends (l .before .before .before .before))
+
+loop-less : tie.Need-loop-less Inv-loop μ-loop
+loop-less c = omega arith
+
+loop-again : tie.Need-loop-again Inv-loop μ-loop
+loop-again c =
+    let stored = c .before .before in
+    let summed = stored .before in
+    let loaded = summed .before in
+    let l = loaded .before .before .before .before .before in
+    replaced-more (l .before .before .before .before .pre .0) (l .loop .inv) 16 (omega arith) (loaded .load-lane .ensures) (summed .sum-lane .ensures) (l .before .offset-of .ensures)
+    (stored .store-lane .ensures)
+
+same-length : tie.Need-same-length Inv-loop μ-loop
+same-length c = c .before .before .loop .inv .size
+
+returns : tie.Need-returns Inv-loop μ-loop
+returns c = let f = c .before .before .loop .inv in (f .behind, f .within, omega arith, f .is)
+
+pub fold-lanes-spec : {M : Type 1} → statement M
+fold-lanes-spec =
+    tie.close
+    (tie.spec
+    Inv-loop
+    μ-loop
+    offset-of-requires
+    loop-holds
+    sub-if1
+    add-store-lane
+    load-lane-requires
+    sum-lane-requires
+    store-lane-requires
+    add-at
+    loop-less
+    loop-again
+    same-length
+    returns)
