@@ -16,6 +16,7 @@ pub mod layout;
 pub mod memory;
 pub mod mentions;
 pub mod moves;
+pub mod out;
 pub mod pbm;
 pub mod program;
 pub mod random;

@@ -8,6 +8,7 @@ use std::sync::OnceLock;
 use yuzkamide_tests::compile::{program, run, text};
 use yuzkamide_tests::images::place;
 use yuzkamide_tests::layout::Layout;
+use yuzkamide_tests::out::{self, Out};
 use yuzkamide_tests::record::{Health, Record, RECORD_LEN};
 use yuzkamide_tests::trace::{calls, Access};
 
@@ -30,17 +31,6 @@ const LONG: u64 = 64;
 
 /// "There are 16 KiB of stack left for a call."
 const STACK: u64 = 16 * 1024;
-
-/// What is out when a block is written.
-#[derive(Clone, Copy, Debug)]
-enum Out {
-    None,
-    Data,
-    Parity,
-    Other,
-}
-
-const OUT: [Out; 4] = [Out::None, Out::Data, Out::Parity, Out::Other];
 
 /// A write, and where the layout has its block and the parity.
 #[derive(Clone, Copy, Debug)]
@@ -79,9 +69,7 @@ impl Case {
 
     /// The disks of neither data nor parity.
     fn others(&self) -> Vec<u64> {
-        let mut disks: Vec<u64> = (0..self.record.disks()).collect();
-        disks.retain(|&disk| disk != self.data && disk != self.parity);
-        disks
+        out::others(self.record.disks(), self.data, self.parity)
     }
 
     /// The disks of the places that it stores. "either is skipped if its disk is out"
@@ -194,11 +182,11 @@ impl Addresses {
     }
 }
 
-/// Every block of `BLOCKS` with everything of `OUT` and with every length, in this order.
+/// Every block of `BLOCKS` with everything of `out::ALL` and with every length, in this order.
 fn cases() -> Vec<Case> {
     let mut all = Vec::new();
     for at in BLOCKS {
-        for out in OUT {
+        for out in out::ALL {
             all.extend(LENGTHS.map(|block_len| Case::new(at, out, block_len)));
         }
     }

@@ -7,6 +7,7 @@ use yuzkamide_tests::bytewise::Bytewise;
 use yuzkamide_tests::images;
 use yuzkamide_tests::layout::Layout;
 use yuzkamide_tests::memory::{on_fault_tell, Guarded, Memory, Side};
+use yuzkamide_tests::out::{self, Out};
 use yuzkamide_tests::pbm::{Bytes, Call, Loan};
 use yuzkamide_tests::random::Random;
 use yuzkamide_tests::record::Record;
@@ -29,19 +30,8 @@ const SHAPES: [Shape; 6] = [
 const WIDE: Shape = (16, 16, 513, 300);
 const WIDE_LENGTHS: [u64; 2] = [16, 65];
 
-/// What is out when a block is written.
-#[derive(Clone, Copy, Debug)]
-enum Out {
-    None,
-    Data,
-    Parity,
-    Other,
-}
-
-const OUT: [Out; 4] = [Out::None, Out::Data, Out::Parity, Out::Other];
-
-/// How many writes there were to old blocks and to new ones, in the order of `OUT`.
-type Tally = [[u64; 2]; OUT.len()];
+/// How many writes there were to old blocks and to new ones, in the order of `out::ALL`.
+type Tally = [[u64; 2]; out::ALL.len()];
 
 /// An array as the library and as the model have it.
 struct Array<'a> {
@@ -108,9 +98,7 @@ impl Array<'_> {
     fn disk(&mut self, out: Out, block: u64) -> Option<u64> {
         let (stripe, data) = self.layout.place(block);
         let parity = self.layout.parity(stripe);
-        let others: Vec<u64> = (0..self.record.disks())
-            .filter(|disk| ![data, parity].contains(disk))
-            .collect();
+        let others = out::others(self.record.disks(), data, parity);
         match out {
             Out::None => None,
             Out::Data => Some(data),
@@ -157,7 +145,7 @@ fn write_all(random: &mut Random, side: Side, shape: Shape, block_len: u64, tall
         write(&mut array, Out::None, block);
     }
     for block in array.some_blocks() {
-        for out in OUT {
+        for out in out::ALL {
             write(&mut array, out, block);
         }
     }
@@ -184,7 +172,10 @@ fn writes(side: Side) {
     for block_len in WIDE_LENGTHS {
         write_all(&mut random, side, WIDE, block_len, &mut tally);
     }
-    println!("writes to old and to new blocks, with {OUT:?} out: {tally:?}");
+    println!(
+        "writes to old and to new blocks, with {:?} out: {tally:?}",
+        out::ALL
+    );
     // 694 old and 179 new blocks in 6 arrays, 3 of which have new ones, for 86 lengths; 7,695 and 512 in the wide one, for 2
     let some = [86 * 18 + 2 * 3, 86 * 9 + 2 * 3];
     let all = [86 * 694 + 2 * 7695, 86 * 179 + 2 * 512];

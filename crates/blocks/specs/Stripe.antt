@@ -1,9 +1,8 @@
 -- The places of the images. Document 01, Images: "One lent byte slice, disk 0 first, each disk T × B bytes."
 use Prim.Native.Nat.{ℕ, zero, suc, _+_, _*_, _≤_, _<_}
 use mathlib.Core.List.{List, [], _∷_, _++_}
-use lib.ListN.{length}
-use Rattle.blocks.specs.Block.{blockAt, store}
-use Rattle.blocks.specs.Xor.{xorAll, without, foldedOver}
+use Rattle.blocks.specs.Block.{blockAt}
+use Rattle.blocks.specs.Xor.{xorAll, without}
 
 -- "*Place* (S, d): block S of disk d": where it begins, and its bytes
 abbrev pub offset : ℕ → ℕ → ℕ → ℕ → ℕ
@@ -24,9 +23,3 @@ stripe B T l S (suc N) = stripe B T l S N ++ (place B T l S N ∷ [])
 -- "the xor of the stripe's other places": of all but disk d's
 abbrev pub others : ℕ → ℕ → List ℕ → ℕ → ℕ → ℕ → List ℕ
 others B T l S N d = xorAll B (without (stripe B T l S N) d)
-
--- the images with a write of b to place (S, d) folded into the parity, place (S, p): the xor of all but disk d's stands for the old block
-abbrev pub foldedOthers : ℕ → List ℕ → ℕ → ℕ → ℕ → ℕ → List ℕ → List ℕ
-foldedOthers T l S N d p b =
-    let at = offset (length b) T S p in
-    store l at (foldedOver l at (others (length b) T l S N d) b)

@@ -1,14 +1,31 @@
--- A write whose disk is out, folded into the parity piece by piece, straight from the images (a reconstruct-write): what stands in each
--- piece. What all of them together make is `foldedOthers`.
+-- What a write folded into its parity leaves of it. Document 01: "the parity place its old value xor old block xor data". Then, for a block
+-- whose disk is out, the same piece by piece, straight from the images (a reconstruct-write); all of them together are `foldedOthers`.
 use Prim.Native.Nat.{ℕ, zero, suc, _+_, _*_, _≤_, _<_}
 use mathlib.Core.Path.{_≡_}
 use mathlib.Core.Bool.{Bool, cond, not, _&&_}
 use mathlib.Core.List.{List}
 use lib.Dec.{eqb}
+use lib.ListN.{length}
 use Rattle.parity.specs.declared.Gapped.{Gapped}
-use Rattle.blocks.specs.Block.{copiedTo, zeros}
+use Rattle.blocks.specs.Block.{blockAt, store, copiedTo, zeros}
 use Rattle.blocks.specs.Xor.{xorB}
-use Rattle.blocks.specs.Stripe.{offset, place}
+use Rattle.blocks.specs.Stripe.{offset, place, others}
+
+-- the parity, from offset `parity` on, that a write of b over the block `old` leaves: the old parity, xor the old block, xor the new
+abbrev pub foldedOver : List ℕ → ℕ → List ℕ → List ℕ → List ℕ
+foldedOver l parity old b = xorB (xorB (blockAt l parity (length b)) old) b
+
+-- the same where the old block stands in l, from offset at on
+abbrev pub folded : List ℕ → ℕ → ℕ → List ℕ → List ℕ
+folded l parity at b = foldedOver l parity (blockAt l at (length b)) b
+
+-- the images with a write of b to place (S, d) folded into the parity, place (S, p): the xor of all but disk d's stands for the old block
+abbrev pub foldedOthers : ℕ → List ℕ → ℕ → ℕ → ℕ → ℕ → List ℕ → List ℕ
+foldedOthers T l S N d p b =
+    let at = offset (length b) T S p in
+    store l at (foldedOver l at (others (length b) T l S N d) b)
+
+-- ---- piece by piece
 
 -- disk d is counted: it is neither of the two gaps
 unfoldable pub counted : Gapped → ℕ → Bool

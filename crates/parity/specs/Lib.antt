@@ -1,5 +1,4 @@
--- What stands in each piece of a fold, and the bytes of a struct of them. What a fold leaves, all of it, crate `blocks` says: `folded` and
--- `foldedOthers`.
+-- What a fold leaves, what stands in each piece of it, and the bytes of a struct of them.
 pub mod Lanes
 pub mod Fold
 pub mod Cases

@@ -3,7 +3,7 @@ ghost use mathlib.Core.Path.{_≡_};
 ghost use Prim.Native.Nat.{_+_, _≤_};
 ghost use lib.ListN.{length};
 ghost use Rattle.blocks.specs.Block.{store, Disjoint};
-ghost use Rattle.blocks.specs.Xor.{folded};
+ghost use Rattle.parity.specs.Fold.{folded};
 
 // Folds a write of bytes at `at` into the parity, from `parity` on. The bytes themselves are not stored.
 pub fn fold_parity(images: &mut [u8], parity: usize, at: usize, bytes: &[u8])

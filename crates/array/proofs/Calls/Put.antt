@@ -9,8 +9,9 @@ use Rattle.layout.specs.declared.Geometry.{Geometry}
 use Rattle.layout.specs.declared.Place.{Place}
 use Rattle.layout.specs.Layout.{layout}
 use Rattle.blocks.specs.Block.{store, Disjoint}
-use Rattle.blocks.specs.Xor.{xorB, folded}
+use Rattle.blocks.specs.Xor.{xorB}
 use Rattle.blocks.specs.Stripe.{offset, place, PlaceInside, others}
+use Rattle.parity.specs.Fold.{folded}
 use Rattle.blocks.proofs.Laws.Block.{length-store}
 use Rattle.blocks.proofs.Laws.Stripe.{place-in, places-apart}
 use Rattle.state.specs.declared.Record.{Record}

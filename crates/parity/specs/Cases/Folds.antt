@@ -4,8 +4,7 @@ use Prim.Native.Nat.{ℕ}
 use mathlib.Core.Path.{_≡_}
 use mathlib.Core.List.{List, [], _∷_}
 use Rattle.parity.specs.declared.Gapped.{Gapped}
-use Rattle.blocks.specs.Stripe.{foldedOthers}
-use Rattle.parity.specs.Fold.{gapped, newParity, partFolded}
+use Rattle.parity.specs.Fold.{foldedOthers, gapped, newParity, partFolded}
 
 abbrev pub four : Gapped
 four = record { disks = 4; stripes = 1; len = 2; stripe = 0; out = 1; parity = 3 }

@@ -4,7 +4,7 @@ use Prim.Native.Nat.{_-_}
 use mathlib.Core.Path.{refl}
 use lib.ListN.{length}
 use Rattle.blocks.specs.Block.{blockAt}
-use Rattle.blocks.specs.Xor.{folded}
+use Rattle.parity.specs.Fold.{folded}
 use Rattle.blocks.proofs.Laws.Block.{length-blockAt}
 use Rattle.blocks.proofs.Laws.Fill.{Filled, filled-none, filled-all, filled-apart, length-folded, folded-more}
 use Rattle.parity.proofs.modify.fold_parity.Statement.{statement}
