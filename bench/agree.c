@@ -1,7 +1,8 @@
 /*
  * The peers against the library: random histories of all calls, refused ones among them, on random images, from every kind
  * of record; and locate and owner of every block and place, for every n and m. Both with and without a tail, and in the
- * middle of a growth with the new blocks that are there by then, around the move that brings some.
+ * middle of a growth with the new blocks that are there by then, around the move that brings some. In the histories disks are
+ * out and rebuilt too, with reads and writes around the stripe that a rebuild has come to.
  */
 #include "agree.h"
 
@@ -15,10 +16,10 @@
 
 enum { ROOM = 2 * PBM_RECORD_LEN }; /* for a record that is lent at another length */
 
-enum op { FORMAT, READ, VIEW, WRITE, GROW, ADVANCE, OUT, REBUILD, STATUS, LOCATE, OWNER, OPS };
+enum op { FORMAT, READ, VIEW, WRITE, GROW, ADVANCE, OUT, BEGIN, CONTINUE, STATUS, LOCATE, OWNER, OPS };
 
-static const char *const names[OPS] = {"format", "read", "view",    "write",  "grow",   "advance",
-                                       "out",    "rebuild", "status", "locate", "owner"};
+static const char *const names[OPS] = {"format", "read",  "view",     "write",  "grow",   "advance",
+                                       "out",    "begin", "continue", "status", "locate", "owner"};
 
 static const uint32_t BEFORE_GROWTH = UINT32_MAX; /* in place of the moves done */
 
@@ -32,7 +33,7 @@ struct call {
 struct world {
     uint8_t record[ROOM];
     uint8_t *images, *block;
-    uint64_t beside[5]; /* numbers that a call sets beside its answer */
+    uint64_t beside[6]; /* numbers that a call sets beside its answer */
     uint8_t answer;
 };
 
@@ -51,8 +52,9 @@ static void run_ours(struct world *w, const struct call *c)
     case GROW: w->answer = pbm_grow(r, rl, i, il, c->x); break;
     case ADVANCE: w->answer = pbm_advance(r, rl, i, il, c->x, &x[0]); break;
     case OUT: w->answer = pbm_out(r, rl, c->x); break;
-    case REBUILD: w->answer = pbm_rebuild(r, rl, i, il, c->x); break;
-    case STATUS: w->answer = pbm_status(r, rl, &x[0], &x[1], &x[2], &x[3], &x[4]); break;
+    case BEGIN: w->answer = pbm_begin(r, rl, i, il, c->x); break;
+    case CONTINUE: w->answer = pbm_continue(r, rl, i, il, c->x, &x[0]); break;
+    case STATUS: w->answer = pbm_status(r, rl, &x[0], &x[1], &x[2], &x[3], &x[4], &x[5]); break;
     case LOCATE: w->answer = pbm_locate(r, rl, c->x, &x[0], &x[1]); break;
     default: w->answer = pbm_owner(r, rl, c->x, c->y, &x[0], &x[1]);
     }
@@ -81,8 +83,9 @@ static void run_peer(struct world *w, const struct call *c)
     case GROW: w->answer = peer_grow(r, rl, i, il, c->x); break;
     case ADVANCE: w->answer = peer_advance(r, rl, i, il, c->x, &x[0]); break;
     case OUT: w->answer = peer_out(r, rl, c->x); break;
-    case REBUILD: w->answer = peer_rebuild(r, rl, i, il, c->x); break;
-    case STATUS: w->answer = peer_status(r, rl, &x[0], &x[1], &x[2], &x[3], &x[4]); break;
+    case BEGIN: w->answer = peer_begin(r, rl, i, il, c->x); break;
+    case CONTINUE: w->answer = peer_continue(r, rl, i, il, c->x, &x[0]); break;
+    case STATUS: w->answer = peer_status(r, rl, &x[0], &x[1], &x[2], &x[3], &x[4], &x[5]); break;
     case LOCATE: w->answer = peer_locate(r, rl, c->x, &x[0], &x[1]); break;
     default: w->answer = peer_owner(r, rl, c->x, c->y, &x[0], &x[1]);
     }
@@ -100,8 +103,8 @@ static void run_isal(struct world *w, const struct call *c)
 {
     if (c->op == READ || c->op == VIEW)
         w->answer = isal_read(w->record, c->record_len, w->images, c->images_len, c->x, w->block, c->block_len);
-    else if (c->op == REBUILD)
-        w->answer = isal_rebuild(w->record, c->record_len, w->images, c->images_len, c->x);
+    else if (c->op == CONTINUE)
+        w->answer = isal_continue(w->record, c->record_len, w->images, c->images_len, c->x, &w->beside[0]);
     else
         run_peer(w, c);
 }
@@ -126,15 +129,29 @@ static uint64_t any_block(struct random *r, struct shape h, const uint8_t *recor
 /* The last one, the first that is not there, and the next. */
 static uint64_t block_at_the_end(struct random *r, const uint8_t *record)
 {
-    uint64_t capacity, moves, total, health, out;
-    pbm_status(record, PBM_RECORD_LEN, &capacity, &moves, &total, &health, &out);
+    uint64_t capacity, moves, total, health, out, rebuilt;
+    pbm_status(record, PBM_RECORD_LEN, &capacity, &moves, &total, &health, &out, &rebuilt);
     return capacity + random_below(r, 3) - 1;
 }
 
-/* What stands on the disk that is out; where that is the parity, or no block yet, another of the stripe. */
+static uint32_t rebuilt_by(const uint8_t *record)
+{
+    uint32_t rebuilt;
+    memcpy(&rebuilt, record + PBM_AT_REBUILT, 4);
+    return rebuilt;
+}
+
+/* Any, or, where a rebuild has begun, the last one made or the next. */
+static uint64_t likely_stripe(struct random *r, struct shape h, const uint8_t *record)
+{
+    uint32_t rebuilt = rebuilt_by(record);
+    return rebuilt > 0 && random_below(r, 2) ? rebuilt - random_below(r, 2) : random_below(r, h.stripes);
+}
+
+/* What stands on the disk that is out or rebuilt; where that is the parity, or no block yet, another of the stripe. */
 static uint64_t block_on_disk_out(struct random *r, struct shape h, const uint8_t *record)
 {
-    uint64_t stripe = random_below(r, h.stripes), role, block;
+    uint64_t stripe = likely_stripe(r, h, record), role, block;
     pbm_owner(record, PBM_RECORD_LEN, stripe, record[PBM_AT_OUT], &role, &block);
     return role == PBM_DATA ? block : stripe * (h.n - 1) + random_below(r, h.n - 1);
 }
@@ -147,6 +164,9 @@ static uint64_t likely_block(struct random *r, struct shape h, const uint8_t *re
     default: return any_block(r, h, record);
     }
 }
+
+/* Mostly a few. */
+static uint64_t likely_count(struct random *r, uint32_t few) { return random_below(r, 9) ? random_below(r, few) : UINT64_MAX; }
 
 /* A call that the record lets through, if the health and t do; arguments run a little over their limits. */
 static struct call likely_call(struct random *r, struct shape h, const uint8_t *record)
@@ -164,7 +184,8 @@ static struct call likely_call(struct random *r, struct shape h, const uint8_t *
     case GROW: c.x = h.m; break;
     case ADVANCE: c.x = random_below(r, 3 * h.n); break;
     case OUT: c.x = health == 0 || random_below(r, 9) == 0 ? random_below(r, disks + 1) : out; break;
-    case REBUILD: c.x = out; break;
+    case BEGIN: c.x = out; break;
+    case CONTINUE: c.x = likely_count(r, 1 + h.stripes / 8); break;
     case STATUS: break;
     default: c.x = random_below(r, h.stripes + 1), c.y = random_below(r, disks + 1);
     }
@@ -198,6 +219,8 @@ static bool same(const struct world *a, const struct world *b, size_t images_len
            memcmp(a->images, b->images, images_len) == 0;
 }
 
+static bool is_degraded(uint8_t health) { return health == PBM_HEALTH_OUT || health == PBM_HEALTH_REBUILDING; }
+
 static void start_record(struct random *r, struct shape h, uint8_t record[ROOM], uint32_t moves, uint8_t health)
 {
     uint8_t m = moves == BEFORE_GROWTH ? 0 : (uint8_t)h.m;
@@ -205,10 +228,12 @@ static void start_record(struct random *r, struct shape h, uint8_t record[ROOM],
     record[PBM_AT_N] = (uint8_t)h.n;
     record[PBM_AT_M] = m;
     record[PBM_AT_HEALTH] = health;
-    record[PBM_AT_OUT] = health == 1 ? (uint8_t)random_below(r, h.n + m) : 0;
+    record[PBM_AT_OUT] = is_degraded(health) ? (uint8_t)random_below(r, h.n + m) : 0;
     memcpy(record + PBM_AT_BLOCK_LEN, &(uint16_t){(uint16_t)h.block_len}, 2);
     memcpy(record + PBM_AT_STRIPES, &h.stripes, 4);
     memcpy(record + PBM_AT_MOVES, &(uint32_t){m ? moves : 0}, 4);
+    if (health == PBM_HEALTH_REBUILDING)
+        memcpy(record + PBM_AT_REBUILT, &(uint32_t){(uint32_t)random_below(r, h.stripes)}, 4);
 }
 
 /* A history from one record. One call in three is odd; a record spoilt for it is mended behind it. */
@@ -262,7 +287,7 @@ static bool histories(struct random *r, struct shape h, runner *peer)
                               one_before(total), total, total + 1}; /* the last is too many */
     bool agreed = a.images && b.images && a.block && b.block;
     for (size_t i = 0; agreed && i < sizeof moves / sizeof moves[0]; i++)
-        for (uint8_t health = 0; agreed && health < 3; health++)
+        for (uint8_t health = 0; agreed && health <= PBM_HEALTH_REBUILDING; health++)
             agreed = history(r, h, &a, &b, peer, moves[i], health);
     free(a.images), free(a.block), free(b.images), free(b.block);
     return agreed;
@@ -292,9 +317,9 @@ static bool same_places(struct shape h, const uint8_t *record)
 
 static bool same_capacity(const uint8_t *record)
 {
-    uint64_t x[5], y[5];
-    return pbm_status(record, PBM_RECORD_LEN, &x[0], &x[1], &x[2], &x[3], &x[4]) == 0 &&
-           peer_status(record, PBM_RECORD_LEN, &y[0], &y[1], &y[2], &y[3], &y[4]) == 0 && x[0] == y[0];
+    uint64_t x[6], y[6];
+    return pbm_status(record, PBM_RECORD_LEN, &x[0], &x[1], &x[2], &x[3], &x[4], &x[5]) == 0 &&
+           peer_status(record, PBM_RECORD_LEN, &y[0], &y[1], &y[2], &y[3], &y[4], &y[5]) == 0 && x[0] == y[0];
 }
 
 /* Before the growth, at its start, anywhere in it, as a zone is finished, at its end; and one move from these. */

@@ -17,7 +17,7 @@ enum { MAX_DISKS = 32 };
 struct array {
     uint32_t n, m, disks;
     uint32_t block_len, stripes, moves;
-    uint32_t health, out;
+    uint32_t health, out, rebuilt;
     uint32_t moving; /* stripes of whole groups, which alone move: those below this number; the rest are the tail */
     uint32_t total;  /* of the moves */
     bool grown;      /* every move is made; also where there is none: before growth, and with no whole group */
@@ -40,9 +40,11 @@ static inline uint32_t only_if(bool holds, uint32_t x) { return -(uint32_t)holds
 
 static inline bool health_is_good(const struct array *a)
 {
-    if (a->health == PBM_HEALTH_OUT)
-        return a->out < a->disks;
-    return a->health <= PBM_HEALTH_LOST && a->out == 0;
+    switch (a->health) {
+    case PBM_HEALTH_OUT: return a->out < a->disks && a->rebuilt == 0;
+    case PBM_HEALTH_REBUILDING: return a->out < a->disks && a->rebuilt < a->stripes;
+    default: return a->health <= PBM_HEALTH_LOST && (a->out | a->rebuilt) == 0;
+    }
 }
 
 static inline bool old_is_good(uint64_t n) { return n - 3 < 14; }
@@ -77,6 +79,7 @@ static inline uint8_t array_open(struct array *a, const uint8_t *record, size_t 
     memcpy(&reserved, record + PBM_AT_ZERO, 2);
     memcpy(&a->stripes, record + PBM_AT_STRIPES, 4);
     memcpy(&a->moves, record + PBM_AT_MOVES, 4);
+    memcpy(&a->rebuilt, record + PBM_AT_REBUILT, 4);
     a->n = record[PBM_AT_N];
     a->m = record[PBM_AT_M];
     a->disks = a->n + a->m;
@@ -97,11 +100,15 @@ static inline uint8_t array_open_kept(struct array *a, const uint8_t *record, si
     return a->health == PBM_HEALTH_LOST ? PBM_LOST : PBM_DONE;
 }
 
-static inline void set_health(uint8_t *record, uint8_t health, uint8_t out)
+static inline void set_health(uint8_t *record, uint8_t health, uint32_t out, uint32_t rebuilt)
 {
     record[PBM_AT_HEALTH] = health;
-    record[PBM_AT_OUT] = out;
+    record[PBM_AT_OUT] = (uint8_t)out;
+    memcpy(record + PBM_AT_REBUILT, &rebuilt, 4);
 }
+
+/* Not for an array that is lost. */
+static inline bool is_degraded(const struct array *a) { return a->health != PBM_HEALTH_WHOLE; }
 
 static inline size_t disk_len(const struct array *a) { return (size_t)a->stripes * a->block_len; }
 static inline size_t images_size(const struct array *a) { return a->disks * disk_len(a); }
@@ -115,20 +122,19 @@ static inline uint32_t open_stripes(const struct array *a)
 
 static inline uint32_t capacity(const struct array *a) { return old_blocks(a) + open_stripes(a) * a->m; }
 
-static inline bool is_out(const struct array *a, uint32_t disk)
+/* Does the disk count as out in this stripe? Of a disk that is out no stripe is rebuilt. */
+static inline bool is_absent(const struct array *a, uint32_t stripe, uint32_t disk)
 {
-    return a->health == PBM_HEALTH_OUT && a->out == disk;
+    return is_degraded(a) && a->out == disk && a->rebuilt <= stripe;
 }
 
-static inline uint8_t array_reach_disk(struct array *a, const uint8_t *record, size_t record_len, size_t images_len,
-                                       uint64_t disk)
+/* Tests of a call that needs all images. */
+static inline uint8_t array_open_images(struct array *a, const uint8_t *record, size_t record_len, size_t images_len)
 {
     uint8_t refused = array_open_kept(a, record, record_len);
     if (refused)
         return refused;
-    if (images_len != images_size(a))
-        return PBM_IMAGES;
-    return a->health == PBM_HEALTH_OUT && a->out == disk ? PBM_DONE : PBM_DISK;
+    return images_len == images_size(a) ? PBM_DONE : PBM_IMAGES;
 }
 
 static inline struct stripe stripe_at(const struct array *a, uint32_t number)
@@ -237,15 +243,39 @@ static inline size_t offset_of(const struct array *a, uint32_t stripe, uint32_t 
 static inline uint8_t array_reach(struct array *a, const uint8_t *record, size_t record_len, size_t images_len,
                                   uint64_t block, size_t len, struct place *q)
 {
-    uint8_t refused = array_open_kept(a, record, record_len);
+    uint8_t refused = array_open_images(a, record, record_len, images_len);
     if (refused)
         return refused;
-    if (images_len != images_size(a))
-        return PBM_IMAGES;
     refused = locate(a, block, q);
     if (refused)
         return refused;
     return len == a->block_len ? PBM_DONE : PBM_BLOCK_LENGTH;
+}
+
+/* As sum_others of sum.h. */
+typedef void summing_others(const struct array *a, const uint8_t *images, uint32_t stripe, uint32_t but, uint8_t *into);
+
+/* The call continue, whose sums are made this way: a constant where this is called. */
+__attribute__((always_inline)) static inline uint8_t continue_with(summing_others *sum_others, uint8_t *record,
+                                                                   size_t record_len, uint8_t *images, size_t images_len,
+                                                                   uint64_t k, uint64_t *made)
+{
+    struct array a;
+    *made = 0;
+    uint8_t refused = array_open_images(&a, record, record_len, images_len);
+    if (refused)
+        return refused;
+    if (a.health != PBM_HEALTH_REBUILDING)
+        return PBM_DISK;
+    uint32_t left = a.stripes - a.rebuilt, count = k < left ? (uint32_t)k : left;
+    for (uint32_t s = a.rebuilt; s < a.rebuilt + count; s++)
+        sum_others(&a, images, s, a.out, images + offset_of(&a, s, a.out));
+    if (count == left)
+        set_health(record, PBM_HEALTH_WHOLE, 0, 0);
+    else
+        set_health(record, PBM_HEALTH_REBUILDING, a.out, a.rebuilt + count);
+    *made = count;
+    return PBM_DONE;
 }
 
 #endif

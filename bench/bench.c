@@ -30,6 +30,10 @@ static const char notes[] =
     "  takes twice the disks.\n"
     "- Arrays stand in the middle of their growth, unless another state is given: half of the zones are finished, and half of\n"
     "  the moves of the next one made. A disk that is out is disk 1.\n"
+    "- A rebuild is a begin and as many continues as it takes: one, or one for each 64 stripes. *Stripe rebuilt* and *not\n"
+    "  rebuilt*: half of the stripes of disk 1 are rebuilt, those below T / 2, and blocks are asked for in these, on any disk,\n"
+    "  or in the others, on disk 1. *Library, whole* and *library, disk out* are our own calls for the same blocks, by a\n"
+    "  record with all disks in, or with disk 1 out; *library, at once* is our own rebuild in one continue.\n"
     "- Buffers are aligned to 4096 bytes and touched before, with no wish for huge pages; all contestants share them.\n"
     "- *Out of cache*: each contestant goes once through all blocks of the images, in one random order; they begin at\n"
     "  different points of it. 5 + 3 at B = 64 has 512 MiB at most, by the limit of T. A write whose parity's disk is out\n"
@@ -39,7 +43,8 @@ static const char notes[] =
     "- *With a tail*: one whole group, and the same with a tail of half a group and one stripe, which does not move; visited\n"
     "  over and over as in cache, in turn with the array without the tail. The stripes are drawn from all, so that moved ones\n"
     "  and those of the tail mix. A tail is less than a group: of an array out of cache it is a small part, and not measured.\n"
-    "- Targets are set for B = 4096, and at B = 64 for a write whose disk is out. locate and owner read the record alone.\n"
+    "- Targets are set for B = 4096, and at B = 64 for a write whose disk is out and a rebuild by 64. locate and owner read\n"
+    "  the record alone.\n"
     "- view returns a reference and is not exported to C. A read of a block of 32 bytes makes the same tests and finds the\n"
     "  same place; it also copies 32 bytes, which view does not. It is given against C's read of the same and C's view.\n";
 

@@ -9,15 +9,16 @@
 struct set {
     read_call *read;
     write_call *write;
-    disk_call *grow, *rebuild;
-    advance_call *advance;
+    grow_call *grow;
+    begin_call *begin;
+    step_call *advance, *go_on;
     locate_call *locate;
     owner_call *owner;
 };
 
 static const struct set sets[2] = {
-    {pbm_read, pbm_write, pbm_grow, pbm_rebuild, pbm_advance, pbm_locate, pbm_owner},
-    {peer_read, peer_write, peer_grow, peer_rebuild, peer_advance, peer_locate, peer_owner}};
+    {pbm_read, pbm_write, pbm_grow, pbm_begin, pbm_advance, pbm_continue, pbm_locate, pbm_owner},
+    {peer_read, peer_write, peer_grow, peer_begin, peer_advance, peer_continue, peer_locate, peer_owner}};
 
 static volatile uint64_t sink;
 
@@ -67,11 +68,16 @@ static void owners(struct stage *s, const struct set *c, struct lent l, size_t t
     }
 }
 
-static void rebuilds(struct stage *s, const struct set *c, size_t times)
+static void rebuilds(struct stage *s, const struct set *c, size_t times, uint64_t step)
 {
     for (size_t i = 0; i < times; i++) {
+        uint64_t made;
         memcpy(s->record, s->degraded, PBM_RECORD_LEN);
-        must(c->rebuild(s->record, PBM_RECORD_LEN, s->images, s->images_len, OUT_DISK) == 0, "rebuild");
+        must(c->begin(s->record, PBM_RECORD_LEN, s->images, s->images_len, OUT_DISK) == 0, "begin");
+        while (s->record[PBM_AT_HEALTH] == PBM_HEALTH_REBUILDING) {
+            must(c->go_on(s->record, PBM_RECORD_LEN, s->images, s->images_len, step, &made) == 0, "continue");
+            sink += made;
+        }
     }
 }
 
@@ -100,9 +106,11 @@ static struct lent lend(struct stage *s, enum state state, bool new)
     return l;
 }
 
-static struct lent lend_degraded(struct stage *s, struct list blocks)
+typedef struct list listing(struct stage *s);
+
+static struct lent lend_degraded(struct stage *s, bool rebuilding, listing *blocks)
 {
-    return (struct lent){s->degraded, s->images, s->images_len, blocks};
+    return (struct lent){rebuilding ? s->rebuilding : s->degraded, s->images, s->images_len, blocks(s)};
 }
 
 typedef void asking(struct stage *s, const struct set *c, struct lent l, size_t times);
@@ -123,19 +131,29 @@ static const struct {
              {"locate-new", locates, GROWN, true},      {"owner-before", owners, BEFORE, false},
              {"owner-half", owners, HALF, false},       {"owner-grown", owners, GROWN, false}};
 
+/* Calls for one block with a disk out, or with half of it rebuilt. */
+static const struct {
+    const char *name;
+    asking *ask;
+    bool rebuilding;
+    listing *blocks;
+} degraded[] = {{"degraded-read", reads, false, list_on_disk_out},   {"write-out", writes, false, list_on_disk_out},
+                {"write-parity-out", writes, false, list_parity_out}, {"read-rebuilt", reads, true, list_rebuilt},
+                {"read-not-rebuilt", reads, true, list_not_rebuilt}, {"write-rebuilt", writes, true, list_rebuilt},
+                {"write-not-rebuilt", writes, true, list_not_rebuilt}};
+
 static bool run(struct stage *s, const struct set *c, const char *name, size_t times)
 {
     for (size_t i = 0; i < sizeof asked / sizeof asked[0]; i++)
         if (strcmp(name, asked[i].name) == 0)
             return asked[i].ask(s, c, lend(s, asked[i].state, asked[i].new), times), true;
-    if (strcmp(name, "degraded-read") == 0)
-        reads(s, c, lend_degraded(s, list_on_disk_out(s)), times);
-    else if (strcmp(name, "write-out") == 0)
-        writes(s, c, lend_degraded(s, list_on_disk_out(s)), times);
-    else if (strcmp(name, "write-parity-out") == 0)
-        writes(s, c, lend_degraded(s, list_parity_out(s)), times);
-    else if (strcmp(name, "rebuild") == 0)
-        rebuilds(s, c, times);
+    for (size_t i = 0; i < sizeof degraded / sizeof degraded[0]; i++)
+        if (strcmp(name, degraded[i].name) == 0)
+            return degraded[i].ask(s, c, lend_degraded(s, degraded[i].rebuilding, degraded[i].blocks), times), true;
+    if (strcmp(name, "rebuild") == 0)
+        rebuilds(s, c, times, s->stripes);
+    else if (strcmp(name, "rebuild-by-64") == 0)
+        rebuilds(s, c, times, 64);
     else if (strcmp(name, "growth") == 0)
         growths(s, c, times, s->total);
     else if (strcmp(name, "growth-by-64") == 0)

@@ -30,6 +30,13 @@ static struct contestant held_short(struct contestant c, double target)
     return c;
 }
 
+/* On another record than the case lends. */
+static struct contestant on(struct contestant c, const uint8_t record[PBM_RECORD_LEN])
+{
+    c.record = record;
+    return c;
+}
+
 static struct contestant reader(const char *name, read_call *call, struct list l)
 {
     return (struct contestant){.name = name, .turn = reads, .list = l, .read = call};
@@ -40,14 +47,14 @@ static struct contestant writer(const char *name, write_call *call, struct list 
     return (struct contestant){.name = name, .turn = writes, .list = l, .write = call};
 }
 
-static struct contestant rebuilder(const char *name, disk_call *call, struct list l)
+static struct contestant rebuilder(const char *name, begin_call *begin, step_call *go_on, struct list l)
 {
-    return (struct contestant){.name = name, .turn = rebuilds, .list = l, .on_disk = call};
+    return (struct contestant){.name = name, .turn = rebuilds, .list = l, .begin = begin, .step = go_on};
 }
 
-static struct contestant grower(const char *name, disk_call *grow, advance_call *advance, struct list l)
+static struct contestant grower(const char *name, grow_call *grow, step_call *advance, struct list l)
 {
-    return (struct contestant){.name = name, .turn = growths, .list = l, .on_disk = grow, .advance = advance};
+    return (struct contestant){.name = name, .turn = growths, .list = l, .grow = grow, .step = advance};
 }
 
 static struct contestant locator(const char *name, locate_call *call, struct list l)
@@ -113,6 +120,29 @@ static void reading_degraded(struct stage *s, struct settings set, struct report
     free(l.items);
 }
 
+/* While a disk is rebuilt. Beside the peers the library itself, for the same blocks: with all disks in; with that one out. */
+static void reading_rebuilt(struct stage *s, struct settings set, struct report *report)
+{
+    struct list l = list_rebuilt(s);
+    struct series x = {"read, stripe rebuilt",
+                       {reader("library", pbm_read, l), on(reader("library, whole", pbm_read, l), s->half),
+                        held(reader("C", peer_read, l), 0.95, 0.6)}, 3, 1};
+    lend(s, s->rebuilding);
+    series_run(&x, s, set, report);
+    free(l.items);
+}
+
+static void reading_not_rebuilt(struct stage *s, struct settings set, struct report *report)
+{
+    struct list l = list_not_rebuilt(s);
+    struct series x = {"degraded read, stripe not rebuilt",
+                       {reader("library", pbm_read, l), on(reader("library, disk out", pbm_read, l), s->degraded),
+                        held(reader("ISA-L", isal_read, l), 0.9, 0.5), reader("C", peer_read, l)}, 4, 1};
+    lend(s, s->rebuilding);
+    series_run(&x, s, set, report);
+    free(l.items);
+}
+
 /* Against C, and against C at will if that plays too. */
 static void writing_to(struct stage *s, struct settings set, struct report *report, const char *name,
                        const uint8_t record[PBM_RECORD_LEN], struct list l, bool at_will_too)
@@ -141,12 +171,13 @@ static void writing_grown(struct stage *s, struct settings set, struct report *r
     writing_to(s, set, report, "write, any block, grown", s->grown, list_all_blocks(s), false);
 }
 
-/* With the disk out: parities are right if they hold once it is rebuilt. */
-static void write_degraded(struct stage *s, struct settings set, struct report *report, const struct series *x)
+/* With the disk out, or in part rebuilt: parities are right if they hold once it is rebuilt. */
+static void write_degraded(struct stage *s, struct settings set, struct report *report, const struct series *x,
+                           const uint8_t record[PBM_RECORD_LEN])
 {
-    lend(s, s->degraded);
+    lend(s, record);
     series_run(x, s, set, report);
-    must(pbm_rebuild(s->record, PBM_RECORD_LEN, s->images, s->images_len, OUT_DISK) == 0, "rebuild");
+    stage_rebuild(s);
     parity_must_hold(s);
 }
 
@@ -157,7 +188,7 @@ static void writing_degraded(struct stage *s, struct settings set, struct report
     struct series x = {"write, its disk out",
                        {writer("library", pbm_write, l), held_short(held(writer("C", peer_write, l), 0.9, 0.7), 0.9),
                         writer("C, at will", peer_write_at_will, l)}, s->disks > 9 ? 3 : 2, 1};
-    write_degraded(s, set, report, &x);
+    write_degraded(s, set, report, &x, s->degraded);
     free(l.items);
 }
 
@@ -165,21 +196,56 @@ static void writing_parity_out(struct stage *s, struct settings set, struct repo
 {
     struct list l = list_parity_out(s);
     struct series x = {"write, its parity's disk out", {writer("library", pbm_write, l), writer("C", peer_write, l)}, 2, 1};
-    write_degraded(s, set, report, &x);
+    write_degraded(s, set, report, &x, s->degraded);
     free(l.items);
 }
 
+static void writing_rebuilt(struct stage *s, struct settings set, struct report *report)
+{
+    struct list l = list_rebuilt(s);
+    struct series x = {"write, stripe rebuilt",
+                       {writer("library", pbm_write, l), on(writer("library, whole", pbm_write, l), s->half),
+                        held(writer("C", peer_write, l), 0.92, 0.9)}, 3, 1};
+    write_degraded(s, set, report, &x, s->rebuilding);
+    free(l.items);
+}
+
+static void writing_not_rebuilt(struct stage *s, struct settings set, struct report *report)
+{
+    struct list l = list_not_rebuilt(s);
+    struct series x = {"write, its disk not rebuilt",
+                       {writer("library", pbm_write, l), on(writer("library, disk out", pbm_write, l), s->degraded),
+                        held_short(held(writer("C", peer_write, l), 0.9, 0.7), 0.9)}, 3, 1};
+    write_degraded(s, set, report, &x, s->rebuilding);
+    free(l.items);
+}
+
+static void rebuild_by(struct stage *s, struct settings set, struct report *report, const struct series *x)
+{
+    lend(s, s->degraded);
+    series_run(x, s, set, report);
+    parity_must_hold(s);
+}
+
+/* All stripes in one call; and by 64 a call, which is also held against that. */
 static void rebuilding(struct stage *s, struct settings set, struct report *report)
 {
-    uint32_t disk = OUT_DISK;
-    struct list l = {&disk, 1};
-    struct series x = {"rebuild, per stripe",
-                       {rebuilder("library", pbm_rebuild, l), held(rebuilder("ISA-L", isal_rebuild, l), 0.9, 0.5),
-                        rebuilder("C", peer_rebuild, l), {.name = "xor_check alone", .turn = checks, .list = l}},
-                       4, s->stripes};
-    lend(s, s->degraded);
-    series_run(&x, s, set, report);
-    parity_must_hold(s);
+    uint32_t few = 64;
+    struct list all = {&s->stripes, 1}, some = {&few, 1};
+    struct series at_once = {"rebuild at once, per stripe",
+                             {rebuilder("library", pbm_begin, pbm_continue, all),
+                              held(rebuilder("ISA-L", peer_begin, isal_continue, all), 0.9, 0.5),
+                              rebuilder("C", peer_begin, peer_continue, all),
+                              {.name = "xor_check alone", .turn = checks, .list = all}},
+                             4, s->stripes};
+    struct series by_64 = {"rebuild by 64, per stripe",
+                           {rebuilder("library", pbm_begin, pbm_continue, some),
+                            held_short(held(rebuilder("library, at once", pbm_begin, pbm_continue, all), 0.95, 0.95), 0.95),
+                            rebuilder("ISA-L", peer_begin, isal_continue, some),
+                            rebuilder("C", peer_begin, peer_continue, some)},
+                           4, s->stripes};
+    rebuild_by(s, set, report, &at_once);
+    rebuild_by(s, set, report, &by_64);
 }
 
 /* Against C, and against restripes if those play too. */
@@ -300,9 +366,13 @@ void cases_run(struct stage *s, struct settings set, struct report *report)
 {
     reading(s, set, report);
     reading_degraded(s, set, report);
+    reading_rebuilt(s, set, report);
+    reading_not_rebuilt(s, set, report);
     writing(s, set, report);
     writing_degraded(s, set, report);
     writing_parity_out(s, set, report);
+    writing_rebuilt(s, set, report);
+    writing_not_rebuilt(s, set, report);
     if (!s->few_stripes) {
         rebuilding(s, set, report);
         growing(s, set, report);

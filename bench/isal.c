@@ -25,23 +25,16 @@ uint8_t isal_read(const uint8_t *record, size_t record_len, const uint8_t *image
     uint8_t refused = array_reach(&a, record, record_len, images_len, block, into_len, &q);
     if (refused)
         return refused;
-    if (is_out(&a, q.disk))
+    if (is_absent(&a, q.stripe.number, q.disk))
         sum_others(&a, images, q.stripe.number, q.disk, into);
     else
         memcpy(into, images + offset_of(&a, q.stripe.number, q.disk), a.block_len);
     return PBM_DONE;
 }
 
-uint8_t isal_rebuild(uint8_t *record, size_t record_len, uint8_t *images, size_t images_len, uint64_t disk)
+uint8_t isal_continue(uint8_t *record, size_t record_len, uint8_t *images, size_t images_len, uint64_t k, uint64_t *made)
 {
-    struct array a;
-    uint8_t refused = array_reach_disk(&a, record, record_len, images_len, disk);
-    if (refused)
-        return refused;
-    for (uint32_t s = 0; s < a.stripes; s++)
-        sum_others(&a, images, s, a.out, images + offset_of(&a, s, a.out));
-    set_health(record, PBM_HEALTH_WHOLE, 0);
-    return PBM_DONE;
+    return continue_with(sum_others, record, record_len, images, images_len, k, made);
 }
 
 bool isal_check(const uint8_t *images, size_t disks, size_t stripes, size_t block_len)

@@ -29,7 +29,7 @@ uint8_t peer_read(const uint8_t *record, size_t record_len, const uint8_t *image
     uint8_t refused = array_reach(&a, record, record_len, images_len, block, into_len, &q);
     if (refused)
         return refused;
-    if (is_out(&a, q.disk))
+    if (is_absent(&a, q.stripe.number, q.disk))
         sum_others(&a, images, q.stripe.number, q.disk, into);
     else
         memcpy(into, images + offset_of(&a, q.stripe.number, q.disk), a.block_len);
@@ -45,7 +45,7 @@ uint8_t peer_view(const uint8_t *record, size_t record_len, const uint8_t *image
     uint8_t refused = array_reach(&a, record, record_len, images_len, block, scratch_len, &q);
     if (refused)
         return refused;
-    if (is_out(&a, q.disk)) {
+    if (is_absent(&a, q.stripe.number, q.disk)) {
         sum_others(&a, images, q.stripe.number, q.disk, scratch);
         *view = scratch;
     } else {
@@ -98,12 +98,12 @@ __attribute__((always_inline)) static inline uint8_t write_with(summing *sum_up,
     if (refused)
         return refused;
     uint32_t parity = disk_now(&a, q.stripe, q.stripe.parity);
-    if (is_out(&a, q.disk)) {
+    if (is_absent(&a, q.stripe.number, q.disk)) {
         write_around(&a, images, q, parity, data, sum_up);
         return PBM_DONE;
     }
     uint8_t *old = images + offset_of(&a, q.stripe.number, q.disk);
-    if (is_out(&a, parity))
+    if (is_absent(&a, q.stripe.number, parity))
         memcpy(old, data, a.block_len);
     else
         put(old, images + offset_of(&a, q.stripe.number, parity), data, a.block_len);
@@ -128,7 +128,7 @@ uint8_t peer_grow(uint8_t *record, size_t record_len, uint8_t *images, size_t im
     uint8_t refused = array_open_kept(&a, record, record_len);
     if (refused)
         return refused;
-    if (a.health == PBM_HEALTH_OUT)
+    if (is_degraded(&a))
         return PBM_DEGRADED;
     if (a.m != 0)
         return PBM_GROWN;
@@ -175,7 +175,7 @@ uint8_t peer_advance(uint8_t *record, size_t record_len, uint8_t *images, size_t
     uint8_t refused = array_open_kept(&a, record, record_len);
     if (refused)
         return refused;
-    if (a.health == PBM_HEALTH_OUT)
+    if (is_degraded(&a))
         return PBM_DEGRADED;
     if (a.grown)
         return PBM_NOTHING_TO_MOVE;
@@ -195,30 +195,36 @@ uint8_t peer_out(uint8_t *record, size_t record_len, uint64_t disk)
     uint8_t refused = array_open_kept(&a, record, record_len);
     if (refused)
         return refused;
-    if (disk >= a.disks || is_out(&a, (uint32_t)disk))
+    bool other = is_degraded(&a) && a.out != disk;
+    if (disk >= a.disks || (a.health == PBM_HEALTH_OUT && !other))
         return PBM_DISK;
-    bool whole = a.health == PBM_HEALTH_WHOLE;
-    set_health(record, whole ? PBM_HEALTH_OUT : PBM_HEALTH_LOST, whole ? (uint8_t)disk : 0);
+    set_health(record, other ? PBM_HEALTH_LOST : PBM_HEALTH_OUT, other ? 0 : (uint32_t)disk, 0);
     return PBM_DONE;
 }
 
-uint8_t peer_rebuild(uint8_t *record, size_t record_len, uint8_t *images, size_t images_len, uint64_t disk)
+uint8_t peer_begin(uint8_t *record, size_t record_len, const uint8_t *images, size_t images_len, uint64_t disk)
 {
+    (void)images;
     struct array a;
-    uint8_t refused = array_reach_disk(&a, record, record_len, images_len, disk);
+    uint8_t refused = array_open_images(&a, record, record_len, images_len);
     if (refused)
         return refused;
-    for (uint32_t s = 0; s < a.stripes; s++)
-        sum_others(&a, images, s, a.out, images + offset_of(&a, s, a.out));
-    set_health(record, PBM_HEALTH_WHOLE, 0);
+    if (a.health != PBM_HEALTH_OUT || a.out != disk)
+        return PBM_DISK;
+    set_health(record, PBM_HEALTH_REBUILDING, a.out, 0);
     return PBM_DONE;
+}
+
+uint8_t peer_continue(uint8_t *record, size_t record_len, uint8_t *images, size_t images_len, uint64_t k, uint64_t *made)
+{
+    return continue_with(sum_others, record, record_len, images, images_len, k, made);
 }
 
 uint8_t peer_status(const uint8_t *record, size_t record_len, uint64_t *capacity_now, uint64_t *moves, uint64_t *total,
-                    uint64_t *health, uint64_t *out_disk)
+                    uint64_t *health, uint64_t *out_disk, uint64_t *rebuilt)
 {
     struct array a;
-    *capacity_now = *moves = *total = *health = *out_disk = 0;
+    *capacity_now = *moves = *total = *health = *out_disk = *rebuilt = 0;
     uint8_t refused = array_open(&a, record, record_len);
     if (refused)
         return refused;
@@ -227,6 +233,7 @@ uint8_t peer_status(const uint8_t *record, size_t record_len, uint64_t *capacity
     *total = a.total;
     *health = a.health;
     *out_disk = a.out;
+    *rebuilt = a.rebuilt;
     return PBM_DONE;
 }
 

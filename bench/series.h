@@ -15,8 +15,9 @@ typedef uint64_t turn(struct stage *s, const struct contestant *c, const uint32_
 typedef uint8_t read_call(const uint8_t *, size_t, const uint8_t *, size_t, uint64_t, uint8_t *, size_t);
 typedef uint8_t view_call(const uint8_t *, size_t, const uint8_t *, size_t, uint64_t, uint8_t *, size_t, const uint8_t **);
 typedef uint8_t write_call(const uint8_t *, size_t, uint8_t *, size_t, uint64_t, const uint8_t *, size_t);
-typedef uint8_t disk_call(uint8_t *, size_t, uint8_t *, size_t, uint64_t);
-typedef uint8_t advance_call(uint8_t *, size_t, uint8_t *, size_t, uint64_t, uint64_t *);
+typedef uint8_t grow_call(uint8_t *, size_t, uint8_t *, size_t, uint64_t);
+typedef uint8_t begin_call(uint8_t *, size_t, const uint8_t *, size_t, uint64_t);
+typedef uint8_t step_call(uint8_t *, size_t, uint8_t *, size_t, uint64_t, uint64_t *);
 typedef uint8_t locate_call(const uint8_t *, size_t, uint64_t, uint64_t *, uint64_t *);
 typedef uint8_t owner_call(const uint8_t *, size_t, uint64_t, uint64_t, uint64_t *, uint64_t *);
 
@@ -27,10 +28,12 @@ struct contestant {
     read_call *read;
     view_call *view;
     write_call *write;
-    disk_call *on_disk; /* grow or rebuild */
-    advance_call *advance;
+    grow_call *grow;
+    begin_call *begin;
+    step_call *step; /* advance or continue */
     locate_call *locate;
     owner_call *owner;
+    const uint8_t *record; /* of a read or write: another than the case lends; NULL: that one */
     bool in_place; /* of a restripe: not into a second image */
     double target_out, target_in; /* least ratio at B = 4096, out of cache and in cache; 0: none is set */
     double target_short;          /* at B = 64, out of cache and in cache */
@@ -58,7 +61,7 @@ struct row {
 };
 
 struct report {
-    struct row rows[256];
+    struct row rows[512];
     size_t count;
 };
 

@@ -66,11 +66,26 @@ static uint32_t half_of(const struct stage *s)
     return zones / 2 * zone_moves + zone_moves / 2;
 }
 
+/* Stripes of OUT_DISK, by `rebuilding`. */
+static uint32_t rebuilt_of(const struct stage *s) { return s->stripes / 2; }
+
+static void rebuild(struct stage *s, uint8_t record[PBM_RECORD_LEN], uint32_t stripes)
+{
+    uint64_t made;
+    if (record[PBM_AT_HEALTH] == PBM_HEALTH_OUT)
+        must(pbm_begin(record, PBM_RECORD_LEN, s->images, s->images_len, OUT_DISK) == 0, "begin");
+    must(pbm_continue(record, PBM_RECORD_LEN, s->images, s->images_len, stripes, &made) == 0, "continue");
+}
+
+void stage_rebuild(struct stage *s) { rebuild(s, s->record, s->stripes); }
+
 void stage_half(struct stage *s)
 {
     grow_to(s, s->half, half_of(s));
     memcpy(s->degraded, s->half, PBM_RECORD_LEN);
     must(pbm_out(s->degraded, PBM_RECORD_LEN, OUT_DISK) == 0, "out");
+    memcpy(s->rebuilding, s->degraded, PBM_RECORD_LEN);
+    rebuild(s, s->rebuilding, rebuilt_of(s));
     memcpy(s->grown, s->half, PBM_RECORD_LEN);
     memcpy(s->grown + PBM_AT_MOVES, &s->total, 4);
 }
@@ -79,8 +94,8 @@ void stage_grown(struct stage *s) { grow_to(s, s->grown, s->total); }
 
 uint32_t capacity_by(const uint8_t record[PBM_RECORD_LEN])
 {
-    uint64_t capacity, moves, total, health, out;
-    must(pbm_status(record, PBM_RECORD_LEN, &capacity, &moves, &total, &health, &out) == 0, "status");
+    uint64_t capacity, moves, total, health, out, rebuilt;
+    must(pbm_status(record, PBM_RECORD_LEN, &capacity, &moves, &total, &health, &out, &rebuilt) == 0, "status");
     return (uint32_t)capacity;
 }
 
@@ -99,6 +114,14 @@ static bool parity_on_disk_out(const struct stage *s, uint32_t block)
     uint64_t role, none;
     must(pbm_owner(s->half, PBM_RECORD_LEN, block / (s->plan.n - 1), OUT_DISK, &role, &none) == 0, "owner");
     return role == PBM_PARITY;
+}
+
+/* Of a block of before the growth. */
+static bool stripe_rebuilt(const struct stage *s, uint32_t block) { return block / (s->plan.n - 1) < rebuilt_of(s); }
+
+static bool disk_not_rebuilt(const struct stage *s, uint32_t block)
+{
+    return !stripe_rebuilt(s, block) && block_on_disk_out(s, block);
 }
 
 static bool has_block(const struct stage *s, uint32_t stripe, choosing *fits)
@@ -195,12 +218,16 @@ static struct list only_fit(const struct stage *s, struct list l, choosing *fits
 
 struct list list_on_disk_out(struct stage *s) { return only_fit(s, list_blocks(s), block_on_disk_out); }
 
-/* Not of the stripes that are visited else: each of those has a block on the disk. */
-struct list list_parity_out(struct stage *s)
+/* Not of the stripes that are visited else, of which few or none may have a block that fits. */
+static struct list list_elsewhere(struct stage *s, choosing *fits)
 {
-    struct visited few = choose_stripes(s, parity_on_disk_out);
-    return only_fit(s, blocks_of_stripes(s, &few, 0), parity_on_disk_out);
+    struct visited few = choose_stripes(s, fits);
+    return only_fit(s, blocks_of_stripes(s, &few, 0), fits);
 }
+
+struct list list_parity_out(struct stage *s) { return list_elsewhere(s, parity_on_disk_out); }
+struct list list_rebuilt(struct stage *s) { return list_elsewhere(s, stripe_rebuilt); }
+struct list list_not_rebuilt(struct stage *s) { return list_elsewhere(s, disk_not_rebuilt); }
 
 struct list list_some_blocks(struct stage *s, uint32_t first, uint32_t end)
 {

@@ -35,10 +35,14 @@ struct stage {
     uint8_t *images; /* n + m disks */
     uint8_t *spare;  /* n + m disks, for the restripe */
     size_t home_len, images_len;
-    /* records; in `degraded` OUT_DISK is out */
-    uint8_t formatted[PBM_RECORD_LEN], half[PBM_RECORD_LEN], degraded[PBM_RECORD_LEN], grown[PBM_RECORD_LEN];
-    uint8_t record[PBM_RECORD_LEN]; /* the one lent in the case that is played */
-    uint8_t *into, *data;           /* one block; DATA_BLOCKS blocks */
+    /* records, none across two lines of the cache; in `degraded` OUT_DISK is out, in `rebuilding` half of it is rebuilt */
+    _Alignas(32) uint8_t formatted[PBM_RECORD_LEN];
+    _Alignas(32) uint8_t half[PBM_RECORD_LEN];
+    _Alignas(32) uint8_t grown[PBM_RECORD_LEN];
+    _Alignas(32) uint8_t degraded[PBM_RECORD_LEN];
+    _Alignas(32) uint8_t rebuilding[PBM_RECORD_LEN];
+    _Alignas(32) uint8_t record[PBM_RECORD_LEN]; /* the one lent in the case that is played */
+    uint8_t *into, *data; /* one block; DATA_BLOCKS blocks */
     bool few_stripes; /* the images are above the wish: only these stripes are visited, which are about it */
     struct visited visited;
     struct random random;
@@ -53,12 +57,17 @@ void stage_close(struct stage *s);
 void stage_half(struct stage *s);
 void stage_grown(struct stage *s);
 
+/* Rebuilds OUT_DISK to its end, from the record that is lent, in which it is out or being rebuilt. */
+void stage_rebuild(struct stage *s);
+
 uint32_t capacity_by(const uint8_t record[PBM_RECORD_LEN]);
 
 struct list list_blocks(struct stage *s);      /* all blocks of before the growth */
 struct list list_all_blocks(struct stage *s);  /* and the new ones */
 struct list list_on_disk_out(struct stage *s); /* those of before the growth that stand on OUT_DISK */
 struct list list_parity_out(struct stage *s);  /* those of before the growth whose parity stands on OUT_DISK */
+struct list list_rebuilt(struct stage *s);     /* by `rebuilding`: those of before the growth in stripes that are rebuilt */
+struct list list_not_rebuilt(struct stage *s); /* and in others, those that stand on OUT_DISK */
 struct list list_some_blocks(struct stage *s, uint32_t first, uint32_t end);
 struct list list_some_places(struct stage *s, uint32_t disks);
 /* The number of the place on which each block stands: d * T + S. */

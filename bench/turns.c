@@ -15,12 +15,15 @@ static uint64_t since(uint64_t start, uint8_t refused, uint64_t seen)
     return ns;
 }
 
+static const uint8_t *record_for(const struct contestant *c, const struct stage *s) { return c->record ? c->record : s->record; }
+
 uint64_t reads(struct stage *s, const struct contestant *c, const uint32_t *items, size_t count)
 {
+    const uint8_t *record = record_for(c, s);
     uint8_t refused = 0;
     uint64_t seen = 0, start = now_ns();
     for (size_t i = 0; i < count; i++) {
-        refused |= c->read(s->record, PBM_RECORD_LEN, s->images, s->images_len, items[i], s->into, s->plan.block_len);
+        refused |= c->read(record, PBM_RECORD_LEN, s->images, s->images_len, items[i], s->into, s->plan.block_len);
         seen += s->into[0];
     }
     return since(start, refused, seen);
@@ -40,15 +43,27 @@ uint64_t copies(struct stage *s, const struct contestant *c, const uint32_t *ite
 
 uint64_t writes(struct stage *s, const struct contestant *c, const uint32_t *items, size_t count)
 {
+    const uint8_t *record = record_for(c, s);
     uint8_t refused = 0;
     uint64_t start = now_ns();
     for (size_t i = 0; i < count; i++) {
         const uint8_t *data = s->data + i % DATA_BLOCKS * s->plan.block_len;
-        refused |= c->write(s->record, PBM_RECORD_LEN, s->images, s->images_len, items[i], data, s->plan.block_len);
+        refused |= c->write(record, PBM_RECORD_LEN, s->images, s->images_len, items[i], data, s->plan.block_len);
     }
     return since(start, refused, s->images[items[0]]);
 }
 
+/* Makes so many moves or stripes, some a call. */
+static uint8_t step_through(struct stage *s, const struct contestant *c, uint8_t *record, uint32_t all, uint32_t some)
+{
+    uint8_t refused = 0;
+    uint64_t made = 1;
+    for (uint32_t left = all; left > 0 && refused == 0; left -= (uint32_t)made)
+        refused |= c->step(record, PBM_RECORD_LEN, s->images, s->images_len, some, &made);
+    return refused;
+}
+
+/* A whole rebuild. An item is the stripes of one continue. */
 uint64_t rebuilds(struct stage *s, const struct contestant *c, const uint32_t *items, size_t count)
 {
     uint8_t refused = 0;
@@ -56,7 +71,8 @@ uint64_t rebuilds(struct stage *s, const struct contestant *c, const uint32_t *i
     for (size_t i = 0; i < count; i++) {
         uint8_t record[PBM_RECORD_LEN];
         memcpy(record, s->record, PBM_RECORD_LEN);
-        refused |= c->on_disk(record, PBM_RECORD_LEN, s->images, s->images_len, items[i]);
+        refused |= c->begin(record, PBM_RECORD_LEN, s->images, s->images_len, OUT_DISK);
+        refused |= step_through(s, c, record, s->stripes, items[i]);
     }
     return since(start, refused, s->images[0]);
 }
@@ -76,14 +92,11 @@ uint64_t growths(struct stage *s, const struct contestant *c, const uint32_t *it
 {
     uint64_t ns = 0;
     for (size_t i = 0; i < count; i++) {
-        uint8_t refused = 0;
-        uint64_t made = 1;
         memcpy(s->images, s->home, s->home_len);
         memcpy(s->record, s->formatted, PBM_RECORD_LEN);
         uint64_t start = now_ns();
-        refused |= c->on_disk(s->record, PBM_RECORD_LEN, s->images, s->images_len, s->plan.m);
-        for (uint32_t left = s->total; left > 0 && refused == 0; left -= (uint32_t)made)
-            refused |= c->advance(s->record, PBM_RECORD_LEN, s->images, s->images_len, items[i], &made);
+        uint8_t refused = c->grow(s->record, PBM_RECORD_LEN, s->images, s->images_len, s->plan.m);
+        refused |= step_through(s, c, s->record, s->total, items[i]);
         ns += since(start, refused, s->images[0]);
     }
     return ns;

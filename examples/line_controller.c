@@ -2,9 +2,10 @@
  * line_controller.c - a sawmill line on an array that grows while the line runs.
  *
  * The scanner writes each log's cutting solution to a numbered block, the saw reads it. Meanwhile three disks are added
- * to five; in the middle of that growth a disk is lost, and rebuilt later. New blocks are used as they come, with each zone
- * that is finished. The disks are of no round size: a tail is left behind the groups that move. Each block that the saw
- * reads is compared with what the scanner last wrote to it, which this program keeps in a plain array of its own.
+ * to five; in the middle of that growth a disk is lost, and rebuilt a few stripes at a time while the line runs; halfway it
+ * fails again, and is rebuilt from its first stripe on. New blocks are used as they come, with each zone that is finished. The
+ * disks are of no round size: a tail is left behind the groups that move. Each block that the saw reads is compared with what
+ * the scanner last wrote to it, which this program keeps in a plain array of its own.
  *
  *     line_controller [seed]
  *
@@ -46,8 +47,15 @@ static uint8_t given[BLOCKS_AFTER][BLOCK];
 struct place { uint64_t stripe, disk; };
 static struct place came[BLOCKS_AFTER - BLOCKS_BEFORE];
 
+/*
+ * Calls for a block: all; those for one on a lost disk, and for a new one in mid-growth; while a disk is rebuilt, those in the
+ * stripes that are done, and in the others.
+ */
+struct calls { uint64_t all, degraded, early, in_done, in_others; };
+
 static struct {
-    uint64_t writes, degraded_writes, early_writes, reads, degraded_reads, early_reads, moves, refusals;
+    struct calls writes, reads;
+    uint64_t moves, refusals;
 } count;
 
 /* ---- random numbers: the same seed gives the same run */
@@ -90,12 +98,13 @@ static void must_be(const char *what, uint64_t is, uint64_t wanted)
 
 /* ---- the array */
 
-struct status { uint64_t capacity, moves, total, health, out_disk; };
+struct status { uint64_t capacity, moves, total, health, out_disk, rebuilt; };
 
 static struct status status(void)
 {
     struct status s;
-    must("status", pbm_status(record, sizeof record, &s.capacity, &s.moves, &s.total, &s.health, &s.out_disk));
+    must("status",
+         pbm_status(record, sizeof record, &s.capacity, &s.moves, &s.total, &s.health, &s.out_disk, &s.rebuilt));
     return s;
 }
 
@@ -106,14 +115,17 @@ static struct place place_of(uint64_t block)
     return p;
 }
 
-static int is_on_lost_disk(uint64_t block)
+static void count_call(struct calls *calls, uint64_t block)
 {
     struct status now = status();
-    return now.health == PBM_HEALTH_OUT && now.out_disk == place_of(block).disk;
+    struct place p = place_of(block);
+    int is_done = p.stripe < now.rebuilt; /* none is while the disk is out */
+    calls->all++;
+    calls->degraded += now.health != PBM_HEALTH_WHOLE && p.disk == now.out_disk && !is_done;
+    calls->early += block >= BLOCKS_BEFORE && now.moves < MOVES;
+    calls->in_done += now.health == PBM_HEALTH_REBUILDING && is_done;
+    calls->in_others += now.health == PBM_HEALTH_REBUILDING && !is_done;
 }
-
-/* A new block in mid-growth. */
-static int is_early(uint64_t block) { return block >= BLOCKS_BEFORE && count.moves < MOVES; }
 
 /* The blocks that there must be: with the last move of a zone its new ones come, with the last of all what is left. */
 static uint64_t blocks_after(uint64_t moves)
@@ -133,30 +145,38 @@ static void mount(uint64_t len)
     images_len = len;
 }
 
+/* A disk that is out may hold any bytes, new ones before each call: here one byte of each stripe not rebuilt yet changes. */
+static void scribble(void)
+{
+    struct status now = status();
+    if (now.health == PBM_HEALTH_WHOLE) return;
+    uint8_t *disk = images + now.out_disk * DISK, change = (uint8_t)(1 + below(255));
+    uint64_t at = below(BLOCK);
+    for (uint64_t stripe = now.rebuilt; stripe < STRIPES; stripe++) disk[stripe * BLOCK + at] ^= change;
+}
+
 /* ---- the line: scanner and saw take turns */
 
 static void scanner_writes(uint64_t block)
 {
     uint8_t *solution = given[block];
     for (size_t i = 0; i < BLOCK; i++) solution[i] = (uint8_t)below(256);
+    scribble();
     must("write", pbm_write(record, sizeof record, images, images_len, block, solution, BLOCK));
-    count.writes++;
-    if (is_on_lost_disk(block)) count.degraded_writes++;
-    if (is_early(block)) count.early_writes++;
+    count_call(&count.writes, block);
 }
 
 static void saw_reads(uint64_t block)
 {
     uint8_t solution[BLOCK];
+    scribble();
     must("read", pbm_read(record, sizeof record, images, images_len, block, solution, BLOCK));
     if (memcmp(solution, given[block], BLOCK) != 0) {
         fprintf(stderr, "line_controller: block %" PRIu64 " is not what was last written, after %" PRIu64 " moves\n",
                 block, count.moves);
         exit(1);
     }
-    count.reads++;
-    if (is_on_lost_disk(block)) count.degraded_reads++;
-    if (is_early(block)) count.early_reads++;
+    count_call(&count.reads, block);
 }
 
 static void saw_reads_all(void)
@@ -176,6 +196,14 @@ static void logs_pass(int logs)
         saw_reads(block);
         saw_reads(below(capacity));
     }
+}
+
+/* A log whose solution goes to a block of this stripe: to one of before the growth, which stays in its stripe. */
+static void log_passes_in(uint64_t stripe)
+{
+    uint64_t block = stripe * (OLD - 1) + below(OLD - 1);
+    scanner_writes(block);
+    saw_reads(block);
 }
 
 /* New blocks hold zeroes until they are written: every other one is, the rest wait for a log. */
@@ -253,7 +281,7 @@ static void move_until(uint64_t moves)
         logs_pass(1);
     }
     printf("    %" PRIu64 " of %d moves, %" PRIu64 " blocks, %" PRIu64 " logs so far\n", count.moves, MOVES, now.capacity,
-           count.writes);
+           count.writes.all);
 }
 
 static void advance_is_refused(uint8_t wanted)
@@ -263,19 +291,77 @@ static void advance_is_refused(uint8_t wanted)
     must_be("moves of a refused advance", made, 0);
 }
 
-/* What a lost disk holds is of no matter: here, 0xEE in every byte. */
-static void lose(uint64_t disk)
+/* ---- a disk is lost, and rebuilt while the line runs */
+
+static void must_tell(uint64_t health, uint64_t disk, uint64_t rebuilt)
 {
-    must("out", pbm_out(record, sizeof record, disk));
-    memset(images + disk * DISK, 0xEE, DISK);
-    printf("disk %" PRIu64 " is lost\n", disk);
+    must_be("health", status().health, health);
+    must_be("disk out", status().out_disk, disk);
+    must_be("stripes rebuilt", status().rebuilt, rebuilt);
 }
 
-static void rebuild(uint64_t disk)
+/*
+ * What a lost disk holds is of no matter: here, 0xEE in every byte at first. It may be the one that is being rebuilt: what was
+ * done of it is gone.
+ */
+static void lose(uint64_t disk)
 {
-    must("rebuild", pbm_rebuild(record, sizeof record, images, images_len, disk));
-    must_be("health", status().health, PBM_HEALTH_WHOLE);
+    uint64_t rebuilt = status().rebuilt;
+    must("out", pbm_out(record, sizeof record, disk));
+    must_tell(PBM_HEALTH_OUT, disk, 0);
+    memset(images + disk * DISK, 0xEE, DISK);
+    printf("disk %" PRIu64 " is lost", disk);
+    if (rebuilt > 0) printf(", and with it the %" PRIu64 " stripes rebuilt", rebuilt);
+    printf("\n");
+}
+
+/* A bar of ten: a # for each tenth that is done. */
+static void show_progress(uint64_t disk, uint64_t done)
+{
+    int tenths = (int)(10 * done / STRIPES);
+    printf("    rebuilding disk %" PRIu64 ": [%.*s%.*s] %" PRIu64 " of %d stripes, %" PRIu64 " logs so far\n", disk, tenths,
+           "##########", 10 - tenths, "..........", done, STRIPES, count.writes.all);
+}
+
+static void begin_rebuild(uint64_t disk)
+{
+    scribble();
+    must("begin", pbm_begin(record, sizeof record, images, images_len, disk));
+    must_tell(PBM_HEALTH_REBUILDING, disk, 0);
+    show_progress(disk, 0);
+}
+
+/* One to eight stripes, a log somewhere, one in the last stripe done and one in the next, until so many stripes are done. */
+static void rebuild_until(uint64_t stripes)
+{
+    uint64_t disk = status().out_disk, done = status().rebuilt;
+    while (done < stripes) {
+        uint64_t left = stripes - done, wish = 1 + below(8), k = wish < left ? wish : left, made;
+        scribble();
+        must("continue", pbm_continue(record, sizeof record, images, images_len, k, &made));
+        must_be("stripes made", made, k);
+        done += made;
+        must_be("stripes rebuilt", status().rebuilt, done < STRIPES ? done : 0); /* with the last the array is whole */
+        logs_pass(1);
+        log_passes_in(done - 1);
+        if (done < STRIPES) log_passes_in(done);
+    }
+    show_progress(disk, done);
+}
+
+static void end_rebuild(uint64_t disk)
+{
+    rebuild_until(STRIPES);
+    must_tell(PBM_HEALTH_WHOLE, 0, 0);
     printf("disk %" PRIu64 " is rebuilt\n", disk);
+}
+
+static void print_calls(const char *name, struct calls calls)
+{
+    printf("%s %" PRIu64 ", of these %" PRIu64 " of blocks on a lost disk, %" PRIu64 " of new blocks in mid-growth\n", name,
+           calls.all, calls.degraded, calls.early);
+    printf("    while a disk was rebuilt: %" PRIu64 " in stripes done, %" PRIu64 " in the others\n", calls.in_done,
+           calls.in_others);
 }
 
 /* Is it a decimal number of 64 bits, and nothing else? */
@@ -310,7 +396,18 @@ int main(int argc, char **argv)
     advance_is_refused(PBM_DEGRADED);
     logs_pass(1000);
     saw_reads_all();
-    rebuild(2);
+
+    begin_rebuild(2);
+    rebuild_until(100);
+    rebuild_until(250);
+    advance_is_refused(PBM_DEGRADED);
+    saw_reads_all();
+    lose(2); /* again, in the middle */
+    saw_reads_all();
+    begin_rebuild(2);
+    rebuild_until(150);
+    rebuild_until(300);
+    end_rebuild(2);
     saw_reads_all();
 
     move_until(600);
@@ -325,13 +422,12 @@ int main(int argc, char **argv)
     lose(OLD); /* a new disk this time */
     saw_reads_all();
     tail_is_used();
-    rebuild(OLD);
+    begin_rebuild(OLD);
+    end_rebuild(OLD);
     saw_reads_all();
 
-    printf("writes %" PRIu64 ", of these %" PRIu64 " to a lost disk, %" PRIu64 " to new blocks in mid-growth\n",
-           count.writes, count.degraded_writes, count.early_writes);
-    printf("reads %" PRIu64 ", of these %" PRIu64 " from a lost disk, %" PRIu64 " of new blocks in mid-growth\n",
-           count.reads, count.degraded_reads, count.early_reads);
+    print_calls("writes", count.writes);
+    print_calls("reads", count.reads);
     printf("moves %" PRIu64 ", refusals met %" PRIu64 "\n", count.moves, count.refusals);
     printf("every read gave what was last written\n");
     free(images);

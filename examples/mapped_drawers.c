@@ -97,7 +97,7 @@ int main(int argc, char **argv)
 {
     char made[] = "drawers-XXXXXX";
     int blocks = STRIPES * (OLD - 1);
-    uint64_t moves;
+    uint64_t moves, stripes;
     folder = argc > 1 ? argv[1] : mkdtemp(made);
     must("there is no folder", folder != NULL);
     must("a drawer is no whole number of pages", drawer % (uint64_t)sysconf(_SC_PAGESIZE) == 0);
@@ -120,9 +120,12 @@ int main(int argc, char **argv)
     read_blocks(blocks, "all written anew");
 
     insert(1);
-    must("rebuild", pbm_rebuild(record, sizeof record, images, pbm_images_len_by(record, 0), 1) == PBM_DONE);
+    must("begin", pbm_begin(record, sizeof record, images, pbm_images_len_by(record, 0), 1) == PBM_DONE);
+    must("continue", pbm_continue(record, sizeof record, images, pbm_images_len_by(record, 0), STRIPES / 2, &stripes) == PBM_DONE);
+    read_blocks(blocks, "drawer 1 replaced, half of it rebuilt");
+    must("continue", pbm_continue(record, sizeof record, images, pbm_images_len_by(record, 0), UINT64_MAX, &stripes) == PBM_DONE);
     must("advance", pbm_advance(record, sizeof record, images, pbm_images_len_by(record, 0), UINT64_MAX, &moves) == PBM_DONE);
-    read_blocks(blocks, "drawer 1 replaced, the growth over");
+    read_blocks(blocks, "drawer 1 rebuilt, the growth over");
 
     for (int d = 0; d < OLD + NEW; d++) unlink(path(d));
     if (argc == 1) rmdir(folder);

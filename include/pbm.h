@@ -1,7 +1,7 @@
 /*
  * pbm.h - a RAID-5 array that grows by adding disks (parity-based migration), over memory that the caller lends.
  *
- * The library keeps nothing between calls. What it knows of an array is in a record of 16 bytes, what the array holds
+ * The library keeps nothing between calls. What it knows of an array is in a record of 20 bytes, what the array holds
  * is in the images of its disks; the caller keeps both and lends them to each call.
  *
  * SIZES
@@ -19,15 +19,17 @@
  * RECORD
  *   byte 0       n
  *   byte 1       m
- *   byte 2       health: 0 whole, 1 one disk out, 2 lost
- *   byte 3       the disk that is out; 0 unless health is 1
- *   bytes 4-5    B, least byte first, as T and t
+ *   byte 2       health: 0 whole, 1 one disk out, 2 lost, 3 one disk being rebuilt
+ *   byte 3       the disk that is out or being rebuilt; 0 unless health is 1 or 3
+ *   bytes 4-5    B, least byte first, as all numbers of more than a byte
  *   bytes 6-7    zero
  *   bytes 8-11   T
  *   bytes 12-15  t
- *   A record is good exactly if each field is in its limits, bytes 6-7 are zero, the out disk is below N and t is at most
- *   the total of moves (GROWTH). With m = 0, t = 0.
- *   pbm_format makes a good record and every accepted call leaves one: a caller need not set a byte of it.
+ *   bytes 16-19  the stripes done of the disk being rebuilt; 0 unless health is 3
+ *   A record is good exactly if each field is in its limits, bytes 6-7 are zero, the disk that is out or being rebuilt is
+ *   below N, the stripes done are fewer than T, and t is at most the total of moves (GROWTH). With m = 0, t = 0.
+ *   pbm_format makes a good record and every accepted call leaves one: a caller need not set a byte of it. (A record of 16
+ *   bytes, from before there were rebuilds in steps, is one of 20 with four zeroes behind it.)
  *
  * BLOCKS
  *   are numbered from 0. There are T * (n - 1), and T * (n + m - 1) once a growth is over; while it goes on the new ones
@@ -47,30 +49,40 @@
  *   - A pbm_advance brings the new blocks of every zone that its moves finish: often none, with a large k many. pbm_status
  *     tells the capacity, which never falls in a growth. A new block that has not come is refused, 8.
  *   - A new block may be used at once, while other zones move. It is zero until it is written; then it holds what it was
- *     last given, as all others do, with a disk out and behind a rebuild too.
+ *     last given, as all others do, with a disk out, while it is rebuilt and behind that too.
  *   - It never moves: what pbm_locate tells of it stays so.
  *
  * A DISK THAT IS OUT
- *   may hold any bytes. Only pbm_format and pbm_rebuild touch it, which write it; no other call reads or writes a byte of
- *   it, so its pages may be unmapped or protected until one of these two is called. A block that stands on it is the xor
- *   of its stripe's other places. While a disk is out a growth stands still, and goes on later where it stopped. With a
- *   second disk out the array is lost, until it is formatted anew.
+ *   may hold any bytes. Only pbm_format and pbm_continue touch it, which write it; no other call reads or writes a byte of
+ *   it, so its pages may be unmapped or protected until pbm_format is called, or a pbm_continue that comes to their stripes.
+ *   A block that stands on it is the xor of its stripe's other places. While a disk is out a growth stands still, and goes
+ *   on later where it stopped. With a second disk out the array is lost, until it is formatted anew.
+ *
+ * A DISK THAT IS BEING REBUILT
+ *   pbm_begin begins with stripe 0, each pbm_continue makes the next k stripes of the disk, and between any two of these
+ *   calls reads and writes go on. Stripes below the count of those done have the disk in service: its places are read, and
+ *   written with each block. In all others it counts as out: it may hold any bytes there, new ones before each call, and no
+ *   call but pbm_format, and pbm_continue once it comes to them, touches them. A write keeps either true. When all T stripes
+ *   are done the array is whole.
+ *   If the same disk fails again, or is to be replaced by another new one, pbm_out makes it a disk that is out: the count is
+ *   gone, and a new rebuild begins with stripe 0. Another disk out, and the array is lost. A growth stands still as with a
+ *   disk out.
  *
  * WHAT THE CALLER SEES TO
- *   1. Each pointer is good for the length given with it: to read if it is const, else to read and write. (The pages of a
- *      disk that is out may be missing, see above.) A pointer to a number is good for one uint64_t and aligned.
+ *   1. Each pointer is good for the length given with it: to read if it is const, else to read and write. (Pages of a disk
+ *      may be missing where it is or counts as out, see above.) A pointer to a number is good for one uint64_t and aligned.
  *   2. No pointer is null, not even that of a slice of length 0.
  *   3. No two things lent to one call overlap.
  *   4. While a call runs nothing else writes what it is lent, nor reads what it writes. So the calls on one array take
  *      turns, with a lock of the caller's if scanner and saw are threads. pbm_read, pbm_status, pbm_locate and pbm_owner
  *      only read record and images: any number of these four may run at once on one array, each with an `into` and
- *      numbers of its own, while none of the other six does (a readers-writer lock). Calls on different arrays need no
+ *      numbers of its own, while none of the other seven does (a readers-writer lock). Calls on different arrays need no
  *      lock: there is nothing else that two calls share.
  *   5. Each call is lent the record and the images as the last call left them. Between calls nothing else writes them,
- *      save a disk that is out; and no older copy takes their place: an old record beside newer images is a good record,
- *      and a block read by it may be another block.
+ *      save the disk that is out and, of one that is being rebuilt, the stripes not yet done; and no older copy takes their
+ *      place: an old record beside newer images is a good record, and a block read by it may be another block.
  *   6. A call that has begun runs to its end. See below what a kill leaves.
- *   7. There are 16 KiB of stack left for a call. (Measured, not proved: less than 5 KiB in pbm_rebuild, less than 1 KiB in
+ *   7. There are 16 KiB of stack left for a call. (Measured, not proved: less than 5 KiB in pbm_continue, less than 1 KiB in
  *      all others; some 3 KiB more where the dynamic linker looks up memcpy, memmove or memset, at their first use. Signal
  *      handlers on the same stack need theirs beside it.)
  *   Where these are kept nothing else can go wrong: any numbers, and slices of any length, are answered, if by a refusal.
@@ -86,8 +98,9 @@
  *     parities at most; all other places are as they were. So k bounds the damage: choose it small. Do not go on with such
  *     an array: by the old t what has moved reads as zeroes, and another advance would copy these zeroes over it.
  *   - pbm_write: in doubt are that block and the parity of its stripe.
- *   - pbm_format, pbm_grow, pbm_rebuild: the same call, made again, does it all. pbm_out writes the record alone, the
- *     other calls neither record nor images.
+ *   - pbm_format, pbm_grow, pbm_continue: the same call, made again, does it all, as long as the record is the old one.
+ *     Behind a pbm_continue no block is in doubt then: what it has made is of stripes that count as not done. pbm_out and
+ *     pbm_begin write the record alone, the other calls neither record nor images.
  *   Nothing here mends an array in doubt yet, or finds out that it is in doubt: a careful controller notes outside, before
  *   each write and advance, that it begins and with which numbers, and strikes that out behind it. If power is lost, memory
  *   and files may keep some writes and lose earlier ones, and none of this holds: power cuts are not covered yet.
@@ -96,16 +109,17 @@
  *   Each call returns 0, done, or the lowest number below whose condition holds. A refusal changes no byte of record,
  *   images or block, and sets every number beside it to 0.
  *
- *    1  record            not 16 bytes long: all calls; not good: all but format
+ *    1  record            not 20 bytes long: all calls; not good: all but format
  *    2  lost              health is lost: all but format, status, locate, owner
- *    3  degraded          a disk is out: grow, advance
+ *    3  degraded          a disk is out or being rebuilt: grow, advance
  *    4  grown             m is not 0: grow
  *    5  nothing to move   m is 0, or t is the total: advance
  *    6  geometry          n, B or T outside its limits: format; m outside its limits: grow
  *    7  images            length not N * T * B (grow: the new N): all but out, status, locate, owner
  *    8  past the end      block number at or above the capacity now: read, write, locate; S not below T: owner
  *    9  block length      lent block not B bytes: read, write
- *   10  disk              not below N, or out already: out; not the disk that is out: rebuild; not below N: owner
+ *   10  disk              not below N, or out already and not being rebuilt: out; not out, or being rebuilt already: begin;
+ *                         no disk is being rebuilt: continue; not below N: owner
  */
 #ifndef PBM_H
 #define PBM_H
@@ -118,7 +132,7 @@ extern "C" {
 #endif
 
 /* The length of a record. */
-enum { PBM_RECORD_LEN = 16 };
+enum { PBM_RECORD_LEN = 20 };
 
 /* The byte of the record at which each field begins; ZERO, what is no field yet. */
 enum {
@@ -129,7 +143,8 @@ enum {
     PBM_AT_BLOCK_LEN = 4,
     PBM_AT_ZERO = 6,
     PBM_AT_STRIPES = 8,
-    PBM_AT_MOVES = 12
+    PBM_AT_MOVES = 12,
+    PBM_AT_REBUILT = 16
 };
 
 /* What a call returns. */
@@ -189,7 +204,7 @@ static inline uint64_t pbm_images_len_by(const uint8_t *record, uint64_t more)
 }
 
 /* Health, as pbm_status tells it. */
-enum { PBM_HEALTH_WHOLE = 0, PBM_HEALTH_OUT = 1, PBM_HEALTH_LOST = 2 };
+enum { PBM_HEALTH_WHOLE = 0, PBM_HEALTH_OUT = 1, PBM_HEALTH_LOST = 2, PBM_HEALTH_REBUILDING = 3 };
 
 /* What stands on a place, as pbm_owner tells it. */
 enum { PBM_BLANK = 0, PBM_PARITY = 1, PBM_DATA = 2 };
@@ -213,7 +228,7 @@ uint8_t pbm_read(const uint8_t *record, size_t record_len, const uint8_t *images
 
 /*
  * Replaces block `block` by `data`: the block's place takes the data, the parity place its old value xor the old block
- * xor the data; either is skipped if its disk is out. All other bytes stay.
+ * xor the data; either is skipped if its disk is out, or counts as out in that stripe. All other bytes stay.
  * Lent: record, read; images, written; data, read, B bytes.
  * Refusals: 1 record, 2 lost, 7 images, 8 past the end, 9 block length.
  */
@@ -241,28 +256,42 @@ uint8_t pbm_advance(uint8_t *record, size_t record_len, uint8_t *images, size_t 
                     uint64_t k, uint64_t *made);
 
 /*
- * Reports disk `disk` out: a whole array is then one with that disk out, one with another disk out is lost.
+ * Reports disk `disk` out: a whole array is then one with that disk out; so is one that was rebuilding this disk, whatever
+ * was done of it; one with another disk out or being rebuilt is lost.
  * Lent: record, written.
  * Refusals: 1 record, 2 lost, 10 disk.
  */
 uint8_t pbm_out(uint8_t *record, size_t record_len, uint64_t disk);
 
 /*
- * Writes disk `disk`, which is out, in every stripe as the xor of the others. The array is then whole.
- * Lent: record, written; images, those of the disk written.
+ * Begins to rebuild disk `disk`, which is out: none of its stripes is done. Whatever it holds will do: it may be a new one.
+ * Lent: record, written; images, of which no byte is looked at, for their length.
  * Refusals: 1 record, 2 lost, 7 images, 10 disk.
  */
-uint8_t pbm_rebuild(uint8_t *record, size_t record_len, uint8_t *images, size_t images_len, uint64_t disk);
+uint8_t pbm_begin(uint8_t *record, size_t record_len, const uint8_t *images, size_t images_len, uint64_t disk);
+
+/*
+ * Makes the next k stripes of the disk that is being rebuilt, in rising order, each as the xor of the other places, or all
+ * that are left if those are fewer, and sets `made` to how many. When none is left the array is whole. With k = 0 it makes
+ * none. Call it while pbm_status tells PBM_HEALTH_REBUILDING. In steps or at once, it leaves the same. While it runs the
+ * line waits, so choose k by that; each call clears 4096 bytes of its own first, which counts where blocks are short and k
+ * is small.
+ * Lent: record, written; images, those stripes of the disk written; made, written.
+ * Refusals: 1 record, 2 lost, 7 images, 10 disk.
+ */
+uint8_t pbm_continue(uint8_t *record, size_t record_len, uint8_t *images, size_t images_len,
+                     uint64_t k, uint64_t *made);
 
 /*
  * Tells the capacity in blocks, which rises as zones finish, the moves done, their total (0 before growth and in one with
- * no whole group), the health (PBM_HEALTH_WHOLE, _OUT or _LOST) and the disk that is out (0 unless health is
- * PBM_HEALTH_OUT).
- * Lent: record, read; the five numbers, written.
+ * no whole group), the health (PBM_HEALTH_WHOLE, _OUT, _LOST or _REBUILDING), the disk that is out or being rebuilt (0
+ * unless health is PBM_HEALTH_OUT or _REBUILDING), and the stripes of it that are rebuilt (0 unless _REBUILDING), of the T
+ * that the record has at PBM_AT_STRIPES.
+ * Lent: record, read; the six numbers, written.
  * Refusals: 1 record.
  */
 uint8_t pbm_status(const uint8_t *record, size_t record_len, uint64_t *capacity, uint64_t *moves,
-                   uint64_t *total, uint64_t *health, uint64_t *out_disk);
+                   uint64_t *total, uint64_t *health, uint64_t *out_disk, uint64_t *rebuilt);
 
 /*
  * Tells the stripe and the disk on which block `block` now stands, whether that disk is out or not.

@@ -14,7 +14,13 @@ enum {
     OLD_PARITY,   /* a write leaves the parity as it was, which shows only when a disk is lost */
     PLACE_LEFT,   /* some moves leave the old bytes in the place left */
     MADE_UP,      /* advance reports one move more than it made */
-    NO_REBUILD,   /* rebuild writes the record only */
+    NOT_MADE,     /* continue counts its last stripe, and has not written it */
+    MADE_MORE,    /* continue reports one stripe more than it made */
+    COUNT_KEPT,   /* the disk that is being rebuilt fails again, and stays one that is being rebuilt */
+    LOST_AGAIN,   /* the same, taken for a second disk */
+    SKIPPED,      /* a write to a stripe that is rebuilt leaves out the disk that is being rebuilt */
+    COUNTED_ON,   /* a write to a stripe that is not rebuilt counts on that disk's bytes */
+    READ_AHEAD,   /* a read of a block in such a stripe too */
     READ_REFUSED, /* reads are refused that should not be */
     NOT_REFUSED,  /* an advance is not refused that should be */
     ZONE_EARLY,   /* a zone is held as finished once its first move is done: status tells its new blocks too early */
@@ -26,8 +32,9 @@ enum {
 uint8_t __real_pbm_read(const uint8_t *, size_t, const uint8_t *, size_t, uint64_t, uint8_t *, size_t);
 uint8_t __real_pbm_write(const uint8_t *, size_t, uint8_t *, size_t, uint64_t, const uint8_t *, size_t);
 uint8_t __real_pbm_advance(uint8_t *, size_t, uint8_t *, size_t, uint64_t, uint64_t *);
-uint8_t __real_pbm_rebuild(uint8_t *, size_t, uint8_t *, size_t, uint64_t);
-uint8_t __real_pbm_status(const uint8_t *, size_t, uint64_t *, uint64_t *, uint64_t *, uint64_t *, uint64_t *);
+uint8_t __real_pbm_out(uint8_t *, size_t, uint64_t);
+uint8_t __real_pbm_continue(uint8_t *, size_t, uint8_t *, size_t, uint64_t, uint64_t *);
+uint8_t __real_pbm_status(const uint8_t *, size_t, uint64_t *, uint64_t *, uint64_t *, uint64_t *, uint64_t *, uint64_t *);
 
 /* A number of the record, least byte first. */
 static uint64_t number(const uint8_t *record, int at, int bytes)
@@ -38,6 +45,8 @@ static uint64_t number(const uint8_t *record, int at, int bytes)
 }
 
 static uint64_t moves(const uint8_t *record) { return number(record, PBM_AT_MOVES, 4); }
+static uint64_t rebuilt(const uint8_t *record) { return number(record, PBM_AT_REBUILT, 4); }
+static int is_rebuilding(const uint8_t *record) { return record[PBM_AT_HEALTH] == PBM_HEALTH_REBUILDING; }
 static uint64_t old_blocks(const uint8_t *record) { return number(record, PBM_AT_STRIPES, 4) * (record[PBM_AT_N] - 1); }
 static size_t block_len(const uint8_t *record) { return number(record, PBM_AT_BLOCK_LEN, 2); }
 static size_t disk_len(const uint8_t *record) { return number(record, PBM_AT_STRIPES, 4) * block_len(record); }
@@ -52,8 +61,8 @@ struct figures { uint64_t capacity, total; };
 static struct figures figures(const uint8_t *record)
 {
     struct figures f;
-    uint64_t done, health, out_disk;
-    __real_pbm_status(record, PBM_RECORD_LEN, &f.capacity, &done, &f.total, &health, &out_disk);
+    uint64_t done, health, out_disk, stripes;
+    __real_pbm_status(record, PBM_RECORD_LEN, &f.capacity, &done, &f.total, &health, &out_disk, &stripes);
     return f;
 }
 
@@ -63,6 +72,22 @@ static uint64_t meant(const uint8_t *record, uint64_t block)
     uint64_t m = record[PBM_AT_M], k = block - old_blocks(record);
     if (FAULT != NEW_MOVED || block < old_blocks(record) || moves(record) == figures(record).total) return block;
     return block - k % m + (m - 1 - k % m);
+}
+
+static void set_health(uint8_t *record, uint8_t health, uint8_t disk)
+{
+    record[PBM_AT_HEALTH] = health, record[PBM_AT_OUT] = disk;
+    memset(record + PBM_AT_REBUILT, 0, 4);
+}
+
+/* The record by which a block of this stripe is read or written: the fault may be that the rebuild's count is not looked at. */
+static void meant_record(uint8_t *meant, const uint8_t *record, uint64_t stripe, int skips, int counts_on)
+{
+    int is_done = stripe < rebuilt(record);
+    memcpy(meant, record, PBM_RECORD_LEN);
+    if (!is_rebuilding(record)) return;
+    if (skips && is_done) set_health(meant, PBM_HEALTH_OUT, record[PBM_AT_OUT]);
+    if (counts_on && !is_done) set_health(meant, PBM_HEALTH_WHOLE, 0);
 }
 
 static uint8_t *copy_of(const uint8_t *bytes, size_t len)
@@ -78,7 +103,8 @@ uint8_t __wrap_pbm_read(const uint8_t *record, size_t record_len, const uint8_t 
 {
     uint64_t stripe, disk;
     uint8_t old[PBM_RECORD_LEN];
-    memcpy(old, record, sizeof old);
+    pbm_locate(record, record_len, block, &stripe, &disk);
+    meant_record(old, record, stripe, 0, FAULT == READ_AHEAD);
     if (FAULT == READ_REFUSED && moves(record) >= 300) return PBM_PAST_THE_END;
     if (FAULT == OLD_RECORD && moves(record) > 0) {
         int i = PBM_AT_MOVES;
@@ -92,14 +118,15 @@ uint8_t __wrap_pbm_write(const uint8_t *record, size_t record_len, uint8_t *imag
                          const uint8_t *data, size_t data_len)
 {
     uint64_t stripe, disk, role = PBM_BLANK, none;
-    uint8_t answer, *parity, *copy;
+    uint8_t answer, *parity, *copy, by[PBM_RECORD_LEN];
     block = meant(record, block);
     pbm_locate(record, record_len, block, &stripe, &disk);
     if (FAULT == LOST_WRITE && disk >= record[PBM_AT_N] && block < old_blocks(record)) return PBM_DONE;
     for (disk = 0; role != PBM_PARITY; disk++) pbm_owner(record, record_len, stripe, disk, &role, &none);
     parity = images + (disk - 1) * disk_len(record) + stripe * block_len(record);
     copy = copy_of(parity, block_len(record));
-    answer = __real_pbm_write(record, record_len, images, images_len, block, data, data_len);
+    meant_record(by, record, stripe, FAULT == SKIPPED, FAULT == COUNTED_ON);
+    answer = __real_pbm_write(by, record_len, images, images_len, block, data, data_len);
     if (FAULT == OLD_PARITY) memcpy(parity, copy, block_len(record));
     free(copy);
     return answer;
@@ -130,19 +157,34 @@ uint8_t __wrap_pbm_advance(uint8_t *record, size_t record_len, uint8_t *images, 
     return FAULT == NOT_REFUSED && answer == PBM_DEGRADED ? PBM_DONE : answer;
 }
 
-uint8_t __wrap_pbm_rebuild(uint8_t *record, size_t record_len, uint8_t *images, size_t images_len, uint64_t disk)
+uint8_t __wrap_pbm_out(uint8_t *record, size_t record_len, uint64_t disk)
 {
-    uint8_t answer, *copy = copy_of(images, images_len);
-    answer = __real_pbm_rebuild(record, record_len, images, images_len, disk);
-    if (FAULT == NO_REBUILD) memcpy(images, copy, images_len);
+    int is_again = is_rebuilding(record) && record[PBM_AT_OUT] == disk;
+    if (is_again && FAULT == COUNT_KEPT) return PBM_DONE;
+    if (is_again && FAULT == LOST_AGAIN) {
+        set_health(record, PBM_HEALTH_LOST, 0);
+        return PBM_DONE;
+    }
+    return __real_pbm_out(record, record_len, disk);
+}
+
+uint8_t __wrap_pbm_continue(uint8_t *record, size_t record_len, uint8_t *images, size_t images_len, uint64_t k, uint64_t *made)
+{
+    uint8_t *disk = images + record[PBM_AT_OUT] * disk_len(record), *next = disk + rebuilt(record) * block_len(record);
+    uint8_t answer, *copy = copy_of(next, disk + disk_len(record) - next);
+    size_t last;
+    answer = __real_pbm_continue(record, record_len, images, images_len, k, made);
+    last = (*made - 1) * block_len(record);
+    if (FAULT == NOT_MADE && *made > 0) memcpy(next + last, copy + last, block_len(record));
+    if (FAULT == MADE_MORE && answer == PBM_DONE) ++*made;
     free(copy);
     return answer;
 }
 
 uint8_t __wrap_pbm_status(const uint8_t *record, size_t record_len, uint64_t *capacity, uint64_t *done, uint64_t *total,
-                          uint64_t *health, uint64_t *out_disk)
+                          uint64_t *health, uint64_t *out_disk, uint64_t *stripes)
 {
-    uint8_t answer = __real_pbm_status(record, record_len, capacity, done, total, health, out_disk);
+    uint8_t answer = __real_pbm_status(record, record_len, capacity, done, total, health, out_disk, stripes);
     if (FAULT == ZONE_EARLY && *done < *total && *done % zone_moves(record) > 0) *capacity += zone_blocks(record);
     if (FAULT == ZONE_LATE && *done < *total) *capacity = old_blocks(record);
     return answer;

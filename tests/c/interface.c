@@ -31,10 +31,10 @@ static void show_record(void)
 
 static void show_status(void)
 {
-    uint64_t capacity = 9, moves = 9, total = 9, health = 9, out = 9;
-    int number = pbm_status(record, PBM_RECORD_LEN, &capacity, &moves, &total, &health, &out);
-    printf("status %d: capacity %d, moves %d of %d, health %d, out %d\n", number, (int)capacity, (int)moves, (int)total,
-           (int)health, (int)out);
+    uint64_t capacity = 9, moves = 9, total = 9, health = 9, out = 9, rebuilt = 9;
+    int number = pbm_status(record, PBM_RECORD_LEN, &capacity, &moves, &total, &health, &out, &rebuilt);
+    printf("status %d: capacity %d, moves %d of %d, health %d, out %d, rebuilt %d\n", number, (int)capacity, (int)moves,
+           (int)total, (int)health, (int)out, (int)rebuilt);
 }
 
 static void show_place(uint64_t number)
@@ -76,9 +76,16 @@ static void show_advance(uint64_t k)
 
 static void show_out(uint64_t disk) { printf("out %d: %d\n", (int)disk, pbm_out(record, PBM_RECORD_LEN, disk)); }
 
-static void show_rebuild(uint64_t disk)
+static void show_begin(uint64_t disk)
 {
-    printf("rebuild %d: %d\n", (int)disk, pbm_rebuild(record, PBM_RECORD_LEN, images, images_len, disk));
+    printf("begin %d: %d\n", (int)disk, pbm_begin(record, PBM_RECORD_LEN, images, images_len, disk));
+}
+
+static void show_continue(uint64_t k)
+{
+    uint64_t made = 9;
+    int answer = pbm_continue(record, PBM_RECORD_LEN, images, images_len, k, &made);
+    printf("continue %d: %d made %d\n", (int)k, answer, (int)made);
 }
 
 /* What a disk that is out holds is of no matter: without a value to memcheck. */
@@ -99,11 +106,12 @@ static void show_lengths(const char *when, uint64_t len, uint64_t grown_len)
     wrong[0] = len - 1, wrong[1] = len + 1;
     printf("%s: images of %d bytes, grown by 2 disks %d\n", when, (int)len, (int)grown_len);
     for (i = 0; i < 2; i++) {
-        printf("%d bytes: read %d, write %d, advance %d, rebuild %d\n", (int)wrong[i],
+        printf("%d bytes: read %d, write %d, advance %d, begin %d, continue %d\n", (int)wrong[i],
                pbm_read(record, PBM_RECORD_LEN, spare, wrong[i], 0, block, BLOCK),
                pbm_write(record, PBM_RECORD_LEN, spare, wrong[i], 0, block, BLOCK),
                pbm_advance(record, PBM_RECORD_LEN, spare, wrong[i], 0, &made),
-               pbm_rebuild(record, PBM_RECORD_LEN, spare, wrong[i], 0));
+               pbm_begin(record, PBM_RECORD_LEN, spare, wrong[i], 0),
+               pbm_continue(record, PBM_RECORD_LEN, spare, wrong[i], 0, &made));
         printf("%d bytes: grow %d\n", (int)(grown_len - 1 + 2 * i),
                pbm_grow(record, PBM_RECORD_LEN, spare, grown_len - 1 + 2 * i, 2));
     }
@@ -136,6 +144,7 @@ static void format(void)
            pbm_format(record, PBM_RECORD_LEN, spare, images_len + 1, 3, BLOCK, STRIPES));
     free(spare);
     printf("format n = 2: %d\n", pbm_format(record, PBM_RECORD_LEN, images, images_len, 2, BLOCK, STRIPES));
+    printf("format, record of 16 bytes: %d\n", pbm_format(record, 16, images, images_len, 3, BLOCK, STRIPES));
     printf("format: %d\n", pbm_format(record, PBM_RECORD_LEN, images, images_len, 3, BLOCK, STRIPES));
     show_record();
     show_status();
@@ -160,6 +169,33 @@ static void show_words(void)
     int number;
     for (number = PBM_DONE; number <= PBM_DISK + 1; number++) printf("word %d: %s\n", number, pbm_word((uint8_t)number));
     printf("word 255: %s\n", pbm_word(255));
+}
+
+/* Disk 3 is rebuilt, fails again in the middle, and is rebuilt. Block 4 stands on it, in stripe 2. */
+static void show_rebuild(void)
+{
+    show_continue(1);
+    show_begin(2);
+    show_begin(3);
+    show_status();
+    show_begin(3);
+    show_continue(2);
+    show_read(4);
+    show_write(4, "Four");
+    show_continue(1);
+    show_read(4);
+    show_write(4, "FOUR");
+    show_record();
+    show_advance(1);
+    lose(3);
+    show_record();
+    show_read(4);
+    show_begin(3);
+    show_continue(0);
+    show_continue(14);
+    show_status();
+    show_continue(100);
+    show_continue(100);
 }
 
 /* From 2 moves on: behind move 5 zone 0 is finished, and there are 10 blocks more, which stay where they are. */
@@ -190,7 +226,8 @@ static void show_finished_zone(void)
     show_write(35, "new!");
     show_write(5, "FIVE");
     show_read(40);
-    show_rebuild(1);
+    show_begin(1);
+    show_continue(15);
     show_advance(1);
     show_read(35);
     show_place(35);
@@ -249,6 +286,7 @@ int main(void)
     show_read(4);
     printf("read, 3 bytes: %d\n", pbm_read(record, PBM_RECORD_LEN, images, images_len, 4, block, 3));
     printf("read, record a byte short: %d\n", pbm_read(record, PBM_RECORD_LEN - 1, images, images_len, 4, block, BLOCK));
+    printf("read, record of 16 bytes: %d\n", pbm_read(record, 16, images, images_len, 4, block, BLOCK));
     show_advance(1);
 
     grow();
@@ -268,8 +306,7 @@ int main(void)
     show_write(4, "FOUR");
     show_advance(1);
     show_out(3);
-    show_rebuild(2);
-    show_rebuild(3);
+    show_rebuild();
     show_read(4);
     show_record();
     show_finished_zone();
@@ -284,8 +321,11 @@ int main(void)
     lose(0);
     show_read(59);
     show_read(5);
+    show_begin(0);
+    show_continue(3);
     lose(1);
     show_read(59);
+    show_continue(1);
     show_status();
     show_place(59);
 

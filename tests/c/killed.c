@@ -45,18 +45,18 @@ static void fill(uint64_t seed) { for (int i = 0; i < BLOCK; i++) data[i] = (uin
 
 static void format(void) { done(pbm_format(record, PBM_RECORD_LEN, **images, len_of(OLD), OLD, BLOCK, STRIPES)); }
 static void grow(void) { done(pbm_grow(record, PBM_RECORD_LEN, **images, len_of(DISKS), NEW)); }
-static void rebuild(void) { done(pbm_rebuild(record, PBM_RECORD_LEN, **images, len_of(DISKS), 1)); }
 
 static uint64_t budget;
 static void advance(void) { uint64_t made; done(pbm_advance(record, PBM_RECORD_LEN, **images, len_of(DISKS), budget, &made)); }
+static void proceed(void) { uint64_t made; done(pbm_continue(record, PBM_RECORD_LEN, **images, len_of(DISKS), budget, &made)); }
 
 static uint64_t number;
 static void write_block(void) { done(pbm_write(record, PBM_RECORD_LEN, **images, len_of(DISKS), number, data, BLOCK)); }
 
 static uint64_t capacity(void)
 {
-    uint64_t blocks, moves, total, health, out;
-    done(pbm_status(record, PBM_RECORD_LEN, &blocks, &moves, &total, &health, &out));
+    uint64_t blocks, moves, total, health, out, rebuilt;
+    done(pbm_status(record, PBM_RECORD_LEN, &blocks, &moves, &total, &health, &out, &rebuilt));
     return blocks;
 }
 
@@ -171,17 +171,49 @@ static void read_all(void)
     }
 }
 
+/* The rebuild of disk 1, from so many stripes done on. From there the disk holds any bytes. */
+static void begin_at(uint64_t stripes)
+{
+    done(pbm_out(record, PBM_RECORD_LEN, 1));
+    done(pbm_begin(record, PBM_RECORD_LEN, **images, len_of(DISKS), 1));
+    budget = stripes;
+    proceed();
+    memset((*images)[place(stripes, 1)], 0xEE, (STRIPES - stripes) * BLOCK);
+}
+
+/* A continue by k from so many stripes on, stopped at stripe s. */
+static void kill_continue(uint64_t first, uint64_t k, uint64_t s)
+{
+    uint64_t made;
+    prepare(9);
+    begin_at(first);
+    memcpy(wanted, images, sizeof wanted);
+    memcpy(new_record, record, sizeof new_record);
+    done(pbm_continue(new_record, PBM_RECORD_LEN, *wanted, len_of(DISKS), k, &made));
+    budget = k;
+    stop_at(place(s, 1), PROT_NONE, proceed);
+    for (int p = 0; p < PLACES; p++)
+        must(p >= place(first, 1) && p < place(s, 1) ? is_as(wanted, p) : is_as(before, p), "the stripes before it are made, and no other");
+    read_all();
+    proceed();
+    must(memcmp(record, new_record, sizeof new_record) == 0 && memcmp(images, wanted, sizeof wanted) == 0, "made again it does it all");
+    read_all();
+}
+
+static void kill_continues(void)
+{
+    static const uint64_t firsts[] = {0, 5, STRIPES - 1}, budgets[] = {1, 4, STRIPES};
+    int kills = 0;
+    for (int i = 0; i < 3; i++)
+        for (int j = 0; j < 3; j++)
+            for (uint64_t s = firsts[i]; s < firsts[i] + budgets[j] && s < STRIPES; s++, kills++) kill_continue(firsts[i], budgets[j], s);
+    printf("continue, stopped %d times: the old record, by which every block is read, and right when made again\n", kills);
+}
+
 /* Made again behind a kill, these leave what they would have left without it. */
 static void kill_others(void)
 {
     for (int s = 0; s < STRIPES; s++) {
-        prepare(9);
-        done(pbm_out(record, PBM_RECORD_LEN, 1));
-        memset((*images)[place(0, 1)], 0xEE, STRIPES * BLOCK);
-        stop_at(place(s, 1), PROT_NONE, rebuild);
-        rebuild();
-        read_all();
-
         prepare(0);
         memcpy(wanted, images, sizeof wanted);
         memcpy(new_record, record, sizeof new_record);
@@ -196,7 +228,7 @@ static void kill_others(void)
         for (int p = 0; p < OLD * STRIPES; p++)
             for (int i = 0; i < BLOCK; i++) must((*images)[p][i] == 0, "the array is formatted");
     }
-    printf("rebuild, grow and format, each stopped %d times: the old record, and right when made again\n", STRIPES);
+    printf("grow and format, each stopped %d times: the old record, and right when made again\n", STRIPES);
 }
 
 int main(void)
@@ -205,6 +237,7 @@ int main(void)
     images = map(sizeof *images);
     kill_advances();
     kill_writes();
+    kill_continues();
     kill_others();
     return 0;
 }

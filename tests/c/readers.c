@@ -1,7 +1,8 @@
 /*
  * Calls that only read, many at once on one array (pbm.h, rule 4): four threads read every block and ask all that can be asked,
  * and compare with what was written and with what one thread was told before. Record and images are protected against writing,
- * a disk that is out against all. Of 3 zones one is finished, so that 10 new blocks are among those read.
+ * a disk that is out, and one that is being rebuilt in the stripes not yet done, against all. Of 3 zones one is finished, so that 10
+ * new blocks are among those read.
  */
 #define _GNU_SOURCE
 #include "pbm.h"
@@ -14,7 +15,7 @@
 
 enum { OLD = 3, NEW = 2, DISKS = OLD + NEW, STRIPES = 15, BLOCK = 4096, DISK = STRIPES * BLOCK };
 enum { OLD_BLOCKS = STRIPES * (OLD - 1), BLOCKS = OLD_BLOCKS + 10 };
-enum { THREADS = 4, TURNS = 20 };
+enum { REBUILT = 7, THREADS = 4, TURNS = 20 };
 
 static uint8_t *record, *images;
 
@@ -40,12 +41,12 @@ static void fill(uint8_t *block, uint64_t number)
 }
 
 /* All that status, locate and owner tell. */
-struct told { uint64_t status[5], places[BLOCKS][2], owners[STRIPES][DISKS][2]; } first;
+struct told { uint64_t status[6], places[BLOCKS][2], owners[STRIPES][DISKS][2]; } first;
 
 static void ask(struct told *told)
 {
     uint64_t *s = told->status;
-    done(pbm_status(record, PBM_RECORD_LEN, s, s + 1, s + 2, s + 3, s + 4));
+    done(pbm_status(record, PBM_RECORD_LEN, s, s + 1, s + 2, s + 3, s + 4, s + 5));
     for (int b = 0; b < BLOCKS; b++) done(pbm_locate(record, PBM_RECORD_LEN, b, &told->places[b][0], &told->places[b][1]));
     for (int i = 0; i < STRIPES; i++)
         for (int d = 0; d < DISKS; d++)
@@ -96,6 +97,18 @@ static void write_blocks(uint64_t first, uint64_t end, int disks)
     }
 }
 
+/* With disk d of this health: it is protected from this stripe on. */
+static void readers_without(const char *when, int health, int d, int first)
+{
+    uint8_t *absent = images + d * DISK + first * BLOCK;
+    allow(record, BLOCK, PROT_READ | PROT_WRITE);
+    record[PBM_AT_HEALTH] = (uint8_t)health, record[PBM_AT_OUT] = (uint8_t)d, record[PBM_AT_REBUILT] = (uint8_t)first;
+    allow(record, BLOCK, PROT_READ);
+    allow(absent, DISK - first * BLOCK, PROT_NONE);
+    readers(when);
+    allow(absent, DISK - first * BLOCK, PROT_READ);
+}
+
 int main(void)
 {
     uint64_t made;
@@ -111,12 +124,8 @@ int main(void)
     readers("whole, in the middle of a growth");
 
     for (int d = 0; d < DISKS; d++) {
-        allow(record, BLOCK, PROT_READ | PROT_WRITE);
-        record[PBM_AT_HEALTH] = PBM_HEALTH_OUT, record[PBM_AT_OUT] = (uint8_t)d;
-        allow(record, BLOCK, PROT_READ);
-        allow(images + d * DISK, DISK, PROT_NONE);
-        readers("a disk out");
-        allow(images + d * DISK, DISK, PROT_READ);
+        readers_without("a disk out", PBM_HEALTH_OUT, d, 0);
+        readers_without("a disk being rebuilt", PBM_HEALTH_REBUILDING, d, REBUILT);
     }
     return 0;
 }

@@ -17,7 +17,7 @@
 enum { STACK = 16384, PAGE = 4096, OLD = 16, NEW = 16, BLOCK = 4095, STRIPES = OLD * (OLD + NEW), PAINT = 0xA5 };
 
 static uint8_t record[PBM_RECORD_LEN], *images, *stack, block[BLOCK];
-static uint64_t images_len, numbers[5];
+static uint64_t images_len, numbers[6];
 static ucontext_t caller, callee;
 static uint8_t answer;
 
@@ -33,10 +33,14 @@ static void set(int n, int m, int health, int out)
 {
     record[PBM_AT_N] = (uint8_t)n, record[PBM_AT_M] = (uint8_t)m;
     record[PBM_AT_HEALTH] = (uint8_t)health, record[PBM_AT_OUT] = (uint8_t)out;
+    record[PBM_AT_REBUILT] = record[PBM_AT_REBUILT + 1] = 0;
     record[PBM_AT_BLOCK_LEN] = BLOCK & 255, record[PBM_AT_BLOCK_LEN + 1] = BLOCK >> 8;
     record[PBM_AT_STRIPES] = STRIPES & 255, record[PBM_AT_STRIPES + 1] = STRIPES >> 8;
     images_len = pbm_images_len_by(record, 0);
 }
+
+/* n + m, the disk that is being rebuilt, its stripes done */
+static void set_rebuilding(int disk, int done) { set(OLD, NEW, PBM_HEALTH_REBUILDING, disk); record[PBM_AT_REBUILT] = (uint8_t)done; }
 
 /* Each sets the array that it wants, and calls. Block 0 of the array stands on disk 15, the parity of its stripe on disk 0. */
 static void format(void) { set(OLD, 0, 0, 0); answer = pbm_format(record, sizeof record, images, images_len, OLD, BLOCK, STRIPES); }
@@ -48,12 +52,18 @@ static void write_parity_out(void) { set(OLD, NEW, 1, 0); answer = pbm_write(rec
 static void grow(void) { set(OLD, 0, 0, 0); answer = pbm_grow(record, sizeof record, images, pbm_images_len_by(record, NEW), NEW); }
 static void advance(void) { set(OLD, NEW, 0, 0); answer = pbm_advance(record, sizeof record, images, images_len, 500, numbers); }
 static void out(void) { set(OLD, NEW, 0, 0); answer = pbm_out(record, sizeof record, 31); }
-static void rebuild(void) { set(OLD, NEW, 1, 15); answer = pbm_rebuild(record, sizeof record, images, images_len, 15); }
+static void begin(void) { set(OLD, NEW, 1, 15); answer = pbm_begin(record, sizeof record, images, images_len, 15); }
+static void continue_all(void) { set_rebuilding(15, 0); answer = pbm_continue(record, sizeof record, images, images_len, STRIPES, numbers); }
+static void continue_part(void) { set_rebuilding(15, 7); answer = pbm_continue(record, sizeof record, images, images_len, 300, numbers); }
+static void read_done(void) { set_rebuilding(15, 1); answer = pbm_read(record, sizeof record, images, images_len, 0, block, BLOCK); }
+static void read_undone(void) { set_rebuilding(15, 0); answer = pbm_read(record, sizeof record, images, images_len, 0, block, BLOCK); }
+static void write_done(void) { set_rebuilding(15, 1); answer = pbm_write(record, sizeof record, images, images_len, 0, block, BLOCK); }
+static void write_undone(void) { set_rebuilding(15, 0); answer = pbm_write(record, sizeof record, images, images_len, 0, block, BLOCK); }
 static void status(void)
 {
     uint64_t *x = numbers;
     set(OLD, NEW, 0, 0);
-    answer = pbm_status(record, sizeof record, x, x + 1, x + 2, x + 3, x + 4);
+    answer = pbm_status(record, sizeof record, x, x + 1, x + 2, x + 3, x + 4, x + 5);
 }
 static void locate(void) { set(OLD, NEW, 0, 0); answer = pbm_locate(record, sizeof record, 7, numbers, numbers + 1); }
 static void owner(void) { set(OLD, NEW, 0, 0); answer = pbm_owner(record, sizeof record, 7, 3, numbers, numbers + 1); }
@@ -120,7 +130,13 @@ int main(void)
     tell("grow", grow);
     tell("advance", advance);
     tell("out", out);
-    tell("rebuild", rebuild);
+    tell("begin", begin);
+    tell("continue", continue_all);
+    tell("continue, a part", continue_part);
+    tell("read, its stripe rebuilt", read_done);
+    tell("read, its stripe not rebuilt", read_undone);
+    tell("write, its stripe rebuilt", write_done);
+    tell("write, its stripe not rebuilt", write_undone);
     tell("status", status);
     tell("locate", locate);
     tell("owner", owner);

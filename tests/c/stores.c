@@ -1,8 +1,8 @@
 /*
  * Calls for a memory trace: tests/tests/stores.rs runs this under valgrind's lackey, which tells every load and store. Each argument
- * is `w` or `r`, a record of 32 hexadecimal digits, a colon and a number: write the block of that number, or rebuild the disk. Just
- * before a call `begin` is stored to, just behind it `end`. Prints where these, record and images stand, and where the stack of the
- * calls ends.
+ * is `w` or `c`, a record of 40 hexadecimal digits, a colon and a number: write the block of that number, or continue a rebuild by so
+ * many stripes. Just before a call `begin` is stored to, just behind it `end`. Prints where these stand, and what is lent, and where
+ * the stack of the calls ends.
  */
 #include "pbm.h"
 
@@ -14,6 +14,7 @@ enum { BLOCK = 4096, MOST = 8 * 41 * BLOCK };
 
 /* Zeroes are an array after any number of moves. */
 static uint8_t record[PBM_RECORD_LEN], images[MOST], data[BLOCK];
+static uint64_t made;
 static volatile uint8_t begin, end, helped;
 
 /*
@@ -50,7 +51,7 @@ static uint8_t call(char name, uint64_t of)
     if (images_len > sizeof images) exit(2);
     begin = 1;
     if (name == 'w') answer = pbm_write(record, sizeof record, images, images_len, of, data, data_len);
-    else answer = pbm_rebuild(record, sizeof record, images, images_len, of);
+    else answer = pbm_continue(record, sizeof record, images, images_len, of, &made);
     end = 1;
     return answer;
 }
@@ -62,7 +63,7 @@ int main(int count, char **arguments)
     int i;
     size_t j;
     tell("begin", &begin), tell("end", &end);
-    tell("record", record), tell("images", images), tell("helped", &helped);
+    tell("record", record), tell("images", images), tell("made", &made), tell("helped", &helped);
     tell("stack", __builtin_frame_address(0));
     for (i = 1; i < count; i++) {
         const char *argument = arguments[i], *colon = strchr(argument, ':');

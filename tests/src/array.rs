@@ -47,6 +47,19 @@ impl Array {
         self.call(Call::Advance { k })
     }
 
+    pub fn out(&mut self, disk: u64) -> Answer {
+        self.call(Call::Out { disk })
+    }
+
+    pub fn begin(&mut self, disk: u64) -> Answer {
+        self.call(Call::Begin { disk })
+    }
+
+    /// Continue, which is a word of Rust.
+    pub fn proceed(&mut self, k: u64) -> Answer {
+        self.call(Call::Continue { k })
+    }
+
     pub fn locate(&mut self, block: u64) -> Answer {
         self.call(Call::Locate { block })
     }

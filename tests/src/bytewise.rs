@@ -1,5 +1,5 @@
-//! What an accepted call answers and leaves, byte for byte as "Calls" of document 01 says it, on any bytes: here nothing rests
-//! on stripes that are sound.
+//! What an accepted call answers and leaves, byte for byte as "Calls" of document 01 and request (d) of document 02 say it, on any
+//! bytes: here nothing rests on stripes that are sound.
 
 use crate::flat::owned;
 use crate::images::{disk, place, xor};
@@ -47,17 +47,21 @@ impl Bytewise {
                 answer = Answer::done(&[made]);
             }
             Call::Out { disk } => {
-                left.health = match record.health {
-                    Health::Whole => Health::Out(disk),
-                    _ => Health::Lost,
+                let is_another = match record.health {
+                    Health::Whole => false,
+                    Health::Rebuilding { disk: first, .. } => first != disk,
+                    _ => true,
+                };
+                left.health = match is_another {
+                    true => Health::Lost,
+                    false => Health::Out(disk),
                 }
             }
-            Call::Rebuild { disk } => {
-                for stripe in 0..record.stripes {
-                    let sum = others(images, &record, stripe, disk);
-                    images[place(&record, stripe, disk)].copy_from_slice(&sum);
-                }
-                left.health = Health::Whole;
+            Call::Begin { disk } => left.health = Health::Rebuilding { disk, done: 0 },
+            Call::Continue { k } => {
+                let made = make_stripes(images, &record, k);
+                left.health = behind(&record, made);
+                answer = Answer::done(&[made]);
             }
             Call::Status => answer = status(&record),
             Call::Locate { block } => {
@@ -96,9 +100,9 @@ fn others(images: &[u8], record: &Record, stripe: u64, disk: u64) -> Vec<u8> {
 
 /// "An out disk is never read: its place counts as the xor of the stripe's other places."
 fn seen(images: &[u8], record: &Record, stripe: u64, disk: u64) -> Vec<u8> {
-    match record.health {
-        Health::Out(out) if out == disk => others(images, record, stripe, disk),
-        _ => images[place(record, stripe, disk)].to_vec(),
+    match record.health.is_out(stripe, disk) {
+        true => others(images, record, stripe, disk),
+        false => images[place(record, stripe, disk)].to_vec(),
     }
 }
 
@@ -111,7 +115,7 @@ fn write(images: &mut [u8], record: &Record, layout: &Layout, number: u64, data:
     xor(&mut parity, &seen(images, record, stripe, disk));
     xor(&mut parity, data);
     for (disk, bytes) in [(disk, data), (parity_disk, &parity)] {
-        if record.health != Health::Out(disk) {
+        if !record.health.is_out(stripe, disk) {
             images[place(record, stripe, disk)].copy_from_slice(bytes);
         }
     }
@@ -134,8 +138,37 @@ fn make_moves(images: &mut [u8], record: &Record, k: u64) -> u64 {
     made
 }
 
-/// "capacity, t, total, health", and the disk that is out, as the record has it.
+/// "does stripes in rising order until k are done or none is left": how many.
+fn make_stripes(images: &mut [u8], record: &Record, k: u64) -> u64 {
+    let [_, disk, done] = record.health.numbers();
+    let mut made = 0;
+    for stripe in done..record.stripes {
+        if made == k {
+            break;
+        }
+        let sum = others(images, record, stripe, disk);
+        images[place(record, stripe, disk)].copy_from_slice(&sum);
+        made += 1;
+    }
+    made
+}
+
+/// The health with so many stripes more. "At T health is whole."
+fn behind(record: &Record, made: u64) -> Health {
+    let [_, disk, done] = record.health.numbers();
+    match record.stripes - done - made {
+        0 => Health::Whole,
+        _ => Health::Rebuilding {
+            disk,
+            done: done + made,
+        },
+    }
+}
+
+/// "capacity, t, total, health", the disk that is out or being rebuilt, and the stripes of it that are done, as the record has
+/// them.
 fn status(record: &Record) -> Answer {
-    let (health, out) = record.health.numbers();
-    Answer::done(&[record.capacity(), record.moves, record.total(), health, out])
+    let [health, out, rebuilt] = record.health.numbers();
+    let (capacity, total) = (record.capacity(), record.total());
+    Answer::done(&[capacity, record.moves, total, health, out, rebuilt])
 }

@@ -1,6 +1,7 @@
 //! A caller that errs: draws shapes, calls and lengths, mostly right ones, at random.
 
 use crate::flat::Flat;
+use crate::layout::Owner;
 use crate::pbm::{Bytes, Call, NAMES};
 use crate::random::Random;
 use crate::record::{tails, Health, Record, RECORD_LEN};
@@ -12,16 +13,17 @@ pub struct Caller {
     /// Numbers that calls were given before.
     old: Vec<u64>,
     /// The blocks of the last writes.
-    written: [u64; 8],
+    written: [u64; 24],
 }
 
-/// How often each call of `NAMES` is drawn: format, read, write, grow, advance, out, rebuild, status, locate, owner.
+/// How often each call of `NAMES` is drawn: format, read, write, grow, advance, out, begin, continue, status, locate, owner.
 type Weights = [u64; NAMES.len()];
-const HOME: Weights = [1, 15, 20, 12, 4, 4, 2, 2, 5, 5];
-const GROWING: Weights = [1, 20, 25, 2, 25, 4, 2, 2, 6, 6];
-const GROWN: Weights = [3, 30, 30, 2, 3, 5, 2, 2, 8, 8];
-const DEGRADED: Weights = [1, 30, 30, 3, 4, 3, 20, 2, 6, 6];
-const LOST: Weights = [12, 4, 4, 4, 4, 4, 4, 4, 4, 4];
+const HOME: Weights = [1, 15, 20, 12, 4, 4, 1, 1, 2, 5, 5];
+const GROWING: Weights = [1, 20, 25, 2, 25, 4, 1, 1, 2, 6, 6];
+const GROWN: Weights = [3, 30, 30, 2, 3, 5, 1, 1, 2, 8, 8];
+const DEGRADED: Weights = [1, 30, 30, 3, 4, 3, 20, 1, 2, 6, 6];
+const REBUILDING: Weights = [1, 30, 30, 3, 4, 4, 2, 16, 2, 6, 6];
+const LOST: Weights = [12, 4, 4, 4, 4, 4, 2, 2, 4, 4, 4];
 
 /// The images of most shapes, grown, have at most so many bytes.
 const SMALL: u64 = 1 << 15;
@@ -34,7 +36,7 @@ impl Caller {
             random,
             planned: 1,
             old: vec![0],
-            written: [0; 8],
+            written: [0; 24],
         }
     }
 
@@ -89,13 +91,16 @@ impl Caller {
                 k: self.budget(&numbers),
             },
             5 => Call::Out {
-                disk: self.disk(&numbers),
+                disk: self.disk_to_lose(&numbers),
             },
-            6 => Call::Rebuild {
+            6 => Call::Begin {
                 disk: self.disk_to_rebuild(&numbers),
             },
-            7 => Call::Status,
-            8 => Call::Locate {
+            7 => Call::Continue {
+                k: self.stripes_to_rebuild(&numbers),
+            },
+            8 => Call::Status,
+            9 => Call::Locate {
                 block: self.block(flat),
             },
             _ => Call::Owner {
@@ -167,6 +172,31 @@ impl Caller {
     }
 
     fn block(&mut self, flat: &Flat) -> u64 {
+        match flat.numbers.health {
+            Health::Rebuilding { .. } if self.random.one_in(3) => self.block_at_the_count(flat),
+            _ => self.any_block(flat),
+        }
+    }
+
+    /// A block of the stripe done last or of the next one, mostly that of the disk being rebuilt.
+    fn block_at_the_count(&mut self, flat: &Flat) -> u64 {
+        let [_, disk, done] = flat.numbers.health.numbers();
+        let stripe = (done + self.random.below(2)).saturating_sub(1);
+        let disk = match self.random.one_in(4) {
+            true => self.random.below(flat.numbers.disks()),
+            false => disk,
+        };
+        match flat.layout.owner(stripe, disk) {
+            Owner::Data(block) => block,
+            // one whose parity stands there, or that has no more to do with the disk than its stripe
+            Owner::Parity | Owner::Blank => {
+                let in_stripe = flat.numbers.n - 1;
+                stripe * in_stripe + self.random.below(in_stripe)
+            }
+        }
+    }
+
+    fn any_block(&mut self, flat: &Flat) -> u64 {
         let Record { n, m, stripes, .. } = flat.numbers;
         let (capacity, old_capacity) = (flat.capacity(), flat.numbers.old_capacity());
         match self.random.below(16) {
@@ -215,10 +245,32 @@ impl Caller {
         self.below_or_odd(numbers.disks())
     }
 
+    /// Of one that is being rebuilt mostly the same disk again.
+    fn disk_to_lose(&mut self, numbers: &Record) -> u64 {
+        match numbers.health {
+            Health::Rebuilding { disk, .. } if !self.random.one_in(4) => disk,
+            _ => self.disk(numbers),
+        }
+    }
+
     fn disk_to_rebuild(&mut self, numbers: &Record) -> u64 {
         match numbers.health {
             Health::Out(disk) if !self.random.one_in(5) => disk,
+            Health::Rebuilding { disk, .. } if self.random.one_in(2) => disk,
             _ => self.disk(numbers),
+        }
+    }
+
+    fn stripes_to_rebuild(&mut self, numbers: &Record) -> u64 {
+        let [_, _, done] = numbers.health.numbers();
+        let left = numbers.stripes - done;
+        match self.random.below(12) {
+            0..=2 => self.random.below(4),
+            3 | 4 => self.random.below(numbers.stripes / 4 + 2),
+            5 | 6 => self.random.below(left),
+            // up to one of the last stripes, where a tail is, or to the end
+            7..=9 => left - self.random.below(left.min(2 * numbers.n)),
+            _ => self.odd(left),
         }
     }
 
@@ -322,6 +374,7 @@ fn weights(numbers: &Record) -> &'static Weights {
     match numbers.health {
         Health::Lost => &LOST,
         Health::Out(_) => &DEGRADED,
+        Health::Rebuilding { .. } => &REBUILDING,
         Health::Whole if numbers.m == 0 => &HOME,
         Health::Whole if numbers.is_grown() => &GROWN,
         Health::Whole => &GROWING,

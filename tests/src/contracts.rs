@@ -218,7 +218,7 @@ pub const RECORDS: &[(&str, &[usize])] = &[("Stored", &[3, 4])];
 /// open.
 const MADE: &[(&str, &[&str])] = &[
     ("Changed", &["changedAnswer", "changedRecord"]),
-    ("Advanced", &["advancedAnswer", "advancedRecord"]),
+    ("Counted", &["countedAnswer", "countedRecord"]),
     ("Report", &["reportAnswer"]),
     ("Located", &["locatedAnswer"]),
     ("Owned", &["ownedAnswer"]),

@@ -73,10 +73,12 @@ impl Flat {
             Call::Out { disk } => {
                 numbers.health = match numbers.health {
                     Health::Whole => Health::Out(disk),
+                    Health::Rebuilding { disk: same, .. } if same == disk => Health::Out(disk),
                     _ => Health::Lost,
                 }
             }
-            Call::Rebuild { .. } => numbers.health = Health::Whole,
+            Call::Begin { disk } => numbers.health = Health::Rebuilding { disk, done: 0 },
+            Call::Continue { k } => return self.rebuild(k),
             Call::Status => return self.status(),
             Call::Locate { block } => {
                 let (stripe, disk) = self.layout.place(block);
@@ -85,6 +87,20 @@ impl Flat {
             Call::Owner { stripe, disk } => return owned(self.layout.owner(stripe, disk)),
         }
         Answer::done(&[])
+    }
+
+    /// By k stripes more, or by those that are left. "At T health is whole."
+    fn rebuild(&mut self, k: u64) -> Answer {
+        let Record { stripes, .. } = self.numbers;
+        let Health::Rebuilding { disk, done } = self.numbers.health else {
+            unreachable!("refused, 10")
+        };
+        let made = k.min(stripes - done);
+        self.numbers.health = match done + made {
+            done if done == stripes => Health::Whole,
+            done => Health::Rebuilding { disk, done },
+        };
+        Answer::done(&[made])
     }
 
     /// "The flat list lengthens by just these zero blocks as they come, at grow itself where the total is 0": behind each of the
@@ -109,9 +125,9 @@ impl Flat {
     }
 
     fn status(&self) -> Answer {
-        let (health, out) = self.numbers.health.numbers();
-        let total = self.layout.total();
-        Answer::done(&[self.capacity(), self.numbers.moves, total, health, out])
+        let [health, out, rebuilt] = self.numbers.health.numbers();
+        let (capacity, total) = (self.capacity(), self.layout.total());
+        Answer::done(&[capacity, self.numbers.moves, total, health, out, rebuilt])
     }
 }
 

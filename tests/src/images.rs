@@ -2,7 +2,7 @@
 
 use crate::flat::Flat;
 use crate::layout::{Layout, Owner};
-use crate::record::{Health, Record};
+use crate::record::Record;
 use std::ops::Range;
 
 /// The bytes of place (stripe, disk).
@@ -13,8 +13,13 @@ pub fn place(record: &Record, stripe: u64, disk: u64) -> Range<usize> {
 
 /// The bytes of a disk.
 pub fn disk(record: &Record, disk: u64) -> Range<usize> {
-    let len = (record.stripes * record.block_len) as usize;
-    disk as usize * len..(disk as usize + 1) * len
+    part(record, disk, 0..record.stripes)
+}
+
+/// The bytes of these stripes of a disk.
+pub fn part(record: &Record, disk: u64, stripes: Range<u64>) -> Range<usize> {
+    let start = place(record, stripes.start, disk).start;
+    start..start + (stripes.end - stripes.start) as usize * record.block_len as usize
 }
 
 pub fn xor(into: &mut [u8], from: &[u8]) {
@@ -60,25 +65,23 @@ pub fn parity_values(images: &[u8], record: &Record, layout: &Layout) -> Vec<u8>
 }
 
 /// "A stripe is sound if its N places xor to zero and its blanks are zero", for all stripes, "the out disk taken as the xor
-/// of the others".
+/// of the others", where it counts as out.
 pub fn are_sound(images: &[u8], record: &Record, layout: &Layout) -> bool {
-    let mut sum = vec![0; disk(record, 0).len()];
-    let out = match record.health {
-        Health::Out(disk) => Some(disk),
-        _ => None,
-    };
-    for d in (0..record.disks()).filter(|&d| Some(d) != out) {
-        xor(&mut sum, &images[disk(record, d)]);
-    }
-    let seen = |stripe: u64, d: u64| match out == Some(d) {
-        true => &sum[place(record, stripe, 0)],
-        false => &images[place(record, stripe, d)],
-    };
     let zero = |bytes: &[u8]| bytes.iter().all(|&b| b == 0);
-    let blanks_zero = (0..record.stripes).all(|stripe| {
-        (0..record.disks())
+    let mut sum = vec![0; record.block_len as usize];
+    (0..record.stripes).all(|stripe| {
+        let is_out = |d: u64| record.health.is_out(stripe, d);
+        sum.fill(0);
+        for d in (0..record.disks()).filter(|&d| !is_out(d)) {
+            xor(&mut sum, &images[place(record, stripe, d)]);
+        }
+        let seen = |d: u64| match is_out(d) {
+            true => &sum[..],
+            false => &images[place(record, stripe, d)],
+        };
+        let blanks_zero = (0..record.disks())
             .filter(|&d| layout.owner(stripe, d) == Owner::Blank)
-            .all(|d| zero(seen(stripe, d)))
-    });
-    (out.is_some() || zero(&sum)) && blanks_zero
+            .all(|d| zero(seen(d)));
+        ((0..record.disks()).any(is_out) || zero(&sum)) && blanks_zero
+    })
 }

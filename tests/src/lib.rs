@@ -1,4 +1,4 @@
-//! What the proved crates are held to when they are run: models written from document 01 and from requests (a) and (b)
+//! What the proved crates are held to when they are run: models written from document 01 and from requests (a), (b) and (d)
 //! of document 02, that share no code and no formula with them, and the little that the tests need to run a program, to lend memory
 //! and to draw random numbers.
 
@@ -17,6 +17,7 @@ pub mod memory;
 pub mod mentions;
 pub mod moves;
 pub mod out;
+pub mod outage;
 pub mod pbm;
 pub mod program;
 pub mod random;
@@ -24,4 +25,5 @@ pub mod reach;
 pub mod record;
 pub mod statements;
 pub mod table;
+pub mod tally;
 pub mod trace;

@@ -53,8 +53,8 @@ pub struct Guarded {
     len: usize,
     access: Access,
     sealed: bool,
-    /// A part of it, of whole pages, that may not be touched.
-    closed: Range<usize>,
+    /// Parts of it, of whole pages, to which no more access than this is given.
+    limited: Vec<(Range<usize>, Access)>,
 }
 
 #[derive(Clone, Copy, PartialEq, Eq)]
@@ -107,29 +107,40 @@ impl Guarded {
             len: 0,
             access: Access::None,
             sealed: false,
-            closed: 0..0,
+            limited: Vec::new(),
         }
     }
 
     /// From now on no byte of this part may be read or written, until `open`. It keeps what it holds.
     pub fn close(&mut self, part: Range<usize>) {
-        let start = self.start() as usize + part.start;
-        assert!(part.end <= self.len, "a part of it");
-        assert_eq!((start % PAGE, part.len() % PAGE), (0, 0), "whole pages");
-        self.closed = part;
-        self.protect_closed();
+        self.limit(part, Access::None);
+    }
+
+    /// From now on no byte of this part may be written, until `open`.
+    pub fn keep(&mut self, part: Range<usize>) {
+        self.limit(part, Access::Read);
     }
 
     pub fn open(&mut self) {
-        self.closed = 0..0;
+        self.limited.clear();
         self.access = Access::None;
         self.allow(Access::Write);
     }
 
-    fn protect_closed(&self) {
-        let start = self.start().wrapping_add(self.closed.start);
-        // SAFETY: the room's own pages; who touches them ends the run.
-        let changed = unsafe { mprotect(start.cast(), self.closed.len(), PROT_NONE) };
+    fn limit(&mut self, part: Range<usize>, most: Access) {
+        let start = self.start() as usize + part.start;
+        assert!(part.end <= self.len, "a part of it");
+        assert_eq!((start % PAGE, part.len() % PAGE), (0, 0), "whole pages");
+        if !part.is_empty() {
+            self.protect(part.clone(), most);
+            self.limited.push((part, most));
+        }
+    }
+
+    fn protect(&self, part: Range<usize>, access: Access) {
+        let start = self.start().wrapping_add(part.start);
+        // SAFETY: the room's own pages; who touches them as he may not ends the run.
+        let changed = unsafe { mprotect(start.cast(), part.len(), access as c_int) };
         assert_eq!(changed, 0, "mprotect");
     }
 
@@ -139,8 +150,8 @@ impl Guarded {
             let changed = unsafe { mprotect(self.room.cast(), self.room_len, access as c_int) };
             assert_eq!(changed, 0, "mprotect");
             self.access = access;
-            if !self.closed.is_empty() {
-                self.protect_closed();
+            for (part, most) in &self.limited {
+                self.protect(part.clone(), *most);
             }
         }
     }

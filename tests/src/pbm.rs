@@ -1,4 +1,4 @@
-//! The ten calls of include/pbm.h, on memory that is lent to them.
+//! The eleven calls of include/pbm.h, on memory that is lent to them.
 
 use crate::memory::{Guarded, Memory, Side};
 
@@ -25,8 +25,11 @@ pub enum Call {
     Out {
         disk: u64,
     },
-    Rebuild {
+    Begin {
         disk: u64,
+    },
+    Continue {
+        k: u64,
     },
     Status,
     Locate {
@@ -39,9 +42,19 @@ pub enum Call {
 }
 
 /// The calls in the order of include/pbm.h.
-pub const NAMES: [&str; 10] = [
-    "format", "read", "write", "grow", "advance", "out", "rebuild", "status", "locate", "owner",
+pub const NAMES: [&str; 11] = [
+    "format", "read", "write", "grow", "advance", "out", "begin", "continue", "status", "locate",
+    "owner",
 ];
+
+/// The name of a call's function in `array` and `lent`: `continue` is a word of the language.
+pub fn in_rattle(name: &str) -> &str {
+    match name {
+        "begin" => "begin_rebuild",
+        "continue" => "continue_rebuild",
+        _ => name,
+    }
+}
 
 impl Call {
     /// Its position in `NAMES`.
@@ -53,10 +66,11 @@ impl Call {
             Call::Grow { .. } => 3,
             Call::Advance { .. } => 4,
             Call::Out { .. } => 5,
-            Call::Rebuild { .. } => 6,
-            Call::Status => 7,
-            Call::Locate { .. } => 8,
-            Call::Owner { .. } => 9,
+            Call::Begin { .. } => 6,
+            Call::Continue { .. } => 7,
+            Call::Status => 8,
+            Call::Locate { .. } => 9,
+            Call::Owner { .. } => 10,
         }
     }
 
@@ -74,18 +88,18 @@ impl Call {
     }
 }
 
-/// What a call returns, and the numbers beside it in the order of include/pbm.h; 0 where a call has fewer than five.
+/// What a call returns, and the numbers beside it in the order of include/pbm.h; 0 where a call has fewer than six.
 #[derive(Clone, Copy, Debug, PartialEq, Eq)]
 pub struct Answer {
     pub number: u8,
-    pub beside: [u64; 5],
+    pub beside: [u64; 6],
 }
 
 impl Answer {
-    pub fn refused(number: u8) -> Answer {
+    pub const fn refused(number: u8) -> Answer {
         Answer {
             number,
-            beside: [0; 5],
+            beside: [0; 6],
         }
     }
 
@@ -137,20 +151,20 @@ impl<M: Memory> Loan<M> {
     }
 
     pub fn call(&mut self, call: Call) -> Answer {
-        let mut beside = [UNSET; 5];
+        let mut beside = [UNSET; 6];
         let (number, answers) = self.enter(call, &mut beside);
         beside[answers..].fill(0);
         Answer { number, beside }
     }
 
     /// Enters the library; its answer, and how many numbers stand beside it.
-    fn enter(&mut self, call: Call, beside: &mut [u64; 5]) -> (u8, usize) {
+    fn enter(&mut self, call: Call, beside: &mut [u64; 6]) -> (u8, usize) {
         let Loan {
             record,
             images,
             block: room,
         } = self;
-        let [a, b, c, d, e] = beside;
+        let [a, b, c, d, e, f] = beside;
         // SAFETY: pointers and lengths are those of slices that are borrowed as the header asks, mutably where it writes.
         unsafe {
             match call {
@@ -196,14 +210,20 @@ impl<M: Memory> Loan<M> {
                     let record = record.exclusive();
                     (pbm_out(record.as_mut_ptr(), record.len(), disk), 0)
                 }
-                Call::Rebuild { disk } => {
+                Call::Begin { disk } => {
+                    let (record, images) = (record.exclusive(), images.shared());
+                    let (r, x) = (record.as_mut_ptr(), images.as_ptr());
+                    (pbm_begin(r, record.len(), x, images.len(), disk), 0)
+                }
+                Call::Continue { k } => {
                     let (record, images) = (record.exclusive(), images.exclusive());
                     let (r, x) = (record.as_mut_ptr(), images.as_mut_ptr());
-                    (pbm_rebuild(r, record.len(), x, images.len(), disk), 0)
+                    (pbm_continue(r, record.len(), x, images.len(), k, a), 1)
                 }
                 Call::Status => {
                     let record = record.shared();
-                    (pbm_status(record.as_ptr(), record.len(), a, b, c, d, e), 5)
+                    let (r, len) = (record.as_ptr(), record.len());
+                    (pbm_status(r, len, a, b, c, d, e, f), 6)
                 }
                 Call::Locate { block } => {
                     let record = record.shared();
@@ -265,12 +285,20 @@ extern "C" {
         made: *mut u64,
     ) -> u8;
     fn pbm_out(record: *mut u8, record_len: usize, disk: u64) -> u8;
-    fn pbm_rebuild(
+    fn pbm_begin(
+        record: *mut u8,
+        record_len: usize,
+        images: *const u8,
+        images_len: usize,
+        disk: u64,
+    ) -> u8;
+    fn pbm_continue(
         record: *mut u8,
         record_len: usize,
         images: *mut u8,
         images_len: usize,
-        disk: u64,
+        k: u64,
+        made: *mut u64,
     ) -> u8;
     fn pbm_status(
         record: *const u8,
@@ -280,6 +308,7 @@ extern "C" {
         total: *mut u64,
         health: *mut u64,
         out_disk: *mut u64,
+        rebuilt: *mut u64,
     ) -> u8;
     fn pbm_locate(
         record: *const u8,

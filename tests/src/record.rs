@@ -1,10 +1,10 @@
-//! The record of document 01, with requests (a) and (b) of document 02: its fields, its bytes, when it is good, and the numbers
-//! that follow from it.
+//! The record of document 01, with requests (a), (b) and (d) of document 02: its fields, its bytes, when it is good, and the
+//! numbers that follow from it.
 
 use std::ops::Range;
 
 /// How many bytes it has.
-pub const RECORD_LEN: usize = 16;
+pub const RECORD_LEN: usize = 20;
 
 /// The bytes of each field, the least one first.
 pub mod at {
@@ -19,6 +19,7 @@ pub mod at {
     pub const ZERO: Range<usize> = 6..8;
     pub const STRIPES: Range<usize> = 8..12;
     pub const MOVES: Range<usize> = 12..16;
+    pub const REBUILT: Range<usize> = 16..20;
 }
 
 pub fn field(bytes: &[u8], at: Range<usize>) -> u64 {
@@ -37,15 +38,30 @@ pub enum Health {
     Whole,
     Out(u64),
     Lost,
+    /// A disk, and how many of its stripes are done.
+    Rebuilding {
+        disk: u64,
+        done: u64,
+    },
 }
 
 impl Health {
-    /// Its number, and the disk that is out, or 0.
-    pub fn numbers(self) -> (u64, u64) {
+    /// Its number, the disk that is out or being rebuilt, and the stripes of it that are done; 0 where there is none.
+    pub fn numbers(self) -> [u64; 3] {
         match self {
-            Health::Whole => (0, 0),
-            Health::Out(disk) => (1, disk),
-            Health::Lost => (2, 0),
+            Health::Whole => [0, 0, 0],
+            Health::Out(disk) => [1, disk, 0],
+            Health::Lost => [2, 0, 0],
+            Health::Rebuilding { disk, done } => [3, disk, done],
+        }
+    }
+
+    /// Whether the disk counts as out in this stripe. "Stripes below the count use the disk as in service, others count it out"
+    pub fn is_out(self, stripe: u64, disk: u64) -> bool {
+        match self {
+            Health::Out(out) => out == disk,
+            Health::Rebuilding { disk: out, done } => out == disk && stripe >= done,
+            Health::Whole | Health::Lost => false,
         }
     }
 }
@@ -97,7 +113,7 @@ impl Record {
     }
 
     pub fn bytes(&self) -> [u8; RECORD_LEN] {
-        let (health, out) = self.health.numbers();
+        let [health, out, rebuilt] = self.health.numbers();
         let mut bytes = [0; RECORD_LEN];
         for (at, value) in [
             (at::N, self.n),
@@ -107,13 +123,14 @@ impl Record {
             (at::BLOCK_LEN, self.block_len),
             (at::STRIPES, self.stripes),
             (at::MOVES, self.moves),
+            (at::REBUILT, rebuilt),
         ] {
             set_field(&mut bytes, at, value);
         }
         bytes
     }
 
-    /// The fields as the bytes have them, good or not; a health above 2 is read as lost.
+    /// The fields as the bytes have them, good or not; a health above 3 is read as lost.
     pub fn of(bytes: [u8; RECORD_LEN]) -> Record {
         let field = |at| field(&bytes, at);
         Record {
@@ -122,6 +139,10 @@ impl Record {
             health: match field(at::HEALTH) {
                 0 => Health::Whole,
                 1 => Health::Out(field(at::OUT)),
+                3 => Health::Rebuilding {
+                    disk: field(at::OUT),
+                    done: field(at::REBUILT),
+                },
                 _ => Health::Lost,
             },
             block_len: field(at::BLOCK_LEN),
@@ -182,7 +203,8 @@ pub fn tails(n: u64, m: u64) -> [u64; 5] {
 
 /// "A record is good exactly if ..", read off its bytes.
 pub fn good(bytes: [u8; RECORD_LEN]) -> bool {
-    let [health, out, zero] = [at::HEALTH, at::OUT, at::ZERO].map(|at| field(&bytes, at));
+    let [health, out, zero, rebuilt] =
+        [at::HEALTH, at::OUT, at::ZERO, at::REBUILT].map(|at| field(&bytes, at));
     let record = Record::of(bytes);
     let Record {
         n,
@@ -194,10 +216,17 @@ pub fn good(bytes: [u8; RECORD_LEN]) -> bool {
     } = record;
     let limits = (3..=16).contains(&n)
         && m <= 16
-        && health <= 2
+        && health <= 3
         && (1..=4096).contains(&block_len)
         && zero == 0
         && (1..=1_048_576).contains(&stripes);
-    let out_good = if health == 1 { out < n + m } else { out == 0 };
-    limits && out_good && moves <= record.total() && (m > 0 || moves == 0)
+    let out_good = match health {
+        1 | 3 => out < n + m,
+        _ => out == 0,
+    };
+    let rebuilt_good = match health {
+        3 => rebuilt < stripes,
+        _ => rebuilt == 0,
+    };
+    limits && out_good && rebuilt_good && moves <= record.total() && (m > 0 || moves == 0)
 }

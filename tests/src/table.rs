@@ -1,5 +1,5 @@
 //! Document 01's table of refusals, row by row, 1 and 6 as request (a) of document 02 leaves them, 8 with the capacity of
-//! request (b).
+//! request (b), and with the record, the health and the calls of request (d).
 
 use crate::pbm::Call::{self, *};
 use crate::record::{Health, Record, RECORD_LEN};
@@ -25,7 +25,7 @@ pub fn rows(name: &str) -> &'static [u8] {
         "grow" => &[1, 2, 3, 4, 6, 7],
         "advance" => &[1, 2, 3, 5, 7],
         "out" => &[1, 2, 10],
-        "rebuild" => &[1, 2, 7, 10],
+        "begin" | "continue" => &[1, 2, 7, 10],
         "status" => &[1],
         "locate" => &[1, 8],
         "owner" => &[1, 8, 10],
@@ -35,13 +35,14 @@ pub fn rows(name: &str) -> &'static [u8] {
 
 /// Whether the row's condition holds for this call, whatever those of the rows above say.
 pub fn holds(row: u8, record: &Record, call: Call, lent: &Lent) -> bool {
-    let is_out = matches!(record.health, Health::Out(_));
+    let is_rebuilding = matches!(record.health, Health::Rebuilding { .. });
+    let is_degraded = is_rebuilding || matches!(record.health, Health::Out(_));
     match (row, call) {
         (1, Format { .. }) => lent.record_len != RECORD_LEN,
         (1, _) => lent.record_len != RECORD_LEN || !lent.good,
         (2, Format { .. } | Status | Locate { .. } | Owner { .. }) => false,
         (2, _) => record.health == Health::Lost,
-        (3, Grow { .. } | Advance { .. }) => is_out,
+        (3, Grow { .. } | Advance { .. }) => is_degraded,
         (4, Grow { .. }) => record.m != 0,
         (5, Advance { .. }) => record.m == 0 || record.moves == record.total(),
         (
@@ -69,15 +70,18 @@ pub fn holds(row: u8, record: &Record, call: Call, lent: &Lent) -> bool {
             lent.images_len,
             &[record.n.saturating_add(m), record.stripes, record.block_len],
         ),
-        (7, Read { .. } | Write { .. } | Advance { .. } | Rebuild { .. }) => differs(
-            lent.images_len,
-            &[record.disks(), record.stripes, record.block_len],
-        ),
+        (7, Read { .. } | Write { .. } | Advance { .. } | Begin { .. } | Continue { .. }) => {
+            differs(
+                lent.images_len,
+                &[record.disks(), record.stripes, record.block_len],
+            )
+        }
         (8, Read { block } | Write { block } | Locate { block }) => block >= record.capacity(),
         (8, Owner { stripe, .. }) => stripe >= record.stripes,
         (9, Read { .. } | Write { .. }) => lent.block_len as u64 != record.block_len,
         (10, Out { disk }) => disk >= record.disks() || record.health == Health::Out(disk),
-        (10, Rebuild { disk }) => record.health != Health::Out(disk),
+        (10, Begin { disk }) => record.health != Health::Out(disk),
+        (10, Continue { .. }) => !is_rebuilding,
         (10, Owner { disk, .. }) => disk >= record.disks(),
         _ => false,
     }

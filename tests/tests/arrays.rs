@@ -2,6 +2,7 @@
 //! constant that it names on the way.
 
 use yuzkamide_tests::files::texts;
+use yuzkamide_tests::pbm::in_rattle;
 use yuzkamide_tests::program::target;
 use yuzkamide_tests::reach::{arrays, Item, Sources};
 
@@ -13,7 +14,7 @@ fn sources() -> Sources {
 fn in_all_crates(call: &str) -> [(&str, String); 3] {
     ["array", "lent", "pbm"].map(|in_crate| match in_crate {
         "pbm" => (in_crate, format!("pbm_{call}")),
-        _ => (in_crate, call.to_string()),
+        _ => (in_crate, in_rattle(call).to_string()),
     })
 }
 
@@ -51,7 +52,7 @@ fn reads_and_rebuilds_have_arrays() {
     for (call, array) in [
         ("read", "[0u8; 128] of add_piece in blocks/src/sum.rt"),
         (
-            "rebuild",
+            "continue",
             "[0u8; 4096] of fill_disk_alone in array/src/rebuilding.rt",
         ),
     ] {

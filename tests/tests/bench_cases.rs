@@ -1,19 +1,13 @@
 //! "Drawers on the bench" of document 01, with what requests (a) and (b) of document 02 make of them, through the exported calls;
-//! and the first of them with other stripes, by hand. The cases of the program are in zone_moves.rs.
+//! and the first of them with other stripes, and with a disk that is rebuilt as request (d) has it, by hand. The cases of the
+//! program are in zone_moves.rs.
 
 use yuzkamide_tests::array::Array;
 use yuzkamide_tests::pbm::{Answer, Call};
 
-const PAST_THE_END: Answer = refused(8);
+const PAST_THE_END: Answer = Answer::refused(8);
 const BLANK: [u64; 2] = [0, 0];
 const PARITY: [u64; 2] = [1, 0];
-
-const fn refused(number: u8) -> Answer {
-    Answer {
-        number,
-        beside: [0; 5],
-    }
-}
 
 fn at(stripe: u64, disk: u64) -> Answer {
     Answer::done(&[stripe, disk])
@@ -173,7 +167,7 @@ fn after_17_moves_two_zones_are_done() {
     }
     is_past_the_end(&mut array, 50);
     assert_eq!(array.advance(100), Answer::done(&[1]));
-    assert_eq!(array.advance(100), refused(5));
+    assert_eq!(array.advance(100), Answer::refused(5));
     assert_eq!(array.locate(30), at(0, 3));
     assert_eq!(array.locate(32), at(1, 2));
     assert_eq!(array.locate(50), at(10, 3));
@@ -216,7 +210,7 @@ fn the_sixth_move_finishes_zone_0() {
 }
 
 /// A new block that was written while zone 1 moves is as it was behind the later moves, with its disk out, with another block of
-/// its stripe written meanwhile, and behind the rebuild.
+/// its stripe written meanwhile, in the rebuild and behind it.
 #[test]
 fn a_new_block_is_as_it_was() {
     let mut array = three_and_two(7);
@@ -224,12 +218,16 @@ fn a_new_block_is_as_it_was() {
     array.write(4, b"four");
     for disk in [0, 2] {
         // of block 34, and of its stripe's parity
-        assert_eq!(array.call(Call::Out { disk }), Answer::done(&[]));
+        assert_eq!(array.out(disk), Answer::done(&[]));
         array.0.images[disk as usize * 60..][..60].fill(0xff);
         assert_eq!(array.read(34), b"new!");
         array.write(5, b"five");
         assert_eq!(array.read(34), b"new!");
-        assert_eq!(array.call(Call::Rebuild { disk }), Answer::done(&[]));
+        assert_eq!(array.begin(disk), Answer::done(&[]));
+        for (k, made) in [(2, 2), (1, 1), (100, 12)] {
+            assert_eq!(array.proceed(k), Answer::done(&[made]));
+            assert_eq!(array.read(34), b"new!");
+        }
         assert_eq!(array.0.images[8..12], *b"new!"); // stripe 2 of disk 0
         assert_eq!(array.advance(1), Answer::done(&[1]));
         assert_eq!(array.0.images[8..12], *b"new!");
@@ -237,6 +235,84 @@ fn a_new_block_is_as_it_was() {
     assert_eq!(array.advance(100), Answer::done(&[9]));
     for (block, bytes) in [(34, b"new!"), (35, &[0; 4]), (4, b"four"), (5, b"five")] {
         assert_eq!(array.read(block), bytes);
+    }
+}
+
+/// Request (d), after 7 moves: block 4 is on place (2, 3), and its parity on (2, 2). Stripe 2 is written before it is rebuilt and
+/// behind that, and disk 3 fails again in the middle.
+#[test]
+fn a_rebuild_in_steps() {
+    let place = |stripe: usize, disk: usize| (disk * 15 + stripe) * 4..(disk * 15 + stripe + 1) * 4;
+    let status = |health: &[u64]| Answer::done(&[&[40, 7, 18], health].concat());
+    let mut array = three_and_two(7);
+    array.write(4, b"four");
+    assert_eq!(array.call(Call::Status), status(&[0, 0, 0]));
+    assert_eq!(array.out(3), Answer::done(&[]));
+    assert_eq!(array.call(Call::Status), status(&[1, 3, 0]));
+    assert_eq!(array.proceed(1), Answer::refused(10));
+    assert_eq!(array.begin(3), Answer::done(&[]));
+    assert_eq!(array.call(Call::Status), status(&[3, 3, 0]));
+
+    assert_eq!(array.proceed(2), Answer::done(&[2]));
+    assert_eq!(array.call(Call::Status), status(&[3, 3, 2]));
+    let record = [3, 2, 3, 3, 4, 0, 0, 0, 15, 0, 0, 0, 7, 0, 0, 0, 2, 0, 0, 0];
+    assert_eq!(array.0.record, record);
+    array.0.images[place(2, 3)].fill(0xff);
+    assert_eq!(array.read(4), b"four");
+    array.write(4, b"FOUR");
+    assert_eq!(array.0.images[place(2, 3)], [0xff; 4]);
+    assert_eq!(array.0.images[place(2, 2)], *b"FOUR");
+    assert_eq!(array.read(4), b"FOUR");
+
+    assert_eq!(array.proceed(1), Answer::done(&[1]));
+    assert_eq!(array.0.images[place(2, 3)], *b"FOUR");
+    array.write(4, b"Four");
+    assert_eq!(array.0.images[place(2, 3)], *b"Four");
+    assert_eq!(array.0.images[place(2, 2)], *b"Four");
+    assert_eq!(array.advance(1), Answer::refused(3));
+    for disk in [2, 3] {
+        assert_eq!(array.begin(disk), Answer::refused(10));
+    }
+
+    assert_eq!(array.out(3), Answer::done(&[]));
+    assert_eq!(array.call(Call::Status), status(&[1, 3, 0]));
+    let record = [3, 2, 1, 3, 4, 0, 0, 0, 15, 0, 0, 0, 7, 0, 0, 0, 0, 0, 0, 0];
+    assert_eq!(array.0.record, record);
+    array.0.images[place(2, 3)].fill(0xff);
+    assert_eq!(array.read(4), b"Four");
+    assert_eq!(array.out(3), Answer::refused(10));
+    assert_eq!(array.begin(2), Answer::refused(10));
+    assert_eq!(array.begin(3), Answer::done(&[]));
+    assert_eq!(array.proceed(14), Answer::done(&[14]));
+    assert_eq!(array.call(Call::Status), status(&[3, 3, 14]));
+    assert_eq!(array.proceed(0), Answer::done(&[0]));
+    assert_eq!(array.proceed(100), Answer::done(&[1]));
+    assert_eq!(array.call(Call::Status), status(&[0, 0, 0]));
+    assert_eq!(array.0.images[place(2, 3)], *b"Four");
+    assert_eq!(array.proceed(100), Answer::refused(10));
+    assert_eq!(array.advance(1), Answer::done(&[1]));
+}
+
+/// "Another disk out means lost"
+#[test]
+fn another_disk_out_in_a_rebuild() {
+    for stripes in [0, 14] {
+        let mut array = three_and_two(7);
+        assert_eq!(array.out(3), Answer::done(&[]));
+        assert_eq!(array.begin(3), Answer::done(&[]));
+        assert_eq!(array.proceed(stripes), Answer::done(&[stripes]));
+        assert_eq!(array.out(5), Answer::refused(10));
+        assert_eq!(array.out(0), Answer::done(&[]));
+        let record = [3, 2, 2, 0, 4, 0, 0, 0, 15, 0, 0, 0, 7, 0, 0, 0, 0, 0, 0, 0];
+        assert_eq!(array.0.record, record);
+        for call in [
+            Call::Read { block: 4 },
+            Call::Out { disk: 3 },
+            Call::Begin { disk: 3 },
+            Call::Continue { k: 1 },
+        ] {
+            assert_eq!(array.call(call), Answer::refused(2), "{call:?}");
+        }
     }
 }
 
@@ -268,9 +344,9 @@ fn four_and_one_of_19_stripes() {
     assert_eq!(array.call(Call::Status), Answer::done(&[76, 0, 0, 0, 0]));
     assert_eq!(array.0.images, [old, vec![0; 19 * 3]].concat());
     for k in [0, 1, 16, u64::MAX] {
-        assert_eq!(array.advance(k), refused(5));
+        assert_eq!(array.advance(k), Answer::refused(5));
     }
-    assert_eq!(array.grow(1), refused(4));
+    assert_eq!(array.grow(1), Answer::refused(4));
     for block in 57..76 {
         assert_eq!(array.locate(block), at(block - 57, 4));
         assert_eq!(array.owner(block - 57, 4), Answer::done(&[2, block]));
@@ -283,12 +359,15 @@ fn four_and_one_of_19_stripes() {
         (57..76).flat_map(data).collect::<Vec<u8>>()
     );
     for disk in 0..5 {
-        assert_eq!(array.call(Call::Out { disk }), Answer::done(&[]));
+        assert_eq!(array.out(disk), Answer::done(&[]));
         array.0.images[disk as usize * 57..][..57].fill(0xff);
-        for block in 0..76 {
-            assert_eq!(array.read(block), data(block), "disk {disk} out");
+        assert_eq!(array.begin(disk), Answer::done(&[]));
+        for made in [0, 18, 1] {
+            assert_eq!(array.proceed(made), Answer::done(&[made]));
+            for block in 0..76 {
+                assert_eq!(array.read(block), data(block), "disk {disk} out");
+            }
         }
-        assert_eq!(array.call(Call::Rebuild { disk }), Answer::done(&[]));
     }
 }
 
@@ -318,7 +397,7 @@ fn three_and_two_of_two_stripes_more() {
         is_past_the_end(&mut array, capacity);
         assert_eq!(array.advance(1), Answer::done(&[1]));
     }
-    assert_eq!(array.advance(1), refused(5));
+    assert_eq!(array.advance(1), Answer::refused(5));
     assert_eq!(array.call(Call::Status), Answer::done(&[68, 18, 18, 0, 0]));
     assert_eq!(
         owners(&mut array, 15),
@@ -346,7 +425,7 @@ fn three_and_two_of_a_stripe_less() {
     let mut array = Array::format(3, 4, 14);
     assert_eq!(array.grow(2), Answer::done(&[]));
     assert_eq!(array.call(Call::Status), Answer::done(&[56, 0, 0, 0, 0]));
-    assert_eq!(array.advance(1), refused(5));
+    assert_eq!(array.advance(1), Answer::refused(5));
     assert_eq!(
         owners(&mut array, 3),
         [PARITY, data(7), data(6), data(34), data(35)]
@@ -387,6 +466,6 @@ fn limits_of_a_format() {
             block_len,
             stripes: 2,
         };
-        assert_eq!(array.call(call), refused(number), "{call:?}");
+        assert_eq!(array.call(call), Answer::refused(number), "{call:?}");
     }
 }

@@ -6,15 +6,24 @@ use std::process::Command;
 use yuzkamide_tests::compile::{archive, interface, program, run, text};
 use yuzkamide_tests::pbm::NAMES;
 use yuzkamide_tests::program::target;
-use yuzkamide_tests::record::{Record, BENCH, GROWING};
+use yuzkamide_tests::record::{Health, Record, BENCH, GROWING};
 
 /// What tests/c/interface.c prints.
 fn printed() -> String {
     let formatted = listed(BENCH);
-    let moved = listed(Record {
+    let moved = Record {
         moves: 2,
         ..GROWING
+    };
+    let rebuilding = listed(Record {
+        health: Health::Rebuilding { disk: 3, done: 3 },
+        ..moved
     });
+    let out_again = listed(Record {
+        health: Health::Out(3),
+        ..moved
+    });
+    let moved = listed(moved);
     let finished = listed(Record {
         moves: 8,
         ..GROWING
@@ -41,13 +50,14 @@ word 255: no such number
 the longest images: 128 GiB
 format, 179 and 181 bytes: 7, 7
 format n = 2: 6
+format, record of 16 bytes: 1
 format: 0
 record {formatted}
-status 0: capacity 30, moves 0 of 0, health 0, out 0
+status 0: capacity 30, moves 0 of 0, health 0, out 0, rebuilt 0
 formatted: images of 180 bytes, grown by 2 disks 300
-179 bytes: read 7, write 7, advance 5, rebuild 7
+179 bytes: read 7, write 7, advance 5, begin 7, continue 7
 299 bytes: grow 7
-181 bytes: read 7, write 7, advance 5, rebuild 7
+181 bytes: read 7, write 7, advance 5, begin 7, continue 7
 301 bytes: grow 7
 180 bytes: read 0
 locate 5: 0 (2, 0)
@@ -57,15 +67,16 @@ write 30: 8
 read 4: 0 four
 read, 3 bytes: 9
 read, record a byte short: 1
+read, record of 16 bytes: 1
 advance 1: 5 made 0
 grow, images of 3 disks: 7
 grow: 0
 grow again: 4
-status 0: capacity 30, moves 0 of 18, health 0, out 0
+status 0: capacity 30, moves 0 of 18, health 0, out 0, rebuilt 0
 grown: images of 300 bytes, grown by 2 disks 420
-299 bytes: read 7, write 7, advance 7, rebuild 7
+299 bytes: read 7, write 7, advance 7, begin 7, continue 7
 419 bytes: grow 4
-301 bytes: read 7, write 7, advance 7, rebuild 7
+301 bytes: read 7, write 7, advance 7, begin 7, continue 7
 421 bytes: grow 4
 300 bytes: read 0
 owner (3, 0): 0 role 1, block 0
@@ -82,17 +93,37 @@ read 4: 0 four
 write 4: 0
 advance 1: 3 made 0
 out 3: 10
-rebuild 2: 10
-rebuild 3: 0
+continue 1: 10 made 0
+begin 2: 10
+begin 3: 0
+status 0: capacity 30, moves 2 of 18, health 3, out 3, rebuilt 0
+begin 3: 10
+continue 2: 0 made 2
+read 4: 0 FOUR
+write 4: 0
+continue 1: 0 made 1
+read 4: 0 Four
+write 4: 0
+record {rebuilding}
+advance 1: 3 made 0
+out 3: 0
+record {out_again}
+read 4: 0 FOUR
+begin 3: 0
+continue 0: 0 made 0
+continue 14: 0 made 14
+status 0: capacity 30, moves 2 of 18, health 3, out 3, rebuilt 14
+continue 100: 0 made 1
+continue 100: 10 made 0
 read 4: 0 FOUR
 record {moved}
 advance 3: 0 made 3
-status 0: capacity 30, moves 5 of 18, health 0, out 0
+status 0: capacity 30, moves 5 of 18, health 0, out 0, rebuilt 0
 locate 30: 8 (0, 0)
 write 30: 8
 owner (2, 1): 0 role 0, block 0
 advance 1: 0 made 1
-status 0: capacity 40, moves 6 of 18, health 0, out 0
+status 0: capacity 40, moves 6 of 18, health 0, out 0, rebuilt 0
 locate 30: 0 (0, 3)
 locate 39: 0 (4, 3)
 locate 40: 8 (0, 0)
@@ -106,14 +137,15 @@ read 35: 0 3535
 write 35: 0
 write 5: 0
 read 40: 8 3535
-rebuild 1: 0
+begin 1: 0
+continue 15: 0 made 15
 advance 1: 0 made 1
 read 35: 0 new!
 locate 35: 0 (2, 1)
 record {finished}
 advance 100: 0 made 10
 advance 100: 5 made 0
-status 0: capacity 60, moves 18 of 18, health 0, out 0
+status 0: capacity 60, moves 18 of 18, health 0, out 0, rebuilt 0
 locate 30: 0 (0, 3)
 read 35: 0 new!
 owner (1, 2): 0 role 2, block 32
@@ -121,15 +153,18 @@ write 59: 0
 out 0: 0
 read 59: 0 last
 read 5: 0 FIVE
+begin 0: 0
+continue 3: 0 made 3
 out 1: 0
 read 59: 2 FIVE
-status 0: capacity 60, moves 18 of 18, health 2, out 0
+continue 1: 2 made 0
+status 0: capacity 60, moves 18 of 18, health 2, out 0, rebuilt 0
 locate 59: 0 (14, 3)
 format, 4 disks of 19 blocks: 0
 write 56: 0
 read 57: 8 FIVE
 grow by 1: 0
-status 0: capacity 76, moves 0 of 0, health 0, out 0
+status 0: capacity 76, moves 0 of 0, health 0, out 0, rebuilt 0
 advance 1: 5 made 0
 write 57: 0
 write 75: 0
@@ -184,7 +219,7 @@ fn the_words_are_those_of_the_headers_table() {
 }
 
 #[test]
-fn the_archive_has_the_ten_functions() {
+fn the_archive_has_the_eleven_functions() {
     let output = run(Command::new("nm")
         .args(["--extern-only", "--defined-only"])
         .arg(archive()));
@@ -225,12 +260,15 @@ fn the_stack_of_a_call() {
     let output = run(&mut Command::new(program("stack", C, &["tests/c/stack.c"])));
     let printed = text(&output.stdout);
     print!("{printed}");
-    assert_eq!(printed.lines().count(), 17);
+    assert_eq!(printed.lines().count(), 23);
     for line in printed.lines() {
         let (call, depths) = line.split_once(": ").unwrap();
         let (first, then) = depths.split_once(", then ").unwrap();
         let (first, then): (u64, u64) = (first.parse().unwrap(), then.parse().unwrap());
-        let limit = if call == "rebuild" { 5 * 1024 } else { 1024 };
+        let limit = match call {
+            "continue" | "continue, a part" => 5 * 1024,
+            _ => 1024,
+        };
         assert!(then < limit && first <= 16 * 1024, "{line}");
     }
 }
@@ -243,7 +281,7 @@ fn readers_at_the_same_time() {
         &["tests/c/readers.c"],
     )));
     let printed = text(&output.stdout);
-    assert_eq!(printed.lines().count(), 6);
+    assert_eq!(printed.lines().count(), 11);
     assert!(
         printed
             .lines()
@@ -262,7 +300,8 @@ fn a_call_that_is_killed() {
     let printed = "\
 advance, stopped 258 times: the old record, at most k moves in doubt
 write, stopped 88 times: the old record, one block and its parity in doubt
-rebuild, grow and format, each stopped 17 times: the old record, and right when made again
+continue, stopped 42 times: the old record, by which every block is read, and right when made again
+grow and format, each stopped 17 times: the old record, and right when made again
 ";
     assert_eq!(text(&output.stdout), printed);
 }

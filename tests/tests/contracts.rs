@@ -9,7 +9,7 @@ use yuzkamide_tests::contracts::{
 };
 use yuzkamide_tests::definitions::{of_proof_language, Kind};
 use yuzkamide_tests::files::texts;
-use yuzkamide_tests::pbm::NAMES;
+use yuzkamide_tests::pbm::{in_rattle, NAMES};
 use yuzkamide_tests::program::target;
 use yuzkamide_tests::statements::uses;
 
@@ -94,7 +94,11 @@ fn the_search_finds_the_functions() {
         all.iter().any(is)
     };
     for name in NAMES {
-        assert!(exported("array", name) && exported("lent", name), "{name}");
+        let rattle = in_rattle(name);
+        assert!(
+            exported("array", rattle) && exported("lent", rattle),
+            "{name}"
+        );
         assert!(exported("pbm", &format!("pbm_{name}")), "pbm_{name}");
     }
     assert!(exported("array", "view") && exported("lent", "view"));

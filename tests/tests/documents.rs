@@ -1,5 +1,6 @@
 //! README.md and docs/: links and commands name what is there, the numbers of docs/LAYOUT.md are the library's and the replay's,
-//! and the ratios of docs/SPEED.md those of the report at its end; and what include/pbm.h says of a growth is the library's too.
+//! and the ratios of docs/SPEED.md those of the report at its end; and what include/pbm.h says of a growth and of a rebuild is the
+//! library's too.
 
 use std::fs;
 use std::ops::Range;
@@ -7,11 +8,12 @@ use std::path::{Path, PathBuf};
 use std::process::Command;
 use yuzkamide_tests::array::Array;
 use yuzkamide_tests::compile::{run, text};
+use yuzkamide_tests::images::{part, place};
 use yuzkamide_tests::layout::{Layout, Owner};
 use yuzkamide_tests::moves::moves;
 use yuzkamide_tests::pbm::{Answer, Bytes, Call};
 use yuzkamide_tests::program::target;
-use yuzkamide_tests::record::{Record, RECORD_LEN};
+use yuzkamide_tests::record::{Health, Record, RECORD_LEN};
 
 fn root() -> PathBuf {
     target().join("..")
@@ -212,7 +214,7 @@ fn the_new_blocks_of_the_header() {
     );
     header_says(
         "A new block may be used at once, while other zones move. It is zero until it is written; then it holds what it was last \
-         given, as all others do, with a disk out and behind a rebuild too.",
+         given, as all others do, with a disk out, while it is rebuilt and behind that too.",
     );
     header_says("It never moves: what pbm_locate tells of it stays so.");
     header_says(
@@ -264,12 +266,14 @@ fn check_new_blocks(n: u64, m: u64, stripes: u64, k: u64) {
                 array.write(block, &data(block));
             }
         }
-        // with one disk or another out, and behind its rebuild
+        // with one disk or another out, while it is rebuilt and behind that
         let disk = (moves + made) % (n + m);
         let lost = (disk * stripes) as usize..((disk + 1) * stripes) as usize;
-        for call in [Call::Out { disk }, Call::Rebuild { disk }] {
-            array.0.images[lost.clone()].fill(0xee);
-            assert_eq!(array.call(call), Answer::done(&[]));
+        assert_eq!(array.out(disk), Answer::done(&[]));
+        array.0.images[lost].fill(0xee);
+        assert_eq!(array.begin(disk), Answer::done(&[]));
+        for made in [0, stripes / 2, stripes - stripes / 2] {
+            assert_eq!(array.proceed(made), Answer::done(&[made]));
             for (block, at) in (first..).zip(&came) {
                 let holds = if block % 2 == 0 { data(block) } else { [0] };
                 assert_eq!(array.read(block), holds);
@@ -278,6 +282,84 @@ fn check_new_blocks(n: u64, m: u64, stripes: u64, k: u64) {
         }
     }
     assert_eq!(capacity, stripes * (n + m - 1));
+}
+
+/// n = 3, m = 2, B = 4, T = 15, t = 9, with disk 1 out.
+#[test]
+fn the_older_record_of_the_header() {
+    header_says(
+        "(A record of 16 bytes, from before there were rebuilds in steps, is one of 20 with four zeroes behind it.)",
+    );
+    let older = [3, 2, 1, 1, 4, 0, 0, 0, 15, 0, 0, 0, 9, 0, 0, 0];
+    let mut array = made(3, 2, 15, 9);
+    array.0.record = [&older[..], &[0; 4]].concat();
+    let told = [40, 9, 18, 1, 1, 0];
+    assert_eq!(array.call(Call::Status), Answer::done(&told));
+}
+
+/// A disk that is being rebuilt, fails again, and is rebuilt; the growth stands still meanwhile.
+#[test]
+fn the_rebuild_of_the_header() {
+    header_says(
+        "pbm_begin begins with stripe 0, each pbm_continue makes the next k stripes of the disk, and between any two of these \
+         calls reads and writes go on. Stripes below the count of those done have the disk in service: its places are read, and \
+         written with each block. In all others it counts as out: it may hold any bytes there, new ones before each call, and no \
+         call but pbm_format, and pbm_continue once it comes to them, touches them. A write keeps either true. When all T \
+         stripes are done the array is whole.",
+    );
+    header_says(
+        "If the same disk fails again, or is to be replaced by another new one, pbm_out makes it a disk that is out: the count is \
+         gone, and a new rebuild begins with stripe 0. Another disk out, and the array is lost. A growth stands still as with a \
+         disk out.",
+    );
+    header_says("1  record  not 20 bytes long: all calls; not good: all but format");
+    header_says("3  degraded  a disk is out or being rebuilt: grow, advance");
+    header_says(
+        "10  disk  not below N, or out already and not being rebuilt: out; not out, or being rebuilt already: begin; no \
+         disk is being rebuilt: continue; not below N: owner",
+    );
+    header_says("bytes 16-19  the stripes done of the disk being rebuilt; 0 unless health is 3");
+    let stripes = 17;
+    for disk in 0..5 {
+        let mut array = made(3, 2, stripes, 7);
+        assert_eq!(array.out(disk), Answer::done(&[]));
+        for last in [9, stripes] {
+            assert_eq!(array.begin(disk), Answer::done(&[]));
+            for done in 0..last {
+                check_count(&mut array, disk, done);
+                assert_eq!(array.proceed(1), Answer::done(&[1]));
+            }
+            if last < stripes {
+                assert_eq!(array.out(disk), Answer::done(&[]));
+                assert_eq!(array.0.record[16..], [0; 4]);
+            }
+        }
+        assert_eq!(array.record().health, Health::Whole);
+        assert_eq!(array.advance(1), Answer::done(&[1]));
+    }
+}
+
+/// Writes and reads each block, with other bytes in the stripes of the disk that are not done: it is written there or not, as they are
+/// done or not.
+fn check_count(array: &mut Array, disk: u64, done: u64) {
+    let record = array.record();
+    assert_eq!(array.0.record[16..], (done as u32).to_le_bytes());
+    assert_eq!(array.advance(1), Answer::refused(3));
+    let undone = part(&record, disk, done..record.stripes);
+    for block in 0..record.capacity() {
+        let data = [(block + 7 * done) as u8];
+        let any = data[0] ^ 0x55;
+        array.0.images[undone.clone()].fill(any);
+        array.write(block, &data);
+        assert_eq!(array.read(block), data);
+        assert!(array.0.images[undone.clone()]
+            .iter()
+            .all(|&byte| byte == any));
+        let [stripe, on, ..] = array.locate(block).beside;
+        if on == disk && stripe < done {
+            assert_eq!(array.0.images[place(&record, stripe, disk)], data);
+        }
+    }
 }
 
 // ---- docs/LAYOUT.md: 3 + 2 disks, 15 stripes, blocks of 4 bytes, after 9 moves; with 21 stripes; and 4 + 1 disks with 19
@@ -1006,5 +1088,5 @@ fn the_instructions_of_speed() {
             "{row:?}"
         );
     }
-    assert_eq!(rows.len(), 2 + 36);
+    assert_eq!(rows.len(), 2 + 51);
 }

@@ -27,10 +27,21 @@ seed 1
 disk 2 is lost
     advance is refused: 3 degraded
     all 2292 blocks are as last written
+    rebuilding disk 2: [..........] 0 of 417 stripes, 3519 logs so far
+    rebuilding disk 2: [##........] 100 of 417 stripes, 3585 logs so far
+    rebuilding disk 2: [#####.....] 250 of 417 stripes, 3690 logs so far
+    advance is refused: 3 degraded
+    all 2292 blocks are as last written
+disk 2 is lost, and with it the 250 stripes rebuilt
+    all 2292 blocks are as last written
+    rebuilding disk 2: [..........] 0 of 417 stripes, 3690 logs so far
+    rebuilding disk 2: [###.......] 150 of 417 stripes, 3783 logs so far
+    rebuilding disk 2: [#######...] 300 of 417 stripes, 3885 logs so far
+    rebuilding disk 2: [##########] 417 of 417 stripes, 3974 logs so far
 disk 2 is rebuilt
     all 2292 blocks are as last written
-    600 of 750 moves, 2628 blocks, 3789 logs so far
-    750 of 750 moves, 2919 blocks, 4007 logs so far
+    600 of 750 moves, 2628 blocks, 4242 logs so far
+    750 of 750 moves, 2919 blocks, 4464 logs so far
     advance is refused: 5 nothing to move
 the growth is over: 2919 blocks
     all 1251 new blocks stand where they stood when they came
@@ -39,11 +50,15 @@ the growth is over: 2919 blocks
 disk 5 is lost
     all 2919 blocks are as last written
     all 51 new blocks of the tail are written and read
+    rebuilding disk 5: [..........] 0 of 417 stripes, 6566 logs so far
+    rebuilding disk 5: [##########] 417 of 417 stripes, 6841 logs so far
 disk 5 is rebuilt
     all 2919 blocks are as last written
-writes 6109, of these 160 to a lost disk, 955 to new blocks in mid-growth
-reads 27124, of these 1030 from a lost disk, 3139 of new blocks in mid-growth
-moves 750, refusals met 5
+writes 6841, of these 222 of blocks on a lost disk, 1015 of new blocks in mid-growth
+    while a disk was rebuilt: 372 in stripes done, 354 in the others
+reads 32686, of these 1585 of blocks on a lost disk, 4523 of new blocks in mid-growth
+    while a disk was rebuilt: 2126 in stripes done, 1134 in the others
+moves 750, refusals met 6
 every read gave what was last written
 ";
 
@@ -149,7 +164,13 @@ fn a_line_notices_faults() {
         ("OLD_PARITY", stale),
         ("PLACE_LEFT", stale),
         ("MADE_UP", "moves done"),
-        ("NO_REBUILD", stale),
+        ("NOT_MADE", stale),
+        ("MADE_MORE", "stripes made: 9; it must be 8"),
+        ("COUNT_KEPT", "health: 3; it must be 1"),
+        ("LOST_AGAIN", "health: 2; it must be 1"),
+        ("SKIPPED", stale),
+        ("COUNTED_ON", stale),
+        ("READ_AHEAD", stale),
         ("READ_REFUSED", "read is refused: 8 past the end"),
         (
             "NOT_REFUSED",
@@ -178,9 +199,10 @@ fn a_line_notices_faults() {
 
 fn faulty(fault: &str) -> PathBuf {
     let define = format!("-DFAULT={fault}");
-    let wrap =
-        "-Wl,--wrap=pbm_read,--wrap=pbm_write,--wrap=pbm_advance,--wrap=pbm_rebuild,--wrap=pbm_status";
-    let compiler = [GCC, &[&define, wrap]].concat();
+    let wrapped = ["read", "write", "advance", "out", "continue", "status"];
+    let wrap = wrapped.map(|call| format!("-Wl,--wrap=pbm_{call}"));
+    let mut compiler = [GCC, &[&define]].concat();
+    compiler.extend(wrap.iter().map(String::as_str));
     let sources = ["examples/line_controller.c", "tests/c/faulty.c"];
     program(&format!("line_controller-{fault}"), &compiler, &sources)
 }
@@ -689,7 +711,8 @@ fn drawers_are_mapped() {
 5 drawers, 50 moves made: 256 blocks are as written
 drawer 1 pulled: 256 blocks are as written
 all written anew: 256 blocks are as written
-drawer 1 replaced, the growth over: 256 blocks are as written
+drawer 1 replaced, half of it rebuilt: 256 blocks are as written
+drawer 1 rebuilt, the growth over: 256 blocks are as written
 ";
     let folder = empty(&target().join("c/drawers"));
     let made = run(Command::new(&*DRAWERS).current_dir(&folder));

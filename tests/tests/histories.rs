@@ -2,15 +2,16 @@
 //! and `HISTORIES` can be set; history i has the seed SEED + i.
 
 use std::sync::OnceLock;
-use yuzkamide_tests::history::{run, Tally};
+use yuzkamide_tests::history::run;
 use yuzkamide_tests::memory::{on_fault_tell, Side};
 use yuzkamide_tests::pbm::Loan;
 use yuzkamide_tests::random::Random;
+use yuzkamide_tests::tally::Tally;
 
 const HISTORIES: u64 = 2000;
 
 /// From so many histories on, everything must have occurred.
-const MANY: u64 = 500;
+const MANY: u64 = 1000;
 
 /// One for both tests, which run the same histories.
 fn seed() -> u64 {

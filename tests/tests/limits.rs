@@ -1,11 +1,11 @@
 //! Arrays at the limits, through all calls: the record's numbers need all of their bytes there, and images are large.
 
 use yuzkamide_tests::array::Array;
-use yuzkamide_tests::images::{place, xor};
+use yuzkamide_tests::images::{part, place, xor};
 use yuzkamide_tests::layout::Layout;
 use yuzkamide_tests::memory::{Guarded, Memory, Side};
 use yuzkamide_tests::pbm::{Answer, Call, Loan};
-use yuzkamide_tests::record::Record;
+use yuzkamide_tests::record::{Health, Record};
 
 /// What block `block` is written with.
 fn data(block: u64, block_len: u64) -> Vec<u8> {
@@ -76,14 +76,23 @@ fn grows(home: Record, m: u64, budgets: &[(u64, u64)]) {
     }
 }
 
-/// All blocks can be read with the disk out, whatever it holds, and again once it is rebuilt.
+/// All blocks can be read with the disk out, whatever it holds, with two thirds of it rebuilt, and once all of it is.
 fn loses(array: &mut Array, disk: u64) {
     let record = array.record();
-    assert_eq!(array.call(Call::Out { disk }), Answer::done(&[]));
+    assert_eq!(array.out(disk), Answer::done(&[]));
     let len = (record.stripes * record.block_len) as usize;
     array.0.images[disk as usize * len..][..len].fill(0xff);
     read_all(array);
-    assert_eq!(array.call(Call::Rebuild { disk }), Answer::done(&[]));
+    assert_eq!(array.begin(disk), Answer::done(&[]));
+    let done = record.stripes * 2 / 3;
+    assert_eq!(array.proceed(done), Answer::done(&[done]));
+    let health = Health::Rebuilding { disk, done };
+    assert_eq!(array.0.record, Record { health, ..record }.bytes());
+    let place = place(&record, done, disk);
+    assert!(array.0.images[place].iter().all(|&byte| byte == 0xff));
+    read_all(array);
+    let left = record.stripes - done;
+    assert_eq!(array.proceed(u64::MAX), Answer::done(&[left]));
     read_all(array);
 }
 
@@ -182,4 +191,20 @@ fn places_beyond_32_bits() {
     assert!(loan.block.bytes() == data(new, 4096));
     let answer = loan.call(Call::Read { block: new + 1 });
     assert_eq!(answer, Answer::refused(8));
+
+    // and is there again when its disk, the last one, is rebuilt to its end
+    record.moves = record.total();
+    let (whole, done) = (record.bytes(), stripe - 5);
+    record.health = Health::Rebuilding { disk: 3, done };
+    loan.record.hold(&record.bytes());
+    loan.images.exclusive()[part(&record, 3, done..stripe + 1)].fill(0xee);
+    for (k, made) in [(5, 5), (u64::MAX, 1)] {
+        assert_eq!(loan.call(Call::Read { block: new }), Answer::done(&[]));
+        assert!(loan.block.bytes() == data(new, 4096));
+        loan.block.hold(&[0; 4096]);
+        assert_eq!(loan.call(Call::Continue { k }), Answer::done(&[made]));
+    }
+    assert_eq!(loan.record.bytes(), whole);
+    assert!(loan.images.bytes()[place(&record, stripe, 3)] == data(new, 4096));
+    assert_eq!(loan.images.bytes()[place(&record, stripe - 1, 3)][0], 0);
 }

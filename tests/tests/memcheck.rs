@@ -5,9 +5,10 @@
 use std::env::current_exe;
 use std::process::Command;
 use yuzkamide_tests::compile::{interface, program, run, text};
-use yuzkamide_tests::history::{self, Tally};
+use yuzkamide_tests::history;
 use yuzkamide_tests::pbm::Bytes;
 use yuzkamide_tests::random::Random;
+use yuzkamide_tests::tally::Tally;
 
 const HISTORIES: u64 = 5;
 

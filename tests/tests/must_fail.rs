@@ -50,20 +50,28 @@ const COMPUTED: &[(&str, &str, &[&str])] = &[
         "/proofs/Cases/Drawers.antt:",
         "`drawers`",
         &[
+            "calls/continue_counts_unwritten",
+            "calls/continue_sums_itself",
+            "calls/count_kept_after_out",
             "calls/parity_on_old_disk",
             "calls/parity_skipped",
             "calls/place_left_full",
             "calls/read_of_zeros",
-            "calls/rebuild_sums_itself",
+            "calls/record_before_last_stripes",
             "calls/refusal_clears_block",
             "calls/second_out_kept",
+            "calls/stripe_in_service_early",
             "calls/view_fills_always",
         ],
     ),
     (
         "/proofs/Cases/Sample.antt:",
         "`sample`",
-        &["history/lengthened_at_the_end", "history/lengthened_late"],
+        &[
+            "history/continue_reports_all",
+            "history/lengthened_at_the_end",
+            "history/lengthened_late",
+        ],
     ),
 ];
 
@@ -105,6 +113,12 @@ const BY_LAW: &[(&str, &str, &[&str])] = &[
         "/proofs/Theorem.antt:",
         "`good-bytes`",
         &["state/unread_bytes_ignored"],
+    ),
+    // of a rebuild a stripe is left
+    (
+        "/proofs/Laws/Good.antt:",
+        "`health-within`",
+        &["state/count_of_all"],
     ),
     // another health, and all else as it was
     (

@@ -1,6 +1,7 @@
 //! Request (b) of document 02: "After each finished zone its blanks become blocks." The capacity at every count of moves, as
 //! figures; that a new block keeps its place from the move on that it comes with; and that it keeps its bytes through later moves,
-//! through writes with a disk out and through rebuilds. And the three models, each of which takes the rule in its own way, agree.
+//! through writes with a disk out and through rebuilds, in the middle of them too. And the three models, each of which takes the
+//! rule in its own way, agree.
 
 use yuzkamide_tests::array::Array;
 use yuzkamide_tests::flat::Flat;
@@ -243,20 +244,29 @@ impl Kept<'_> {
         }
     }
 
-    /// With the disk out all blocks are read, some are written, and the disk is rebuilt.
+    /// With the disk out, and then with half of it rebuilt, all blocks are read and some are written; then it is rebuilt.
     fn lose(&mut self, disk: u64, turn: u64) {
         let record = self.array.record();
-        assert_eq!(self.array.call(Call::Out { disk }), Answer::done(&[]));
+        assert_eq!(self.array.out(disk), Answer::done(&[]));
         self.array.0.images[images::disk(&record, disk)].fill(0xee);
+        self.write_some(turn);
+        let first = record.stripes / 2;
+        assert_eq!(self.array.begin(disk), Answer::done(&[]));
+        assert_eq!(self.array.proceed(first), Answer::done(&[first]));
+        self.write_some(turn + 1);
+        let left = record.stripes - first;
+        assert_eq!(self.array.proceed(left), Answer::done(&[left]));
+        self.read_all();
+        self.look();
+    }
+
+    fn write_some(&mut self, turn: u64) {
         self.read_all();
         let blocks = self.given.len() as u64;
         for block in (turn % 5..blocks).step_by(5) {
             self.write(block, turn);
         }
         self.read_all();
-        assert_eq!(self.array.call(Call::Rebuild { disk }), Answer::done(&[]));
-        self.read_all();
-        self.look();
     }
 }
 

@@ -7,7 +7,7 @@ use yuzkamide_tests::memory::{Guarded, Memory, Side};
 use yuzkamide_tests::pbm::{Answer, Bytes, Call, Loan, NAMES};
 use yuzkamide_tests::random::Random;
 use yuzkamide_tests::record::{
-    at, field, good, set_field, Health, Record, BENCH, GROWING, RECORD_LEN, ZONE_FINISHED,
+    at, good, set_field, Health, Record, BENCH, GROWING, RECORD_LEN, ZONE_FINISHED,
 };
 use yuzkamide_tests::table::{refusal, Lent};
 
@@ -46,6 +46,10 @@ fn records() -> Vec<Record> {
         health: Health::Lost,
         ..record
     };
+    let rebuilding = |record: Record, disk, done| Record {
+        health: Health::Rebuilding { disk, done },
+        ..record
+    };
     vec![
         BENCH,
         GROWING,
@@ -65,15 +69,18 @@ fn records() -> Vec<Record> {
         out(ZONE_FINISHED, 3),
         lost(BENCH),
         lost(GROWING),
+        rebuilding(BENCH, 2, 0),
+        rebuilding(GROWING, 4, 7),
+        rebuilding(grown, 0, 14),
+        rebuilding(one_move_left, 3, 28),
+        rebuilding(no_group, 3, 1),
+        rebuilding(ZONE_FINISHED, 3, 5),
     ]
 }
 
 /// A call of each kind, right for the record if any is.
 fn calls(record: &Record) -> [Call; NAMES.len()] {
-    let out = match record.health {
-        Health::Out(disk) => disk,
-        _ => 0,
-    };
+    let [_, out, _] = record.health.numbers();
     [
         Call::Format {
             n: record.n,
@@ -87,7 +94,8 @@ fn calls(record: &Record) -> [Call; NAMES.len()] {
         Call::Grow { m: 2 },
         Call::Advance { k: 3 },
         Call::Out { disk: 1 },
-        Call::Rebuild { disk: out },
+        Call::Begin { disk: out },
+        Call::Continue { k: 3 },
         Call::Status,
         Call::Locate {
             block: record.capacity() - 1,
@@ -197,16 +205,105 @@ fn good_records_with_one_bit_off() {
     println!("{still_good} calls on good records, {bad} on others");
     assert!(still_good > 1000 && bad > 5000);
     let formats = (records().len() * 8 * RECORD_LEN) as u64; // which is lent any bytes
-    desk.assert_accepted([formats, 85, 73, 2, 29, 579, 36, 661, 612, 630]);
+    desk.assert_accepted([formats, 140, 123, 2, 29, 818, 37, 54, 900, 836, 862]);
+}
+
+/// A record of n = 3, m = 2, B = 4, T = 258 and t = 5, which is good but for health, disk and the stripes done: these three are given.
+fn in_rebuild(health: u8, disk: u8, rebuilt: [u8; 4]) -> [u8; RECORD_LEN] {
+    let [a, b, c, d] = rebuilt;
+    [
+        3, 2, health, disk, 4, 0, 0, 0, 2, 1, 0, 0, 5, 0, 0, 0, a, b, c, d,
+    ]
+}
+
+/// By hand: which counts, disks and healths are good, for every call.
+#[test]
+fn records_of_a_rebuild() {
+    let good = [
+        in_rebuild(3, 0, [0, 0, 0, 0]),
+        in_rebuild(3, 4, [255, 0, 0, 0]),
+        in_rebuild(3, 1, [0, 1, 0, 0]),
+        in_rebuild(3, 1, [1, 1, 0, 0]),
+        in_rebuild(2, 0, [0, 0, 0, 0]),
+        in_rebuild(1, 4, [0, 0, 0, 0]),
+        in_rebuild(0, 0, [0, 0, 0, 0]),
+    ];
+    let mut bad = vec![
+        in_rebuild(3, 1, [2, 1, 0, 0]), // T
+        in_rebuild(3, 1, [3, 1, 0, 0]),
+        in_rebuild(3, 1, [1, 2, 0, 0]),
+        in_rebuild(3, 1, [1, 1, 1, 0]),
+        in_rebuild(3, 1, [1, 1, 0, 1]),
+        in_rebuild(3, 1, [0, 0, 0, 128]),
+        in_rebuild(3, 1, [255; 4]),
+        in_rebuild(3, 5, [0, 0, 0, 0]), // N
+        in_rebuild(3, 255, [7, 0, 0, 0]),
+        in_rebuild(4, 0, [0, 0, 0, 0]),
+        in_rebuild(4, 1, [7, 0, 0, 0]),
+        in_rebuild(255, 1, [7, 0, 0, 0]),
+    ];
+    for (health, disk) in [(0, 0), (1, 1), (2, 0)] {
+        for byte in 0..4 {
+            for value in [1, 128, 255] {
+                let mut rebuilt = [0; 4];
+                rebuilt[byte] = value;
+                bad.push(in_rebuild(health, disk, rebuilt));
+            }
+        }
+    }
+    let mut desk = Desk::new();
+    let mut is_bad = |record: [u8; RECORD_LEN], call: Call| {
+        let mut lent = bytes(call, &Record::of(record));
+        lent.record = record.to_vec();
+        desk.check(call, &lent) == 1
+    };
+    let shape = Record::of(good[0]);
+    for (i, call) in calls(&shape).into_iter().enumerate() {
+        for record in good {
+            assert!(!is_bad(record, call), "{call:?} on {record:?}");
+        }
+        for record in &bad {
+            // format is lent any bytes
+            assert_eq!(is_bad(*record, call), i > 0, "{call:?} on {record:?}");
+        }
+    }
+}
+
+/// "refusal 1 goes by that length": of a record that is good, cut or with zeroes behind it, for every call and before all else.
+#[test]
+fn records_of_other_lengths() {
+    for record in records() {
+        for call in calls(&record) {
+            for len in [0, 1, 15, 16, 17, 19, 21, 32, 40] {
+                let mut lent = bytes(call, &record);
+                lent.record.resize(len, 0);
+                for images_len in [lent.images.len(), 0] {
+                    lent.images.truncate(images_len);
+                    let before = lent.clone();
+                    assert_eq!(lent.call(call), Answer::refused(1), "{call:?}, {len} bytes");
+                    assert!(lent == before, "{call:?}, {len} bytes");
+                }
+            }
+        }
+    }
 }
 
 #[test]
 fn every_value_of_every_byte_of_a_record() {
     let mut desk = Desk::new();
-    for record in [BENCH, GROWING] {
+    let rebuilding = Record {
+        health: Health::Rebuilding { disk: 1, done: 7 },
+        ..GROWING
+    };
+    for record in [BENCH, GROWING, rebuilding] {
         for at in 0..RECORD_LEN {
             for value in 0..=255 {
-                for call in [Call::Read { block: 4 }, Call::Out { disk: 1 }, Call::Status] {
+                for call in [
+                    Call::Read { block: 4 },
+                    Call::Out { disk: 1 },
+                    Call::Continue { k: 3 },
+                    Call::Status,
+                ] {
                     let mut lent = bytes(call, &record);
                     lent.record[at] = value;
                     desk.check(call, &lent);
@@ -240,7 +337,7 @@ fn random_records() {
     }
     println!("{accepted} accepted, {refused} refused");
     assert!(accepted > 10_000 && refused > 10_000);
-    desk.assert_accepted([2000, 300, 300, 30, 100, 500, 10, 1000, 1000, 1000]);
+    desk.assert_accepted([2000, 300, 300, 20, 100, 500, 20, 100, 1000, 1000, 1000]);
 }
 
 fn random_record(random: &mut Random) -> [u8; RECORD_LEN] {
@@ -256,9 +353,14 @@ fn random_record(random: &mut Random) -> [u8; RECORD_LEN] {
     };
     record.moves = random.below(record.total() + 2);
     let mut bytes = record.bytes();
-    set_field(&mut bytes, at::HEALTH, random.below(13) / 4);
-    if field(&bytes, at::HEALTH) == 1 || random.one_in(16) {
+    let health = random.below(17) / 4;
+    set_field(&mut bytes, at::HEALTH, health);
+    if [1, 3].contains(&health) || random.one_in(16) {
         set_field(&mut bytes, at::OUT, random.below(n + m + 1));
+    }
+    if health == 3 || random.one_in(16) {
+        let rebuilt = random.below(record.stripes + 2);
+        set_field(&mut bytes, at::REBUILT, rebuilt);
     }
     if random.one_in(8) {
         bytes[random.below(RECORD_LEN as u64) as usize] = random.word() as u8;
@@ -285,7 +387,7 @@ fn every_length_off() {
     for record in records() {
         for call in calls(&record) {
             let right = bytes(call, &record);
-            for record_len in lengths(RECORD_LEN).into_iter().chain([4096]) {
+            for record_len in lengths(RECORD_LEN).into_iter().chain([16, 4096]) {
                 for images_len in lengths(right.images.len()) {
                     for block_len in lengths(right.block.len()) {
                         let mut lent = right.clone();
@@ -329,7 +431,8 @@ fn every_number_off() {
                 Call::Write { block: number },
                 Call::Advance { k: number },
                 Call::Out { disk: number },
-                Call::Rebuild { disk: number },
+                Call::Begin { disk: number },
+                Call::Continue { k: number },
                 Call::Locate { block: number },
                 Call::Owner {
                     stripe: number,
@@ -368,7 +471,7 @@ fn accepted_calls_on_any_bytes() {
             early += (number == 0 && is_early(call, &record)) as u32;
         }
     }
-    desk.assert_accepted([4000, 3000, 3000, 200, 500, 2000, 1000, 4000, 4000, 4000]);
+    desk.assert_accepted([4000, 3000, 3000, 200, 500, 2000, 500, 700, 4000, 4000, 4000]);
     println!("{early} accepted on new blocks in a growth");
     assert!(early > 400);
 }
@@ -400,9 +503,14 @@ fn random_array(random: &mut Random) -> Record {
         1 => record.total(),
         _ => random.below(record.total() + 1),
     };
-    record.health = match random.below(8) {
+    let disk = random.below(record.disks());
+    record.health = match random.below(12) {
         0 => Health::Lost,
-        1..=3 => Health::Out(random.below(record.disks())),
+        1 | 2 => Health::Out(disk),
+        3..=5 => Health::Rebuilding {
+            disk,
+            done: random.below(record.stripes),
+        },
         _ => Health::Whole,
     };
     record
@@ -422,7 +530,8 @@ fn random_calls(random: &mut Random, record: &Record) -> [Call; NAMES.len()] {
             Call::Owner { stripe, disk } => {
                 (*stripe, *disk) = (random.below(record.stripes), random.below(record.disks()))
             }
-            Call::Format { .. } | Call::Rebuild { .. } | Call::Status => {}
+            Call::Continue { k } => *k = random.below(40),
+            Call::Format { .. } | Call::Begin { .. } | Call::Status => {}
         }
     }
     calls

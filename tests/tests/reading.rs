@@ -48,8 +48,11 @@ fn names_only_what_is_there() {
 const STATEMENTS: &[&str] = &[
     "Demand1",
     "InOrder",
+    "InRisingOrder",
+    "InSteps",
     "OnBytes",
     "Numbered",
+    "AbsentIs",
     "Alone",
     "OneMove",
     "RecordOnly",

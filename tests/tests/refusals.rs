@@ -1,14 +1,16 @@
-//! Every row of document 01's table of refusals, 1 and 6 as request (a) of document 02 leaves them and 8 with the capacity of
-//! request (b), for every call that it names: alone, and with a lower row's condition holding as well, which then wins. A refused
-//! call changes no byte and sets every number beside its answer to 0. What an accepted one answers and leaves is held to a model
-//! that goes by the bytes.
+//! Every row of document 01's table of refusals, 1 and 6 as request (a) of document 02 leaves them, 8 with the capacity of
+//! request (b), and with the record, the health and the calls of request (d), for every call that it names: alone, and with a
+//! lower row's condition holding as well, which then wins; and every call in every health. A refused call changes no byte and sets
+//! every number beside its answer to 0. What an accepted one answers and leaves is held to a model that goes by the bytes.
 
 use std::collections::HashSet;
 use yuzkamide_tests::bytewise::Bytewise;
 use yuzkamide_tests::memory::Side;
 use yuzkamide_tests::pbm::{Answer, Bytes, Call, Loan, NAMES};
 use yuzkamide_tests::random::Random;
-use yuzkamide_tests::record::{at, good, set_field, Health, Record, BENCH, GROWING, RECORD_LEN};
+use yuzkamide_tests::record::{
+    at, field, good, set_field, Health, Record, BENCH, GROWING, RECORD_LEN,
+};
 use yuzkamide_tests::table::{holds, rows, Lent, LAST};
 
 /// One call and what it is lent.
@@ -35,6 +37,10 @@ fn accepted(name: &str) -> Case {
         health: Health::Out(1),
         ..GROWING
     };
+    let rebuilding = Record {
+        health: rebuilding(1, 4),
+        ..GROWING
+    };
     match name {
         "format" => case(
             Call::Format {
@@ -50,12 +56,17 @@ fn accepted(name: &str) -> Case {
         "grow" => case(Call::Grow { m: 2 }, BENCH, 300),
         "advance" => case(Call::Advance { k: 3 }, GROWING, 300),
         "out" => case(Call::Out { disk: 1 }, GROWING, 0),
-        "rebuild" => case(Call::Rebuild { disk: 1 }, degraded, 300),
+        "begin" => case(Call::Begin { disk: 1 }, degraded, 300),
+        "continue" => case(Call::Continue { k: 3 }, rebuilding, 300),
         "status" => case(Call::Status, GROWING, 0),
         "locate" => case(Call::Locate { block: 4 }, GROWING, 0),
         "owner" => case(Call::Owner { stripe: 2, disk: 1 }, GROWING, 0),
         _ => panic!("no call {name}"),
     }
+}
+
+const fn rebuilding(disk: u64, done: u64) -> Health {
+    Health::Rebuilding { disk, done }
 }
 
 /// One way to make a row's condition hold for some calls.
@@ -82,12 +93,17 @@ const fn spoil(
 
 const ALL: &[&str] = &NAMES;
 const BUT_FORMAT: &[&str] = &[
-    "read", "write", "grow", "advance", "out", "rebuild", "status", "locate", "owner",
+    "read", "write", "grow", "advance", "out", "begin", "continue", "status", "locate", "owner",
 ];
 const ON_BLOCKS: &[&str] = &["read", "write"];
 const ON_NUMBERED: &[&str] = &["read", "write", "locate"];
-const ON_IMAGES: &[&str] = &["format", "read", "write", "grow", "advance", "rebuild"];
-const IN_HEALTH: &[&str] = &["read", "write", "grow", "advance", "out", "rebuild"];
+const ON_DISKS: &[&str] = &["out", "begin", "owner"];
+const ON_IMAGES: &[&str] = &[
+    "format", "read", "write", "grow", "advance", "begin", "continue",
+];
+const IN_HEALTH: &[&str] = &[
+    "read", "write", "grow", "advance", "out", "begin", "continue",
+];
 
 const SPOILS: &[Spoil] = &[
     spoil(ALL, 1, "no record", |c| c.damage = Some(|r| r.clear())),
@@ -96,6 +112,9 @@ const SPOILS: &[Spoil] = &[
     }),
     spoil(ALL, 1, "a record a byte long", |c| {
         c.damage = Some(|r| r.push(0))
+    }),
+    spoil(ALL, 1, "a record of 16 bytes", |c| {
+        c.damage = Some(|r| r.truncate(16))
     }),
     spoil(ALL, 1, "a record twice as long", |c| {
         c.damage = Some(|r| r.resize(2 * RECORD_LEN, 0))
@@ -109,17 +128,47 @@ const SPOILS: &[Spoil] = &[
     spoil(BUT_FORMAT, 1, "m = 17", |c| {
         c.damage = Some(|r| set_field(r, at::M, 17))
     }),
-    spoil(BUT_FORMAT, 1, "health 3", |c| {
-        c.damage = Some(|r| set_field(r, at::HEALTH, 3))
+    spoil(BUT_FORMAT, 1, "health 4", |c| {
+        c.damage = Some(|r| set_health(r, 4, 0, 0))
+    }),
+    spoil(BUT_FORMAT, 1, "health 4 with disk and count", |c| {
+        c.damage = Some(|r| set_health(r, 4, 1, 4))
     }),
     spoil(BUT_FORMAT, 1, "an out disk of no disk", |c| {
-        c.damage = Some(|r| set_health(r, 1, 5))
+        c.damage = Some(|r| set_health(r, 1, 5, 0))
     }),
     spoil(BUT_FORMAT, 1, "whole with an out disk", |c| {
-        c.damage = Some(|r| set_health(r, 0, 1))
+        c.damage = Some(|r| set_health(r, 0, 1, 0))
     }),
     spoil(BUT_FORMAT, 1, "lost with an out disk", |c| {
-        c.damage = Some(|r| set_health(r, 2, 1))
+        c.damage = Some(|r| set_health(r, 2, 1, 0))
+    }),
+    spoil(BUT_FORMAT, 1, "rebuilding no disk", |c| {
+        c.damage = Some(|r| set_health(r, 3, 5, 0))
+    }),
+    spoil(BUT_FORMAT, 1, "rebuilding, T stripes done", |c| {
+        c.damage = Some(|r| {
+            let stripes = field(r, at::STRIPES);
+            set_health(r, 3, 1, stripes)
+        })
+    }),
+    spoil(BUT_FORMAT, 1, "rebuilding, 2^24 stripes done", |c| {
+        c.damage = Some(|r| set_health(r, 3, 1, 1 << 24))
+    }),
+    spoil(BUT_FORMAT, 1, "rebuilding, 2^32 - 1 stripes done", |c| {
+        c.damage = Some(|r| set_health(r, 3, 1, u32::MAX.into()))
+    }),
+    spoil(BUT_FORMAT, 1, "whole with a count", |c| {
+        c.damage = Some(|r| set_health(r, 0, 0, 1))
+    }),
+    spoil(BUT_FORMAT, 1, "out with a count", |c| {
+        c.damage = Some(|r| set_health(r, 1, 1, 1 << 8))
+    }),
+    spoil(BUT_FORMAT, 1, "lost with a count", |c| {
+        c.damage = Some(|r| set_health(r, 2, 0, 1 << 16))
+    }),
+    spoil(BUT_FORMAT, 1, "whole with a count of 2^24", |c| {
+        c.damage = Some(|r| set_health(r, 0, 0, 1 << 24))
     }),
     spoil(BUT_FORMAT, 1, "B = 0", |c| {
         c.damage = Some(|r| set_field(r, at::BLOCK_LEN, 0))
@@ -161,6 +210,18 @@ const SPOILS: &[Spoil] = &[
     spoil(&["grow", "advance"], 3, "disk 2 out", |c| {
         c.record.health = Health::Out(2)
     }),
+    spoil(
+        &["grow", "advance"],
+        3,
+        "the rebuild of disk 0 begun",
+        |c| c.record.health = rebuilding(0, 0),
+    ),
+    spoil(
+        &["grow", "advance"],
+        3,
+        "disk 2 rebuilt but for a stripe",
+        |c| c.record.health = rebuilding(2, 14),
+    ),
     spoil(&["grow"], 4, "m = 2", |c| c.record.m = 2),
     spoil(&["grow"], 4, "m = 2, under way", |c| {
         (c.record.m, c.record.moves) = (2, 7)
@@ -241,7 +302,7 @@ const SPOILS: &[Spoil] = &[
         c.images_len = c.images_len.saturating_sub(60)
     }),
     spoil(
-        &["read", "write", "grow", "advance", "rebuild"],
+        &["read", "write", "grow", "advance", "begin", "continue"],
         7,
         "n disks",
         |c| c.images_len = 180,
@@ -301,21 +362,40 @@ const SPOILS: &[Spoil] = &[
     spoil(ON_BLOCKS, 9, "none", |c| c.block_len = 0),
     spoil(ON_BLOCKS, 9, "two blocks", |c| c.block_len = 8),
     spoil(ON_BLOCKS, 9, "260 bytes", |c| c.block_len = 260),
-    spoil(&["out", "rebuild", "owner"], 10, "N", |c| disk(c, 5)),
-    spoil(&["out", "rebuild", "owner"], 10, "257", |c| disk(c, 257)),
-    spoil(&["out", "rebuild", "owner"], 10, "2^32 + 1", |c| {
-        disk(c, (1 << 32) + 1)
-    }),
-    spoil(&["out", "rebuild", "owner"], 10, "2^64 - 1", |c| {
-        disk(c, u64::MAX)
-    }),
+    spoil(ON_DISKS, 10, "N", |c| disk(c, 5)),
+    spoil(ON_DISKS, 10, "257", |c| disk(c, 257)),
+    spoil(ON_DISKS, 10, "2^32 + 1", |c| disk(c, (1 << 32) + 1)),
+    spoil(ON_DISKS, 10, "2^64 - 1", |c| disk(c, u64::MAX)),
     spoil(&["out"], 10, "out already", |c| {
         c.record.health = Health::Out(1)
     }),
-    spoil(&["rebuild"], 10, "another is out", |c| disk(c, 2)),
-    spoil(&["rebuild"], 10, "none is out", |c| {
+    spoil(&["out"], 10, "N, another is being rebuilt", |c| {
+        c.record.health = rebuilding(1, 4);
+        disk(c, 5)
+    }),
+    spoil(&["begin"], 10, "another is out", |c| disk(c, 2)),
+    spoil(&["begin"], 10, "none is out", |c| {
         c.record.health = Health::Whole;
         disk(c, 0)
+    }),
+    spoil(&["begin"], 10, "begun already", |c| {
+        c.record.health = rebuilding(1, 0)
+    }),
+    spoil(&["begin"], 10, "being rebuilt", |c| {
+        c.record.health = rebuilding(1, 14)
+    }),
+    spoil(&["begin"], 10, "another is being rebuilt", |c| {
+        c.record.health = rebuilding(2, 4)
+    }),
+    spoil(&["continue"], 10, "none is out", |c| {
+        c.record.health = Health::Whole
+    }),
+    spoil(&["continue"], 10, "one is out", |c| {
+        c.record.health = Health::Out(1)
+    }),
+    spoil(&["continue"], 10, "none is out, k = 0", |c| {
+        c.record.health = Health::Whole;
+        c.call = Call::Continue { k: 0 }
     }),
 ];
 
@@ -325,9 +405,10 @@ fn set_growth(record: &mut [u8], m: u64, stripes: u64, moves: u64) {
     set_field(record, at::MOVES, moves);
 }
 
-fn set_health(record: &mut [u8], health: u64, out: u64) {
+fn set_health(record: &mut [u8], health: u64, out: u64, rebuilt: u64) {
     set_field(record, at::HEALTH, health);
     set_field(record, at::OUT, out);
+    set_field(record, at::REBUILT, rebuilt);
 }
 
 /// With images of the length that the numbers ask for, where there is memory for it.
@@ -361,7 +442,7 @@ fn stripe(case: &mut Case, number: u64) {
 
 fn disk(case: &mut Case, number: u64) {
     match &mut case.call {
-        Call::Out { disk } | Call::Rebuild { disk } | Call::Owner { disk, .. } => *disk = number,
+        Call::Out { disk } | Call::Begin { disk } | Call::Owner { disk, .. } => *disk = number,
         call => panic!("{call:?} has no disk"),
     }
 }
@@ -426,6 +507,46 @@ fn each_call_is_accepted_unspoilt() {
         let case = accepted(name);
         assert_eq!(case.holding(), [], "{name}");
         case.gives(0, "unspoilt");
+    }
+}
+
+/// Each call with the numbers that it is given: whole, with disk 1 out, with disk 1 being rebuilt, and lost.
+#[test]
+fn every_call_in_every_health() {
+    let of = |name| accepted(name).call;
+    let table = [
+        (of("format"), [0, 0, 0, 0]),
+        (of("read"), [0, 0, 0, 2]),
+        (of("write"), [0, 0, 0, 2]),
+        (of("grow"), [0, 3, 3, 2]),
+        (of("advance"), [0, 3, 3, 2]),
+        (Call::Out { disk: 0 }, [0, 0, 0, 2]),
+        (Call::Out { disk: 1 }, [0, 10, 0, 2]),
+        (Call::Out { disk: 5 }, [10, 10, 10, 2]),
+        (Call::Begin { disk: 0 }, [10, 10, 10, 2]),
+        (Call::Begin { disk: 1 }, [10, 0, 10, 2]),
+        (Call::Begin { disk: 5 }, [10, 10, 10, 2]),
+        (Call::Continue { k: 0 }, [10, 10, 0, 2]),
+        (Call::Continue { k: 1 }, [10, 10, 0, 2]),
+        (Call::Continue { k: u64::MAX }, [10, 10, 0, 2]),
+        (Call::Status, [0, 0, 0, 0]),
+        (of("locate"), [0, 0, 0, 0]),
+        (of("owner"), [0, 0, 0, 0]),
+    ];
+    for (call, [whole, out, being_rebuilt, lost]) in table {
+        let mut healths = vec![
+            (Health::Whole, whole),
+            (Health::Out(1), out),
+            (Health::Lost, lost),
+        ];
+        healths.extend((0..15).map(|done| (rebuilding(1, done), being_rebuilt)));
+        for (health, number) in healths {
+            let mut case = accepted(call.name());
+            (case.call, case.record.health) = (call, health);
+            let lowest = case.holding().first().copied().unwrap_or(0);
+            assert_eq!(lowest, number, "{case:?}");
+            case.gives(number, "in every health");
+        }
     }
 }
 
@@ -569,8 +690,8 @@ fn each_row_alone() {
             case.gives(spoil.row, spoil.how);
         }
         for row in rows(name) {
-            // an array that is lost has no one disk out: for rebuild 10 holds too
-            let never = (name, *row) == ("rebuild", 2);
+            // an array that is lost has no one disk out, nor one that is being rebuilt: then 10 holds too
+            let never = *row == 2 && ["begin", "continue"].contains(&name);
             assert_eq!(alone.contains(row), !never, "{name}: {row} alone");
         }
     }

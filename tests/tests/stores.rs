@@ -8,20 +8,20 @@ use std::sync::OnceLock;
 use yuzkamide_tests::compile::{program, run, text};
 use yuzkamide_tests::images::place;
 use yuzkamide_tests::layout::Layout;
-use yuzkamide_tests::out::{self, Out};
+use yuzkamide_tests::out::{self, Disk, Out};
 use yuzkamide_tests::record::{Health, Record, RECORD_LEN};
 use yuzkamide_tests::trace::{calls, Access};
 
 /// n, m, T, t and a block.
 type Block = (u64, u64, u64, u64, u64);
 
-/// Before a growth; in the middle of one an old block that was moved, as was its parity, and a new one; the last block of the widest
-/// array.
+/// Before a growth; in the middle of one an old block that was moved, as was its parity, and a new one; a new block of the widest
+/// array. None is in the last stripe, so that a rebuild can have done its stripe and be under way.
 const BLOCKS: [Block; 4] = [
-    (3, 0, 2, 0, 3),
+    (3, 0, 3, 0, 3),
     (5, 3, 41, 22, 20),
     (5, 3, 41, 22, 170),
-    (16, 16, 2, 0, 61),
+    (16, 16, 3, 0, 76),
 ];
 
 const LENGTHS: [u64; 13] = [1, 15, 16, 17, 63, 64, 65, 100, 127, 129, 1000, 4095, 4096];
@@ -58,13 +58,17 @@ impl Case {
             data,
             parity: layout.parity(stripe),
         };
-        case.record.health = match out {
-            Out::None => Health::Whole,
-            Out::Data => Health::Out(case.data),
-            Out::Parity => Health::Out(case.parity),
-            Out::Other => Health::Out(case.others()[0]),
-        };
+        let disk = out.disk().map_or(0, |disk| case.disk(disk));
+        case.record.health = out.health(disk, stripe);
         case
+    }
+
+    fn disk(&self, disk: Disk) -> u64 {
+        match disk {
+            Disk::Data => self.data,
+            Disk::Parity => self.parity,
+            Disk::Other => self.others()[0],
+        }
     }
 
     /// The disks of neither data nor parity.
@@ -74,20 +78,20 @@ impl Case {
 
     /// The disks of the places that it stores. "either is skipped if its disk is out"
     fn stored(&self) -> Vec<u64> {
-        match self.out {
-            Out::None | Out::Other => vec![self.data, self.parity],
-            Out::Data => vec![self.parity],
-            Out::Parity => vec![self.data],
+        match self.out.absent() {
+            None | Some(Disk::Other) => vec![self.data, self.parity],
+            Some(Disk::Data) => vec![self.parity],
+            Some(Disk::Parity) => vec![self.data],
         }
     }
 
     /// The disks of the places that the new bytes depend on. With the data's disk out the old block is the xor of the stripe's other
     /// places; one of these is the parity, whose old value so cancels.
     fn loaded(&self) -> Vec<u64> {
-        match self.out {
-            Out::None | Out::Other => vec![self.data, self.parity],
-            Out::Data => self.others(),
-            Out::Parity => vec![],
+        match self.out.absent() {
+            None | Some(Disk::Other) => vec![self.data, self.parity],
+            Some(Disk::Data) => self.others(),
+            Some(Disk::Parity) => vec![],
         }
     }
 
@@ -147,6 +151,8 @@ struct Seen {
 struct Addresses {
     record: u64,
     images: u64,
+    /// The count of a continue.
+    made: u64,
     /// Stored to by what stands for the C library's functions.
     helped: u64,
     stack: u64,
@@ -182,12 +188,15 @@ impl Addresses {
     }
 }
 
-/// Every block of `BLOCKS` with everything of `out::ALL` and with every length, in this order.
+/// Every block of `BLOCKS` with everything of `out::ALL` and with every length, in this order; but in the widest array, whose sums
+/// take long to trace, without rebuilds.
 fn cases() -> Vec<Case> {
     let mut all = Vec::new();
     for at in BLOCKS {
-        for out in out::ALL {
-            all.extend(LENGTHS.map(|block_len| Case::new(at, out, block_len)));
+        let is_widest = at.0 + at.1 == 32;
+        let is_rebuild = |out: &Out| matches!(out, Out::Done(_) | Out::Undone(_));
+        for out in out::ALL.iter().filter(|out| !is_widest || !is_rebuild(out)) {
+            all.extend(LENGTHS.map(|block_len| Case::new(at, *out, block_len)));
         }
     }
     all
@@ -213,6 +222,7 @@ fn traced(name: &str, arguments: &[String]) -> (Addresses, Vec<Vec<Access>>) {
     let addresses = Addresses {
         record: address("record"),
         images: address("images"),
+        made: address("made"),
         helped: address("helped"),
         stack: address("stack"),
     };
@@ -231,7 +241,7 @@ fn writes() -> &'static [(Case, Seen)] {
             (case, seen)
         };
         let all: Vec<_> = cases.into_iter().zip(calls).map(seen).collect();
-        assert_eq!(all.len(), 208);
+        assert_eq!(all.len(), 442);
         all
     })
 }
@@ -270,26 +280,55 @@ fn no_block_is_on_the_stack() {
     }
 }
 
-/// A call that does what a write may not is seen to do it: a rebuild has an array for block bytes, and it stores the record.
+/// A call that does what a write may not is seen to do it: a continue has an array for block bytes, and it stores the record, behind
+/// the images.
 #[test]
-fn a_rebuild_is_seen_to_do_more() {
-    let cases = [64, 4096].map(|block_len| Case::new(BLOCKS[0], Out::Data, block_len));
-    let (addresses, calls) = traced(
-        "stores-of-rebuilds",
-        &cases.map(|c| c.argument('r', c.data)),
-    );
+fn a_continue_is_seen_to_do_more() {
+    let out = Out::Undone(Disk::Data);
+    let cases = [64, 4096].map(|block_len| Case::new(BLOCKS[0], out, block_len));
+    let (addresses, calls) = traced("stores-of-continues", &cases.map(|c| c.argument('c', 1)));
     let record = addresses.record..addresses.record + RECORD_LEN as u64;
+    let made = addresses.made..addresses.made + 8;
     let stack = [0, 1].map(|i| {
-        let seen = addresses.seen(cases[i].record.images_len(), &calls[i]);
-        assert!(seen.elsewhere.contains(&addresses.helped));
-        let mut others = seen
-            .elsewhere
-            .iter()
-            .filter(|byte| **byte != addresses.helped);
-        assert!(others.clone().count() > 0 && others.all(|byte| record.contains(byte)));
+        let case = cases[i];
+        let images_len = case.record.images_len();
+        let images = addresses.images..addresses.images + images_len;
+        let mut seen = addresses.seen(images_len, &calls[i]);
+        assert_eq!(case.fault(&seen.stored, &[case.data]), None, "{case:?}");
+        assert!(stores(&calls[i], images).max() < stores(&calls[i], record.clone()).min());
+        assert!(seen.elsewhere.remove(&addresses.helped));
+        assert!(made.clone().all(|byte| seen.elsewhere.remove(&byte)));
+        assert!(seen.elsewhere.iter().all(|byte| record.contains(byte)));
         seen.stack
     });
     assert!(stack[1] > stack[0] + 4000, "{stack:?}");
+}
+
+/// "does stripes in rising order", and the record behind them all, where that ends the rebuild too.
+#[test]
+fn a_continue_stores_in_rising_order() {
+    let case = Case::new(BLOCKS[0], Out::Undone(Disk::Data), 64);
+    let (addresses, calls) = traced("stores-of-a-rest", &[case.argument('c', u64::MAX)]);
+    let Health::Rebuilding { disk, done } = case.record.health else {
+        panic!("{case:?}")
+    };
+    assert!(done + 1 < case.record.stripes, "two stripes are left");
+    let mut last = None;
+    for stripe in done..case.record.stripes {
+        let Range { start, end } = place(&case.record, stripe, disk);
+        let bytes = addresses.images + start as u64..addresses.images + end as u64;
+        let at: Vec<usize> = stores(&calls[0], bytes).collect();
+        assert!(last < at.first().copied(), "stripe {stripe}");
+        last = at.last().copied();
+    }
+    let record = addresses.record..addresses.record + RECORD_LEN as u64;
+    assert!(last.is_some() && last < stores(&calls[0], record).min());
+}
+
+/// When a call stores to these bytes.
+fn stores(call: &[Access], bytes: Range<u64>) -> impl Iterator<Item = usize> + '_ {
+    let is_there = move |access: &Access| access.stores && bytes.contains(&access.bytes().start);
+    (0..call.len()).filter(move |&at| is_there(&call[at]))
 }
 
 // ---- the reading of a trace
@@ -321,6 +360,7 @@ fn seen(trace: &str) -> Seen {
     let addresses = Addresses {
         record: 0,
         images: 0x100,
+        made: 0,
         helped: 0,
         stack: 0x10000,
     };

@@ -1,13 +1,16 @@
-//! The memory of a disk that is out may be gone: no call but format and rebuild reads or writes a byte of it, not even to refuse.
-//! Here its pages are closed, so that a call that touches one ends the run; every call answers as the flat list does. Then they
-//! are opened again, with other bytes in them, and rebuild makes the disk right.
+//! The memory of a disk that is out may be gone, and so may that of the stripes not yet done of a disk that is being rebuilt: no call
+//! but format and continue reads or writes a byte of it, not even to refuse. Here its pages are closed, so that a call that touches
+//! one ends the run; every call answers as the flat list does. Begin touches no image, and continue just its stripes of its disk, beside
+//! which it reads other disks alone: all else is closed then. And they make the disk right, with other bytes in it before.
 
+use std::ops::Range;
 use yuzkamide_tests::flat::Flat;
 use yuzkamide_tests::images;
+use yuzkamide_tests::layout::Owner;
 use yuzkamide_tests::memory::{on_fault_tell, Guarded, Memory, Side};
 use yuzkamide_tests::pbm::{Answer, Bytes, Call, Loan};
 use yuzkamide_tests::random::Random;
-use yuzkamide_tests::record::{Record, RECORD_LEN};
+use yuzkamide_tests::record::{Health, Record, RECORD_LEN};
 use yuzkamide_tests::table::Lent;
 
 /// n, m, B and T: arrays whose disks are whole pages, without a tail, with one, and of no whole group.
@@ -111,11 +114,24 @@ impl Array {
 
     /// The disk goes out, and its pages with it.
     fn lose(&mut self, disk: u64) {
-        let range = images::disk(&self.flat.numbers, disk);
-        let garbage = self.random.bytes(range.len());
-        self.loan.images.exclusive()[range.clone()].copy_from_slice(&garbage);
-        self.loan.images.close(range);
+        self.spoil(disk, 0);
         self.accepted(Call::Out { disk });
+    }
+
+    /// From this stripe on the disk's pages are closed, with any bytes in them.
+    fn spoil(&mut self, disk: u64, first: u64) {
+        let numbers = &self.flat.numbers;
+        let range = images::part(numbers, disk, first..numbers.stripes);
+        self.random
+            .fill(&mut self.loan.images.exclusive()[range.clone()]);
+        self.loan.images.close(range);
+    }
+
+    /// All other pages than these are closed, until `open`.
+    fn close_others(&mut self, range: Range<usize>) {
+        let len = self.loan.images.bytes().len();
+        self.loan.images.close(0..range.start);
+        self.loan.images.close(range.end..len);
     }
 
     fn read_all(&mut self) {
@@ -145,7 +161,7 @@ impl Array {
         }
     }
 
-    /// Calls that an array with this disk out refuses.
+    /// Calls that an array with this disk out or being rebuilt refuses.
     fn refuse_all(&mut self, disk: u64) {
         let Record {
             n,
@@ -161,10 +177,16 @@ impl Array {
         self.refused(3, Call::Advance { k: u64::MAX });
         self.refused(8, Call::Read { block: capacity });
         self.refused(8, Call::Write { block: capacity });
-        self.refused(10, Call::Out { disk });
         self.refused(10, Call::Out { disk: disks });
         for other in (0..=disks).filter(|&other| other != disk) {
-            self.refused(10, Call::Rebuild { disk: other });
+            self.refused(10, Call::Begin { disk: other });
+        }
+        match self.flat.numbers.health {
+            Health::Rebuilding { .. } => self.refused(10, Call::Begin { disk }),
+            _ => {
+                self.refused(10, Call::Out { disk });
+                self.refused(10, Call::Continue { k: 1 });
+            }
         }
         let format = |n, block_len, stripes| Call::Format {
             n,
@@ -200,7 +222,8 @@ impl Array {
         for call in [
             Call::Read { block: 0 },
             Call::Write { block: 0 },
-            Call::Rebuild { disk },
+            Call::Begin { disk },
+            Call::Continue { k: 1 },
         ] {
             assert_eq!(self.loan.call(call), Answer::refused(7), "{call:?}");
             self.calls += 1;
@@ -218,7 +241,8 @@ impl Array {
             Call::Grow { m: 1 },
             Call::Advance { k: 1 },
             Call::Out { disk: 0 },
-            Call::Rebuild { disk },
+            Call::Begin { disk },
+            Call::Continue { k: 1 },
         ] {
             self.refused(2, call);
         }
@@ -229,32 +253,71 @@ impl Array {
         self.loan.record.hold(&before.bytes());
     }
 
-    /// Every disk but this one holds what the flat list stands for.
-    fn look_at_others(&self, out: u64) {
+    /// All that is not closed: every disk but this one, and of this one the stripes done, hold what the flat list stands for.
+    fn look(&self, out: u64) {
         let numbers = &self.flat.numbers;
+        let [_, _, done] = numbers.health.numbers();
         let wanted = images::of(&self.flat);
-        for disk in (0..numbers.disks()).filter(|&disk| disk != out) {
-            let range = images::disk(numbers, disk);
+        for disk in 0..numbers.disks() {
+            let stripes = if disk == out { done } else { numbers.stripes };
+            let range = images::part(numbers, disk, 0..stripes);
             let left = &self.loan.images.bytes()[range.clone()];
             assert!(left == &wanted[range], "disk {disk} of {numbers:?}");
         }
     }
 
-    fn rebuild(&mut self, disk: u64) {
+    /// No byte of the images is looked at.
+    fn begin(&mut self, disk: u64) {
+        self.close_others(0..0);
+        self.accepted(Call::Begin { disk });
         self.loan.images.open();
-        let range = images::disk(&self.flat.numbers, disk);
-        self.random.fill(&mut self.loan.images.exclusive()[range]);
-        self.accepted(Call::Rebuild { disk });
-        let whole = images::of(&self.flat);
-        let numbers = &self.flat.numbers;
-        assert!(
-            self.loan.images.bytes() == whole,
-            "disk {disk} of {numbers:?}"
-        );
+    }
+
+    /// Continues by k stripes, as many as are left or fewer: their places on the disk may be written, those of other disks read, and
+    /// nothing else may be touched.
+    fn proceed(&mut self, disk: u64, k: u64) {
+        let numbers = self.flat.numbers;
+        let [_, _, done] = numbers.health.numbers();
+        let (own, len) = (images::disk(&numbers, disk), numbers.images_len() as usize);
+        let next = images::part(&numbers, disk, done..done + k);
+        self.random
+            .fill(&mut self.loan.images.exclusive()[next.clone()]);
+        self.loan.images.keep(0..own.start);
+        self.loan.images.close(own.start..next.start);
+        self.loan.images.close(next.end..own.end);
+        self.loan.images.keep(own.end..len);
+        self.accepted(Call::Continue { k });
+        self.loan.images.open();
+        self.look(disk);
+    }
+
+    /// In the stripes done the disk is in service: a block of it is read there and from no other disk.
+    fn read_done(&mut self, disk: u64) {
+        let numbers = self.flat.numbers;
+        let [_, _, done] = numbers.health.numbers();
+        self.close_others(images::part(&numbers, disk, 0..done));
+        for stripe in 0..done {
+            if let Owner::Data(block) = self.flat.layout.owner(stripe, disk) {
+                self.loan.block.exclusive().fill(0x5a);
+                self.accepted(Call::Read { block });
+            }
+        }
+        self.loan.images.open();
+    }
+
+    /// The disk fails again, and all of its pages are closed; then it is as if that had not been.
+    fn lose_again(&mut self, disk: u64) {
+        let before = self.flat.numbers;
+        self.accepted(Call::Out { disk });
+        self.loan.images.close(images::disk(&before, disk));
+        self.read_all();
+        self.loan.images.open();
+        self.flat.numbers = before;
+        self.loan.record.hold(&before.bytes());
     }
 }
 
-/// One array with each of its disks out in turn.
+/// One array with each of its disks out in turn, and then rebuilt.
 fn each_disk_out(seed: u64, shape: (u64, u64, u64, u64), moves: u64) -> u64 {
     let mut array = Array::new(seed, shape, moves);
     let disks = array.flat.numbers.disks();
@@ -266,13 +329,47 @@ fn each_disk_out(seed: u64, shape: (u64, u64, u64, u64), moves: u64) -> u64 {
         array.refuse_short_block();
         array.refuse_length(disk);
         array.lose_another((disk + 1) % disks);
-        array.look_at_others(disk);
+        array.look(disk);
         array.write_all();
-        array.look_at_others(disk);
+        array.look(disk);
         array.read_all();
-        array.rebuild(disk);
+        array.begin(disk);
+        rebuild_by_pages(&mut array, disk);
+        assert!(array.loan.images.bytes() == images::of(&array.flat));
     }
     array.calls
+}
+
+/// By the stripes of one page at a time, and before one of them all calls are made.
+fn rebuild_by_pages(array: &mut Array, disk: u64) {
+    let Record {
+        block_len, stripes, ..
+    } = array.flat.numbers;
+    let in_page = 4096 / block_len;
+    let pages = stripes / in_page;
+    let used = array.random.below(pages);
+    for page in 0..pages {
+        if page == used {
+            use_half_rebuilt(array, disk, page * in_page);
+        }
+        array.proceed(disk, in_page);
+    }
+}
+
+fn use_half_rebuilt(array: &mut Array, disk: u64, done: u64) {
+    array.read_done(disk);
+    array.lose_again(disk);
+    array.spoil(disk, done);
+    array.refuse_all(disk);
+    array.refuse_short_block();
+    array.refuse_length(disk);
+    array.lose_another((disk + 1) % array.flat.numbers.disks());
+    array.read_all();
+    array.write_all();
+    array.look(disk);
+    array.read_all();
+    array.accepted(Call::Continue { k: 0 });
+    array.loan.images.open();
 }
 
 #[test]
@@ -298,31 +395,44 @@ fn a_disk_that_is_out_is_not_touched() {
     assert!(calls > 1_000_000);
 }
 
-/// The pages are closed indeed: a program that reads one byte of them ends.
+/// The pages are closed indeed, and kept: a program that reads a byte of the ones, or writes one of the others, ends.
 #[test]
-fn a_closed_page_cannot_be_read() {
-    const TOUCH: &str = "TOUCH_A_CLOSED_PAGE";
-    let mut pages = Guarded::zeros(Side::Start, 3 * 4096);
+fn a_page_that_may_not_be_touched() {
+    const TOUCH: &str = "TOUCH_A_PAGE";
+    let mut pages = Guarded::zeros(Side::Start, 4 * 4096);
     pages.exclusive().fill(7);
     pages.close(4096..2 * 4096);
+    pages.keep(2 * 4096..3 * 4096);
     assert_eq!(pages.shared()[4095], 7);
-    if std::env::var_os(TOUCH).is_some() {
-        on_fault_tell(0);
-        println!("{}", pages.bytes()[4096]);
-        return;
+    match std::env::var(TOUCH).as_deref() {
+        Ok("read") => {
+            on_fault_tell(0);
+            println!("{}", pages.bytes()[4096]);
+            return;
+        }
+        Ok("write") => {
+            on_fault_tell(0);
+            pages.exclusive()[2 * 4096] = 8;
+            return;
+        }
+        _ => {}
     }
     assert_eq!(pages.exclusive()[2 * 4096], 7);
-    let touched = std::process::Command::new(std::env::current_exe().unwrap())
-        .args(["--exact", "a_closed_page_cannot_be_read"])
-        .env(TOUCH, "")
-        .output()
-        .unwrap();
-    assert_eq!(touched.status.code(), Some(1), "ended by the fault");
-    let said = String::from_utf8_lossy(&touched.stderr);
-    assert!(
-        said.contains("a byte outside of what was lent was touched"),
-        "{said}"
-    );
+    pages.exclusive()[3 * 4096] = 8;
+    for touch in ["read", "write"] {
+        let touched = std::process::Command::new(std::env::current_exe().unwrap())
+            .args(["--exact", "a_page_that_may_not_be_touched"])
+            .env(TOUCH, touch)
+            .output()
+            .unwrap();
+        assert_eq!(touched.status.code(), Some(1), "ended by the fault");
+        let said = String::from_utf8_lossy(&touched.stderr);
+        assert!(
+            said.contains("a byte outside of what was lent was touched"),
+            "{said}"
+        );
+    }
     pages.open();
     assert_eq!(pages.exclusive()[4096], 7);
+    pages.exclusive()[2 * 4096] = 8;
 }

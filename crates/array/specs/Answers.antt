@@ -6,8 +6,8 @@ use Rattle.blocks.specs.Block.{blockAt}
 use Rattle.state.specs.declared.Record.{Record}
 use Rattle.array.specs.declared.Changed.{Changed}
 use Rattle.array.specs.declared.Changed.the-variants as changed
-use Rattle.array.specs.declared.Advanced.{Advanced}
-use Rattle.array.specs.declared.Advanced.the-variants as advanced
+use Rattle.array.specs.declared.Counted.{Counted}
+use Rattle.array.specs.declared.Counted.the-variants as counting
 use Rattle.array.specs.declared.Report.{Report}
 use Rattle.array.specs.declared.Report.the-variants as report
 use Rattle.array.specs.declared.Located.{Located}
@@ -19,7 +19,7 @@ use Rattle.array.specs.declared.Choice.the-variants as choice
 use Rattle.calls.specs.Call.{Answer, refused, done, bytes, made, figures, placed, owned}
 use Rattle.calls.specs.Effect.{View, part, scratch}
 
--- format, grow, out and rebuild: the answer, and the record that is left of r
+-- format, grow, out and begin: the answer, and the record that is left of r
 abbrev pub changedAnswer : Changed → Answer
 changedAnswer (changed.Refused k) = refused k
 changedAnswer (changed.Done x) = done
@@ -28,14 +28,14 @@ abbrev pub changedRecord : Record → Changed → Record
 changedRecord r (changed.Refused k) = r
 changedRecord r (changed.Done x) = x
 
--- advance
-abbrev pub advancedAnswer : Advanced → Answer
-advancedAnswer (advanced.Refused k) = refused k
-advancedAnswer (advanced.Made k x) = made k
+-- advance and continue
+abbrev pub countedAnswer : Counted → Answer
+countedAnswer (counting.Refused k) = refused k
+countedAnswer (counting.Made k x) = made k
 
-abbrev pub advancedRecord : Record → Advanced → Record
-advancedRecord r (advanced.Refused k) = r
-advancedRecord r (advanced.Made k x) = x
+abbrev pub countedRecord : Record → Counted → Record
+countedRecord r (counting.Refused k) = r
+countedRecord r (counting.Made k x) = x
 
 -- status, locate and owner
 abbrev pub reportAnswer : Report → Answer

@@ -3,17 +3,18 @@
 ghost use mathlib.Core.Path.{_≡_};
 ghost use mathlib.Core.Bool.{false};
 ghost use mathlib.Core.List.{[]};
-ghost use Prim.Native.Nat.{_+_, _≤_, min};
+ghost use Prim.Native.Nat.{_+_, _≤_};
 ghost use lib.ListN.{length};
 ghost use Rattle.layout.specs.Layout.{totalOf};
 ghost use Rattle.layout.specs.Moves.{cursorAt};
 ghost use Rattle.state.specs.Good.{geometry, GoodRecord};
-ghost use Rattle.array.specs.Answers.{advancedAnswer, advancedRecord};
+ghost use Rattle.array.specs.Answers.{countedAnswer, countedRecord};
 ghost use Rattle.calls.specs.Call.{advance, on};
 ghost use Rattle.calls.specs.Images.{size, storedIn};
 ghost use Rattle.calls.specs.Table.{idle};
 ghost use Rattle.calls.specs.Effect.{moveStores, advanceStores, called};
-use crate::Advanced;
+use crate::Counted;
+use crate::budget::due;
 use crate::places::place_at;
 use crate::refusal::of_advance;
 use blocks::move_block;
@@ -52,26 +53,19 @@ fn make_moves(r: Record, images: &mut [u8], count: u32)
     }
 }
 
-// The lesser of the budget and the moves that are left.
-fn moves_due(k: u64, left: u32) -> u32
-    ensures count { λ x. ⌜ x ≡ min k left ⌝ }
-{
-    if k < left as u64 { k as u32 } else { left }
-}
-
-pub fn advance(r: Record, images: &mut [u8], k: u64) -> Advanced
-    ensures answer { λ x. ⌜ advancedAnswer x ≡ called (on (advance k) (now (images .entry)) []) r .answer ⌝ }
-    ensures state { λ x. ⌜ advancedRecord r x ≡ called (on (advance k) (now (images .entry)) []) r .state ⌝ }
+pub fn advance(r: Record, images: &mut [u8], k: u64) -> Counted
+    ensures answer { λ x. ⌜ countedAnswer x ≡ called (on (advance k) (now (images .entry)) []) r .answer ⌝ }
+    ensures state { λ x. ⌜ countedRecord r x ≡ called (on (advance k) (now (images .entry)) []) r .state ⌝ }
     ensures images { λ _. ⌜ now (images .exit) ≡ called (on (advance k) (now (images .entry)) []) r .images ⌝ }
 {
     let refused = of_advance(r, images.len(), k);
     if refused != 0 {
-        return Advanced::Refused(refused);
+        return Counted::Refused(refused);
     }
     let left = (total_of(geometry_of(r)) - r.moves as u64) as u32;
-    let count = moves_due(k, left);
+    let count = due(k, left);
     make_moves(r, images, count);
-    Advanced::Made {
+    Counted::Made {
         count: count as u64,
         record: with_moves(r, r.moves + count),
     }

@@ -1,8 +1,9 @@
-// The eleven calls on a record by value and lent slices. None requires anything: each refuses as the table of document 01 says,
+// The twelve calls on a record by value and lent slices. None requires anything: each refuses as the table of document 01 says,
 // and its contract sets answer, record and every lent slice at exit equal to what `called` of crate `calls` has, refused calls
 // included. What the enums say in document 01's numbers and values is specs/Answers.antt.
 mod advancing;
 mod asking;
+mod budget;
 mod failing;
 mod formatting;
 mod growing;
@@ -24,21 +25,22 @@ pub use growing::grow;
 use layout::Place;
 use layout::Role;
 pub use reading::read;
-pub use rebuilding::rebuild;
+pub use rebuilding::begin_rebuild;
+pub use rebuilding::continue_rebuild;
 pub use refusal::RECORD;
 use state::Health;
 use state::Record;
 pub use viewing::view;
 pub use writing::write;
 
-// Of format, grow, out and rebuild: the refusal's number, or the record that the call leaves.
+// Of format, grow, out and begin: the refusal's number, or the record that the call leaves.
 pub enum Changed {
     Refused(u8),
     Done(Record),
 }
 
-// Of advance: the moves made as well.
-pub enum Advanced {
+// Of advance and continue: the moves or stripes made as well.
+pub enum Counted {
     Refused(u8),
     Made { count: u64, record: Record },
 }

@@ -1,19 +1,26 @@
-// Document 01: "**Rebuild** (d): writes disk d of every stripe as the xor of the others; health whole."
+// Document 02, (d): "begin (d), which changes the record only, and continue (k stripes), which does stripes in rising order until k are
+// done or none is left, and reports how many".
 ghost use mathlib.Core.Path.{_≡_};
 ghost use mathlib.Core.List.{[]};
 ghost use Prim.Native.Nat.{_+_, _≤_, _<_};
 ghost use lib.ListN.{length};
 ghost use Rattle.state.specs.Good.{GoodRecord};
-ghost use Rattle.array.specs.Answers.{changedAnswer, changedRecord};
-ghost use Rattle.calls.specs.Call.{rebuild, on};
+ghost use Rattle.array.specs.Answers.{changedAnswer, changedRecord, countedAnswer, countedRecord};
+ghost use Rattle.calls.specs.Call.{begin, continue, on};
 ghost use Rattle.calls.specs.Images.{disksOf, size, othersIn, storedIn, fillDisk};
 ghost use Rattle.calls.specs.Effect.{called};
 use crate::Changed;
+use crate::Counted;
+use crate::budget::due;
+use crate::health::rebuilt_to;
 use crate::refusal::disks_of;
-use crate::refusal::of_rebuild;
+use crate::refusal::of_begin;
+use crate::refusal::of_continue;
 use blocks::rebuild_place;
 use state::Health;
 use state::Record;
+use state::disk_byte;
+use state::stripes_done;
 use state::with_health;
 
 // Disk d of `count` stripes from `first` on, each summed into `block` and then stored: two slices are told apart once and for all, two
@@ -44,15 +51,41 @@ fn fill_disk_alone(r: Record, images: &mut [u8], d: u64, first: usize, count: us
     fill_disk(r, images, d, first, count, &mut block[..len]);
 }
 
-pub fn rebuild(r: Record, images: &mut [u8], d: u64) -> Changed
-    ensures answer { λ x. ⌜ changedAnswer x ≡ called (on (rebuild d) (now (images .entry)) []) r .answer ⌝ }
-    ensures state { λ x. ⌜ changedRecord r x ≡ called (on (rebuild d) (now (images .entry)) []) r .state ⌝ }
-    ensures images { λ _. ⌜ now (images .exit) ≡ called (on (rebuild d) (now (images .entry)) []) r .images ⌝ }
+// Begins to rebuild disk d. The images are lent for their length.
+pub fn begin_rebuild(r: Record, images: &[u8], d: u64) -> Changed
+    ensures answer { λ x. ⌜ changedAnswer x ≡ called (on (begin d) (now (images .entry)) []) r .answer ⌝ }
+    ensures state { λ x. ⌜ changedRecord r x ≡ called (on (begin d) (now (images .entry)) []) r .state ⌝ }
 {
-    let k = of_rebuild(r, images.len(), d);
+    let k = of_begin(r, images.len(), d);
     if k != 0 {
         return Changed::Refused(k);
     }
-    fill_disk_alone(r, images, d, 0, r.stripes as usize);
-    Changed::Done(with_health(r, Health::Whole))
+    Changed::Done(with_health(
+        r,
+        Health::Rebuilding {
+            disk: d as u8,
+            done: 0,
+        },
+    ))
+}
+
+// Makes the next k stripes of the disk that is being rebuilt, or all that are left.
+pub fn continue_rebuild(r: Record, images: &mut [u8], k: u64) -> Counted
+    ensures answer { λ x. ⌜ countedAnswer x ≡ called (on (continue k) (now (images .entry)) []) r .answer ⌝ }
+    ensures state { λ x. ⌜ countedRecord r x ≡ called (on (continue k) (now (images .entry)) []) r .state ⌝ }
+    ensures images { λ _. ⌜ now (images .exit) ≡ called (on (continue k) (now (images .entry)) []) r .images ⌝ }
+{
+    let refused = of_continue(r, images.len(), k);
+    if refused != 0 {
+        return Counted::Refused(refused);
+    }
+    let health = r.health;
+    let disk = disk_byte(health);
+    let done = stripes_done(health);
+    let count = due(k, r.stripes - done);
+    fill_disk_alone(r, images, disk as u64, done as usize, count as usize);
+    Counted::Made {
+        count: count as u64,
+        record: with_health(r, rebuilt_to(r.stripes, disk, done + count)),
+    }
 }

@@ -5,12 +5,13 @@ ghost use Prim.Native.Nat.{_≤_};
 ghost use lib.Dec.{ltb};
 ghost use Rattle.layout.specs.Layout.{capacity};
 ghost use Rattle.state.specs.Good.{geometry, GoodRecord};
-ghost use Rattle.calls.specs.Call.{format, read, grow, advance, out, rebuild, status, locate, owner, feed};
+ghost use Rattle.calls.specs.Call.{format, read, grow, advance, out, begin, continue, status, locate, owner, feed};
 ghost use Rattle.calls.specs.Images.{disksOf, sizeWith};
 ghost use Rattle.calls.specs.Table.{idle, formable, word, kept, keptWhole, keptLent, refusalOf};
 use crate::health::is_degraded;
 use crate::health::is_lost;
 use crate::health::is_out;
+use crate::health::is_rebuilding;
 use layout::all_moved;
 use layout::has_block;
 use state::Record;
@@ -209,8 +210,8 @@ pub fn of_out(r: Record, d: u64) -> u8
     0
 }
 
-pub fn of_rebuild(r: Record, images: usize, d: u64) -> u8
-    ensures number { λ k. ⌜ k ≡ refusalOf r (feed (rebuild d) images 0) ⌝ }
+pub fn of_begin(r: Record, images: usize, d: u64) -> u8
+    ensures number { λ k. ⌜ k ≡ refusalOf r (feed (begin d) images 0) ⌝ }
 {
     let k = of_lent(r, images);
     if k != 0 {
@@ -218,6 +219,20 @@ pub fn of_rebuild(r: Record, images: usize, d: u64) -> u8
     }
     let health = r.health;
     if !is_out(health, d) {
+        return DISK;
+    }
+    0
+}
+
+pub fn of_continue(r: Record, images: usize, k: u64) -> u8
+    ensures number { λ x. ⌜ x ≡ refusalOf r (feed (continue k) images 0) ⌝ }
+{
+    let w = of_lent(r, images);
+    if w != 0 {
+        return w;
+    }
+    let health = r.health;
+    if !is_rebuilding(health) {
         return DISK;
     }
     0

@@ -1,5 +1,5 @@
 // Document 01: "**Write**: the data place takes the data, the parity place its old value xor old block xor data; either is skipped if its
-// disk is out. All other bytes stay."
+// disk is out. All other bytes stay." (A disk that is being rebuilt counts as out in the stripes not done: `is_absent`.)
 ghost use mathlib.Core.Path.{_≡_};
 ghost use mathlib.Core.List.{[]};
 ghost use lib.ListN.{length};

@@ -8,30 +8,32 @@ use native.Mathlib.Nat.{zero-mul}
 use native.Mathlib.Omega.{arith}
 use lib.ListN.{length, getD, length-replicate}
 use lib.Seq.{ext-getD}
+use borrow.Author.Tests.{eq-eqb, ne-eqb}
 use Rattle.layout.specs.Layout.{totalOf, capacity, layout}
 use Rattle.blocks.specs.Block.{store, zeros}
 use Rattle.blocks.specs.Stripe.{place}
 use Rattle.blocks.specs.Xor.{xorB}
 use Rattle.blocks.proofs.Laws.Block.{store-whole}
 use Rattle.blocks.proofs.Laws.Grid.{Grid, storeAt-same}
-use Rattle.blocks.proofs.Laws.Rows.{put-same}
-use Rattle.blocks.proofs.Laws.Stripe.{cell, length-place, getD-place, length-others}
+use Rattle.blocks.proofs.Laws.Rows.{rest, put-same}
+use Rattle.blocks.proofs.Laws.Stripe.{cell, length-place, getD-place, length-others, getD-others}
 use Rattle.blocks.proofs.Laws.Xor.{getD-zeros}
-use Rattle.state.specs.declared.Health.the-variants.{Whole, Out, Lost}
+use Rattle.state.specs.declared.Health.the-variants.{Whole, Out, Lost, Rebuilding}
 use Rattle.state.specs.declared.Health.{Health}
 use Rattle.state.specs.declared.Record.{Record}
 use Rattle.state.specs.Good.{geometry, GoodRecord}
 use Rattle.state.specs.Update.{formatted, grownBy, withMoves, withHealth}
-use Rattle.calls.specs.Call.{Call, format, read, view, write, grow, advance, out, rebuild, status, locate, owner}
+use Rattle.state.proofs.Laws.Good.{rebuilding-lt}
+use Rattle.calls.specs.Call.{Call, format, read, view, write, grow, advance, out, begin, continue, status, locate, owner}
 use Rattle.calls.specs.Call.{Event, Answer, done, bytes, made}
-use Rattle.calls.specs.Health.{absent, afterOut}
+use Rattle.calls.specs.Health.{absent, afterOut, rebuiltTo}
 use Rattle.calls.specs.Images.{disksOf, size, sizeWith, placeIn, othersIn, seen, Store, stored, recorded, zeroDisks}
 use Rattle.calls.specs.Table.{idle, refusal}
 use Rattle.calls.specs.Effect.{placeOf, scratchLeft, moveStores, advanceStores, effect, answerOf, recordLeft, roomLeft}
 use Rattle.calls.specs.Alone.{movedOn}
-use Rattle.calls.specs.Acts.{Acts, OnlyDone, format-done, write-done, grow-done, out-done, rebuild-done}
+use Rattle.calls.specs.Acts.{Acts, OnlyDone, format-done, write-done, grow-done, out-done, begin-done}
 use Rattle.calls.proofs.Laws.Column.{Mask, storeIf}
-use Rattle.calls.proofs.Laws.Stores.{length-stored, cell-stored, stored-append, stored-last, recorded-last, column-fill, column-zero}
+use Rattle.calls.proofs.Laws.Stores.{length-stored, cell-stored, stored-append, stored-last, recorded-last, column-zero}
 use Rattle.calls.proofs.Laws.Holding.{cellIn}
 use Rattle.calls.proofs.Laws.Read.{viewed-is}
 use Rattle.calls.proofs.Laws.Write.{parity-apart, lS, ld, lp, length-w, cell-write}
@@ -41,8 +43,9 @@ use Rattle.calls.proofs.Laws.Table.{some-new}
 use Rattle.calls.proofs.Laws.Moved.{moved}
 use Rattle.calls.proofs.Laws.Advance.{Carried, carried, idle-none}
 use Rattle.calls.proofs.Laws.Runs as runs
-use Rattle.calls.proofs.Laws.Kinds.{Passed, bounds, formatting, writing, growing, moving, rebuilding, below-N}
-use Rattle.calls.proofs.Laws.Kinds.{zeroed, rebuilt, within-grow, within-rebuild, facts}
+use Rattle.calls.proofs.Laws.Kinds.{Passed, bounds, formatting, writing, growing, moving, continuing}
+use Rattle.calls.proofs.Laws.Kinds.{zeroed, within-grow, facts}
+use Rattle.calls.proofs.Laws.Rebuild as rebuild
 use Rattle.calls.proofs.Alone.{left, long-of}
 
 -- a place is what it is byte by byte
@@ -222,27 +225,45 @@ module _ (r : Record) (e : Event) where
   unfolding effect recorded
   out-record d h h′ q p = ap {B = Record} (λ (x : Health). withHealth r x) (ap (λ (x : Health). afterOut x d) q ∙ p)
 
-  -- ---- rebuild
+  -- ---- begin and continue
 
-  rebuild-disk : (d : ℕ) → Passed r e (rebuild d) → (S : ℕ) → S < r .stripes → placeIn r (left r e (rebuild d)) S d ≡ othersIn r img S d
-  unfolding effect
-  rebuild-disk d z S l =
-      let t = rebuilding r e d z in
-      let low : d < disksOf r = below-N r e d z in
-      let long : length img ≡ size r = t .long in
-      let J : List ℕ = stored (r .block) (r .stripes) (rebuilt r e d) img in
-      let long′ : length J ≡ size r = length-stored (r .block) (r .stripes) (rebuilt r e d) img ∙ long in
-      rw (stored-last (r .block) (r .stripes) (rebuilt r e d) (withHealth r Whole) img)
-      (place-is (disksOf r) (r .block) (r .stripes) J long′ S d l low (othersIn r img S d)
-      (length-others (r .block) (r .stripes) img S (disksOf r) d)
-      (λ j lj.
-      cell-stored (r .block) (r .stripes) (disksOf r) (rebuilt r e d) img (within-rebuild r e d low) long j S d lj l
-      ∙ column-fill 0 d (λ s. othersIn r img s d) j (r .stripes) (cellIn r img j) S d (omega arith) (omega arith)
-      ∙ put-same (cellIn r img j S) d (getD (othersIn r img S d) j 0)))
+  begin-record : (d : ℕ) → kept (begin d) ≡ withHealth r (Rebuilding d 0)
+  unfolding effect recorded
+  begin-record d = refl
 
-  rebuild-record : (d : ℕ) → kept (rebuild d) ≡ withHealth r Whole
-  unfolding effect
-  rebuild-record d = recorded-last (rebuilt r e d) (withHealth r Whole) r
+  module _ (k o c : ℕ) (h : r .health ≡ Rebuilding o c) (z : Passed r e (continue k)) where
+    in-it : GoodRecord r
+    in-it = bounds r e (continue k) refl z
+
+    long : length img ≡ size r
+    long = continuing r e k z .long
+
+    continue-disk : (S : ℕ) → c ≤ S → S < r .stripes → S < c + k → placeIn r (left r e (continue k)) S o ≡ othersIn r img S o
+    unfolding effect
+    continue-disk S lo l hi =
+        rw (rebuild.images-are r img o c h k)
+        (place-is (disksOf r) (r .block) (r .stripes) (rebuild.left r img o c h k) (rebuild.long-left r img o c h k in-it long) S o l
+        (rebuilding-lt r o c in-it h .0) (othersIn r img S o) (length-others (r .block) (r .stripes) img S (disksOf r) o)
+        (λ j lj.
+        rebuild.cell-remade r img o c h k in-it long j S o lj l lo (omega arith)
+        ∙ put-same (cellIn r img j S) o (rest (disksOf r) o (cellIn r img j S)) ∙ sym (getD-others (r .block) (r .stripes) img S (disksOf r) o j lj)))
+
+    continue-record : kept (continue k) ≡ withHealth r (rebuiltTo (r .stripes) o (c + min k (r .stripes - c)))
+    unfolding effect
+    continue-record = rebuild.record-is r img o c h k
+
+    -- k more are done, or all
+    continue-part : c + k < r .stripes → kept (continue k) ≡ withHealth r (Rebuilding o (c + k))
+    continue-part l =
+        continue-record
+        ∙ ap {B = Record} (λ (x : ℕ). withHealth r (rebuiltTo (r .stripes) o (c + x))) (let q : min k (r .stripes - c) ≡ k = omega arith in q)
+        ∙ ap {B = Record} (λ (x : Health). withHealth r x) (rebuild.come-to (r .stripes) o (c + k) l)
+
+    continue-end : r .stripes ≤ c + k → kept (continue k) ≡ withHealth r Whole
+    continue-end l =
+        continue-record
+        ∙ ap {B = Record} (λ (x : Health). withHealth r x)
+        (rebuild.come-to-end (r .stripes) o (c + min k (r .stripes - c)) (omega (arith, rebuilding-lt r o c in-it h .1)))
 
   -- ---- calls that have nothing to tell
 
@@ -252,7 +273,7 @@ module _ (r : Record) (e : Event) where
   only-done (write-done b v) = refl
   only-done (grow-done m) = refl
   only-done (out-done d) = refl
-  only-done (rebuild-done d) = refl
+  only-done (begin-done d) = refl
 
 -- ---- every call
 
@@ -279,8 +300,13 @@ acts e r z =
       advance-last = λ k q i. of-images (advance (suc k)) _ q (λ x. advance-last r e k x i);
       out-first = λ d q h. of-record (out d) _ q (λ x. out-record r e d Whole (Out d) h refl);
       out-second = λ d o q h. of-record (out d) _ q (λ x. out-record r e d (Out o) Lost h refl);
-      rebuild-disk = λ d q S l. of-place S d (rebuild d) _ q (λ x. rebuild-disk r e d x S l);
-      rebuild-record = λ d q. of-record (rebuild d) _ q (λ x. rebuild-record r e d);
+      out-other = λ d o c q h ne. of-record (out d) _ q (λ x. out-record r e d (Rebuilding o c) Lost h (rw (ne-eqb d o ne) refl));
+      out-again = λ o c q h. of-record (out o) _ q (λ x. out-record r e o (Rebuilding o c) (Out o) h (rw (eq-eqb o o refl) refl));
+      begin-record = λ d q. of-record (begin d) _ q (λ x. begin-record r e d);
+      continue-answer = λ k o c q h. of-answer (continue k) _ q (λ x. rw h refl);
+      continue-disk = λ k o c q h S lo l hi. of-place S o (continue k) _ q (λ x. continue-disk r e k o c h x S lo l hi);
+      continue-part = λ k o c q h l. of-record (continue k) _ q (λ x. continue-part r e k o c h x l);
+      continue-end = λ k o c q h l. of-record (continue k) _ q (λ x. continue-end r e k o c h x l);
       status-answer = λ q. of-answer status _ q (λ x. refl);
       locate-answer = λ b q. of-answer (locate b) _ q (λ x. refl);
       owner-answer = λ S d q. of-answer (owner S d) _ q (λ x. refl);

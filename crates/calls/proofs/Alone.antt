@@ -1,31 +1,31 @@
 -- What an accepted call leaves alone: `alone` and `record-only`. Assumes nothing.
-use Prim.Native.Nat.{ℕ, zero, suc, _+_, _<_}
+use Prim.Native.Nat.{ℕ, zero, suc, _+_, _-_, _≤_, _<_, min}
 use mathlib.Core.Path.{_≡_, refl, sym, _∙_, subst}
 use mathlib.Core.Bool.{true, false}
-use mathlib.Core.Logic.{_≢_}
+use mathlib.Core.Logic.{_⊎_, _≢_}
 use mathlib.Core.List.{List, []}
 use native.Mathlib.Omega.{arith}
-use lib.ListN.{length, getD}
+use lib.ListN.{length}
 use Rattle.layout.specs.Layout.{layout}
 use Rattle.blocks.proofs.Laws.Grid.{Grid}
-use Rattle.blocks.proofs.Laws.Rows.{put-other}
-use Rattle.state.specs.declared.Health.the-variants.{Whole}
+use Rattle.state.specs.declared.Health.the-variants.{Rebuilding}
 use Rattle.state.specs.declared.Record.{Record}
 use Rattle.state.specs.Good.{geometry}
-use Rattle.calls.specs.Call.{Call, view, write, grow, rebuild, status, locate, owner, Event, on, feed}
-use Rattle.state.specs.Update.{grownBy, withHealth}
+use Rattle.calls.specs.Call.{Call, view, write, grow, continue, status, locate, owner, Event, on, feed, count}
+use Rattle.state.specs.Update.{grownBy}
 use Rattle.calls.specs.Health.{absent}
-use Rattle.calls.specs.Images.{disksOf, size, sizeWith, placeIn, othersIn, storedIn}
+use Rattle.calls.specs.Images.{disksOf, size, sizeWith, placeIn, storedIn}
 use Rattle.calls.specs.Table.{refusalOf}
 use Rattle.calls.specs.Effect.{placeOf, scratchLeft, effect, imagesLeft, roomLeft, act, untouched, settle, called}
 use Rattle.calls.specs.Alone.{Stays, Alone, RecordOnly}
 use Rattle.calls.proofs.Laws.Column.{storeIf}
-use Rattle.calls.proofs.Laws.Stores.{length-stored, cell-stored, stored-last, column-fill, column-below}
+use Rattle.calls.proofs.Laws.Stores.{length-stored, cell-stored, stored-last, column-below}
 use Rattle.calls.proofs.Laws.Holding.{cellIn}
 use Rattle.calls.proofs.Laws.Write.{cell-write}
 use Rattle.calls.proofs.Laws.Kept.{same-place, storeIf-other, storeIf-masked}
 use Rattle.calls.proofs.Laws.Table.{status-rows, locate-rows, owner-rows}
-use Rattle.calls.proofs.Laws.Kinds.{Passed, bounds, writing, growing, rebuilding, below-N, zeroed, rebuilt, within-grow, within-rebuild, facts}
+use Rattle.calls.proofs.Laws.Kinds.{Passed, bounds, writing, growing, continuing, zeroed, within-grow, facts}
+use Rattle.calls.proofs.Laws.Rebuild as rebuild
 
 module _ (r : Record) (e : Event) where
   abbrev img : List ℕ
@@ -43,7 +43,7 @@ module _ (r : Record) (e : Event) where
   unfolding effect scratchLeft
   scratch-of b u = rw u refl
 
-  -- ---- the places that write, grow and rebuild leave
+  -- ---- the places that write, grow and continue leave
 
   module _ (b : ℕ) (v : List ℕ) (z : Passed r e (write b v)) (S d : ℕ) (lS : S < r .stripes) (ld : d < disksOf r) where
     abbrev Sb : ℕ
@@ -87,19 +87,21 @@ module _ (r : Record) (e : Event) where
       cell-stored (r .block) (r .stripes) (r .old + m) (zeroed r e m) img (within-grow r e m) long j S d lj lS
       ∙ column-below (r .block) (r .stripes) (r .old) j m (cellIn r img j) S d lS ld))
 
-  rebuild-others : (d : ℕ) → Passed r e (rebuild d) → (S f : ℕ) → S < r .stripes → f < disksOf r → f ≢ d → placeIn r (left (rebuild d)) S f ≡ placeIn r img S f
+  continue-others : (k o c : ℕ) → r .health ≡ Rebuilding o c → Passed r e (continue k) → (S d : ℕ) → S < r .stripes → d < disksOf r
+      → (d ≡ o → (S < c) ⊎ (c + min k (r .stripes - c) ≤ S)) → placeIn r (left (continue k)) S d ≡ placeIn r img S d
   unfolding effect
-  rebuild-others d z S f lS lf ne =
-      let w = rebuilding r e d z in
-      let ld : d < disksOf r = below-N r e d z in
-      let long : length img ≡ size r = w .long in
-      rw (stored-last (r .block) (r .stripes) (rebuilt r e d) (withHealth r Whole) img)
-      (same-place (disksOf r) (r .block) (r .stripes) (length img) long img (storedIn r (rebuilt r e d) img) refl
-      (length-stored (r .block) (r .stripes) (rebuilt r e d) img) S f lS lf
-      (λ j lj.
-      cell-stored (r .block) (r .stripes) (disksOf r) (rebuilt r e d) img (within-rebuild r e d ld) long j S f lj lS
-      ∙ column-fill 0 d (λ s. othersIn r img s d) j (r .stripes) (cellIn r img j) S f (omega arith) (omega arith)
-      ∙ put-other (cellIn r img j S) d (getD (othersIn r img S d) j 0) f ne))
+  continue-others k o c h z S d lS ld far =
+      let l = bounds r e (continue k) refl z in
+      let long : length img ≡ size r = continuing r e k z .long in
+      rw (rebuild.images-are r img o c h k)
+      (same-place (disksOf r) (r .block) (r .stripes) (length img) long img (rebuild.left r img o c h k) refl
+      (length-stored (r .block) (r .stripes) (rebuild.remade r img o c h k) img) S d lS ld
+      (λ j lj. rebuild.cell-apart r img o c h k l long j S d lj lS far))
+
+-- how many stripes a continue reports
+counted : (e : Event) (r : Record) (k o c : ℕ) → e .call ≡ continue k → r .health ≡ Rebuilding o c → count (act e r .answer) ≡ min k (r .stripes - c)
+unfolding effect
+counted e r k o c q h = rw (q, h) refl
 
 -- ---- every call
 
@@ -116,7 +118,8 @@ alone e r z =
       write-others = λ b v q S d lS ld ne. kept S d (write b v) q (λ x. write-others r e b v x S d lS ld ne);
       write-absent = λ b v q S d lS ld u. kept S d (write b v) q (λ x. write-absent r e b v x S d lS ld u);
       grow-old = λ m q S d lS ld. kept S d (grow m) q (λ x. grow-old r e m x S d lS ld);
-      rebuild-others = λ d q S f lS lf ne. kept S f (rebuild d) q (λ x. rebuild-others r e d x S f lS lf ne);
+      continue-others = λ k o c q h S d lS ld far. kept S d (continue k) q
+          (λ x. continue-others r e k o c h x S d lS ld (λ p. subst (λ (n : ℕ). (S < c) ⊎ (c + n ≤ S)) (counted e r k o c q h) (far p)));
     }
   where
     -- what holds of the call that this is

@@ -14,14 +14,15 @@ use Rattle.state.specs.Good.{geometry, good, GoodRecord}
 use Rattle.state.specs.Bytes.{recordLength, goodBytes, encode, AreBytes}
 use Rattle.state.proofs.Laws.Good.{limits}
 use Rattle.state.proofs.Theorem.{good-is}
-use Rattle.calls.specs.Call.{Call, column, format, read, view, write, grow, advance, out, rebuild, status, locate, owner, feed}
+use Rattle.calls.specs.Call.{Call, column, format, read, view, write, grow, advance, out, begin, continue}
+use Rattle.calls.specs.Call.{status, locate, owner, feed}
 use Rattle.calls.specs.Health.{isLost}
 use Rattle.calls.specs.Images.{disksOf, size, sizeWith}
 use Rattle.calls.specs.Table.{badRecord, badGeometry, images, pastEnd, blockLength, formable, looks}
 use Rattle.calls.specs.Table as rows
 use Rattle.calls.specs.Table.{terms, laterRows, table, refusal, rowsBytes, refusalBytes}
 use Rattle.calls.specs.Numbered.{Reason, Gives, Outside, NotLong, bad, lost, degraded, reached, formed, Numbered}
-use Rattle.calls.proofs.Laws.Reasons.{Tells, Told, gives, differ, past, outside, not-good, is-lost, is-degraded, is-idle, is-other, unformable, out-or-past}
+use Rattle.calls.proofs.Laws.Reasons.{Tells, Told, gives, differ, past, outside, not-good, is-lost, is-degraded, is-idle, is-other, none-rebuilt, unformable, out-or-past}
 use Rattle.calls.proofs.Laws.OnBytes.{refusal-encode}
 
 -- format's rows, but for the first
@@ -58,11 +59,11 @@ module _ (r : Record) (c len room : ℕ) where
 
 -- ---- on a record's bytes
 
-format-on-bytes : (b : List ℕ) (len room n B T : ℕ) → Gives (refusalBytes b (feed (format n B T) len room)) ((1, length b ≢ 16) ∷ formed n B T len)
+format-on-bytes : (b : List ℕ) (len room n B T : ℕ) → Gives (refusalBytes b (feed (format n B T) len room)) ((1, length b ≢ 20) ∷ formed n B T len)
 unfolding refusalBytes rowsBytes table laterRows terms Told
 format-on-bytes b len room n B T =
-    gives (badRecord (not (eqb (length b) 16)) ∷ badGeometry (formable n B T) ∷ images (n * (T * B)) len ∷ []) ((1, length b ≢ 16) ∷ formed n B T len)
-    (refl, differ (length b) 16, λ u. forms n B T len)
+    gives (badRecord (not (eqb (length b) 20)) ∷ badGeometry (formable n B T) ∷ images (n * (T * B)) len ∷ []) ((1, length b ≢ 20) ∷ formed n B T len)
+    (refl, differ (length b) 20, λ u. forms n B T len)
 
 module _ (b : List ℕ) (x : Call) (len room : ℕ) (are : AreBytes b) (ne : column x ≢ 0) (none : (r : Record) → GoodRecord r → encode r ≢ b) where
   not-a-record : (s g : Bool) → not (eqb (length b) recordLength) ≡ s → goodBytes b ≡ g → (s || not g) ≡ true
@@ -89,8 +90,10 @@ numbered =
           (here r (λ nl. (refl, is-degraded (r .health) nl, λ u. (refl, is-idle (geometry r), λ v. (refl, differ len (size r), λ w. tt)))));
       of-out = λ r c len room d. say r c len room (out d) _
           (here r (λ nl. (refl, out-or-past (r .health) d (disksOf r) nl, λ u. tt)));
-      of-rebuild = λ r c len room d. say r c len room (rebuild d) _
+      of-begin = λ r c len room d. say r c len room (begin d) _
           (here r (λ nl. (refl, differ len (size r), λ u. (refl, is-other (r .health) d nl, λ v. tt))));
+      of-continue = λ r c len room k. say r c len room (continue k) _
+          (here r (λ nl. (refl, differ len (size r), λ u. (refl, none-rebuilt (r .health), λ v. tt))));
       of-status = λ r c len room. say r c len room status _ (refl, not-good r, λ g. tt);
       of-locate = λ r c len room b. say r c len room (locate b) _ (refl, not-good r, λ g. (refl, past b c, λ u. tt));
       of-owner = λ r c len room S d. say r c len room (owner S d) _

@@ -1,4 +1,4 @@
--- Demand 1, as far as the definitions go: `demand1`; `in-order`, `on-bytes` and `values`. Assumes nothing.
+-- Demand 1, as far as the definitions go: `demand1`; `in-order`, `in-rising-order`, `in-steps`, `on-bytes` and `values`. Assumes nothing.
 use Prim.Native.Nat.{ℕ, zero, suc}
 use mathlib.Core.Path.{_≡_, refl}
 use mathlib.Core.Bool.{false}
@@ -10,9 +10,10 @@ use Rattle.state.specs.Bytes.{decode}
 use Rattle.calls.specs.Call.{Event, fed, accepted, number, shown, beside}
 use Rattle.calls.specs.Table.{rowsBytes, refusalBytes}
 use Rattle.calls.specs.Effect.{Left, act, untouched, settle, sealed, calledBytes}
-use Rattle.calls.specs.Theorem.{Given, Answered, Demand1, InOrder, OnBytes, Values}
+use Rattle.calls.specs.Theorem.{Given, Answered, Demand1, InOrder, InRisingOrder, InSteps, OnBytes, Values}
 use Rattle.calls.proofs.Laws.Rows.{rises, given}
 use Rattle.calls.proofs.Laws.Advance.{advance-split}
+use Rattle.calls.proofs.Laws.Rebuild.{risen, in-two}
 use Rattle.calls.proofs.Laws.OnBytes as bytes
 use Rattle.calls.proofs.Laws.Acting.{zero-done}
 use Rattle.calls.proofs.Laws.Kinds.{facts, numbered}
@@ -65,6 +66,12 @@ demand1 = answered
 
 pub in-order : InOrder
 in-order = advance-split
+
+pub in-steps : InSteps
+in-steps i k o c r img h l = in-two i k o c r img h l
+
+pub in-rising-order : InRisingOrder
+in-rising-order k o c r img h = risen r img o c h k
 
 pub on-bytes : OnBytes
 on-bytes = bytes.on-bytes

@@ -4,14 +4,15 @@
 use Prim.Native.Nat.{ℕ, suc, _+_, _-_, _*_, _≤_, _<_, min}
 use mathlib.Core.Path.{_≡_}
 use mathlib.Core.Bool.{true, false}
+use mathlib.Core.Logic.{_≢_}
 use mathlib.Core.List.{List}
 use Rattle.layout.specs.Layout.{totalOf, capacity, layout}
 use Rattle.blocks.specs.Block.{zeros}
 use Rattle.blocks.specs.Xor.{xorB}
-use Rattle.state.specs.declared.Health.the-variants.{Whole, Out, Lost}
+use Rattle.state.specs.declared.Health.the-variants.{Whole, Out, Lost, Rebuilding}
 use Rattle.state.specs.declared.Record.{Record}
 use Rattle.state.specs.Good.{geometry}
-use Rattle.calls.specs.Call.{Call, format, read, view, write, grow, advance, out, rebuild, status, locate, owner}
+use Rattle.calls.specs.Call.{Call, format, read, view, write, grow, advance, out, begin, continue, status, locate, owner}
 use Rattle.calls.specs.Call.{Event, on, fed, done, bytes, made, figures, placed, owned}
 use Rattle.state.specs.Update.{formatted, grownBy, withMoves, withHealth}
 use Rattle.calls.specs.Health.{absent}
@@ -34,7 +35,8 @@ pub data StoresRecord : Call → Type 0 where
   grow-records : (m : ℕ) → StoresRecord (grow m)
   advance-records : (k : ℕ) → StoresRecord (advance k)
   out-records : (d : ℕ) → StoresRecord (out d)
-  rebuild-records : (d : ℕ) → StoresRecord (rebuild d)
+  begin-records : (d : ℕ) → StoresRecord (begin d)
+  continue-records : (k : ℕ) → StoresRecord (continue k)
 
 -- the calls that have nothing to tell
 pub data OnlyDone : Call → Type 0 where
@@ -42,7 +44,7 @@ pub data OnlyDone : Call → Type 0 where
   write-done : (b : ℕ) (v : List ℕ) → OnlyDone (write b v)
   grow-done : (m : ℕ) → OnlyDone (grow m)
   out-done : (d : ℕ) → OnlyDone (out d)
-  rebuild-done : (d : ℕ) → OnlyDone (rebuild d)
+  begin-done : (d : ℕ) → OnlyDone (begin d)
 
 -- what is claimed of one call e on a record r ..
 pub record Does (e : Event) (r : Record) : Type 0 where
@@ -80,12 +82,24 @@ pub record Does (e : Event) (r : Record) : Type 0 where
   pub advance-next : (k : ℕ) → e .call ≡ advance (suc k) → let r′ = oneMore r in
       idle (geometry r′) ≡ false → act e r .images ≡ act (on (advance k) (movedOn r (e .images)) (e .room)) r′ .images
   pub advance-last : (k : ℕ) → e .call ≡ advance (suc k) → idle (geometry (oneMore r)) ≡ true → act e r .images ≡ movedOn r (e .images)
-  -- out: "whole becomes out; out with another disk becomes lost"
+  -- out: "whole becomes out; out with another disk becomes lost"; of a rebuild "Another disk out means lost; the same disk out means out
+  -- again."
   pub out-first : (d : ℕ) → e .call ≡ out d → r .health ≡ Whole → act e r .state ≡ withHealth r (Out d)
   pub out-second : (d o : ℕ) → e .call ≡ out d → r .health ≡ Out o → act e r .state ≡ withHealth r Lost
-  -- rebuild: "writes disk d of every stripe as the xor of the others; health whole"
-  pub rebuild-disk : (d : ℕ) → e .call ≡ rebuild d → (S : ℕ) → S < r .stripes → leftAt e r S d ≡ othersIn r (e .images) S d
-  pub rebuild-record : (d : ℕ) → e .call ≡ rebuild d → act e r .state ≡ withHealth r Whole
+  pub out-other : (d o c : ℕ) → e .call ≡ out d → r .health ≡ Rebuilding o c → d ≢ o → act e r .state ≡ withHealth r Lost
+  pub out-again : (o c : ℕ) → e .call ≡ out o → r .health ≡ Rebuilding o c → act e r .state ≡ withHealth r (Out o)
+  -- begin: "changes the record only", to no stripe done
+  pub begin-record : (d : ℕ) → e .call ≡ begin d → act e r .state ≡ withHealth r (Rebuilding d 0)
+  -- continue: "does stripes in rising order until k are done or none is left, and reports how many" ..
+  pub continue-answer : (k o c : ℕ) → e .call ≡ continue k → r .health ≡ Rebuilding o c → act e r .answer ≡ made (min k (r .stripes - c))
+  -- .. each as the xor of the others ..
+  pub continue-disk : (k o c : ℕ) → e .call ≡ continue k → r .health ≡ Rebuilding o c → (S : ℕ) → c ≤ S → S < r .stripes → S < c + k
+      → leftAt e r S o ≡ othersIn r (e .images) S o
+  -- .. with "disk and stripes done"; "At T health is whole."
+  pub continue-part : (k o c : ℕ) → e .call ≡ continue k → r .health ≡ Rebuilding o c → c + k < r .stripes
+      → act e r .state ≡ withHealth r (Rebuilding o (c + k))
+  pub continue-end : (k o c : ℕ) → e .call ≡ continue k → r .health ≡ Rebuilding o c → r .stripes ≤ c + k
+      → act e r .state ≡ withHealth r Whole
   -- status: "capacity, t, total, health"; locate: "the stripe and disk of block b"; owner: "the block number there, or parity, or blank"
   pub status-answer : e .call ≡ status
       → act e r .answer ≡ figures (capacity (geometry r)) (r .moves) (totalOf (geometry r)) (r .health)

@@ -5,15 +5,16 @@
 use Prim.Native.Nat.{ℕ, _+_, _≤_, _<_}
 use mathlib.Core.Path.{_≡_}
 use mathlib.Core.Bool.{true, false}
-use mathlib.Core.Logic.{_≢_}
+use mathlib.Core.Logic.{_⊎_, _≢_}
 use mathlib.Core.List.{List, [], _∷_}
 use lib.ListN.{length}
 use Rattle.layout.specs.Layout.{layout, nextStripe, nextFrom, nextTo}
 use Rattle.blocks.specs.Block.{zeros}
 use Rattle.blocks.specs.Stripe.{offset}
+use Rattle.state.specs.declared.Health.the-variants.{Rebuilding}
 use Rattle.state.specs.declared.Record.{Record}
 use Rattle.state.specs.Good.{geometry, good}
-use Rattle.calls.specs.Call.{Call, format, read, view, write, grow, advance, rebuild, status, locate, owner, Event, on, fed}
+use Rattle.calls.specs.Call.{Call, format, read, view, write, grow, advance, continue, status, locate, owner, Event, on, fed, count}
 use Rattle.calls.specs.Health.{absent}
 use Rattle.calls.specs.Images.{disksOf, size, placeIn, Store, block, header, storedIn}
 use Rattle.calls.specs.Table.{idle, refusalOf}
@@ -42,7 +43,7 @@ pub data StoresBlocks : Call → Type 0 where
   write-stores : (b : ℕ) (v : List ℕ) → StoresBlocks (write b v)
   grow-stores : (m : ℕ) → StoresBlocks (grow m)
   advance-stores : (k : ℕ) → StoresBlocks (advance k)
-  rebuild-stores : (d : ℕ) → StoresBlocks (rebuild d)
+  continue-stores : (k : ℕ) → StoresBlocks (continue k)
 
 -- the call leaves the bytes of place (S, d)
 abbrev pub Stays : Event → Record → ℕ → ℕ → Type 0
@@ -58,7 +59,7 @@ pub record LeavesAlone (e : Event) (r : Record) : Type 0 where
   pub room : ¬ FillsRoom (e .call) → act e r .room ≡ e .room
   -- .. and view, "if its disk is out, .. the lent scratch filled with it. Scratch is else untouched."
   pub scratch : (b : ℕ) → e .call ≡ view b → absent (r .health) (placeOf r b .stripe) (placeOf r b .disk) ≡ false → act e r .room ≡ e .room
-  -- read, view, out, status, locate and owner leave the images
+  -- read, view, out, begin ("changes the record only"), status, locate and owner leave the images
   pub images : ¬ StoresBlocks (e .call) → act e r .images ≡ e .images
   -- write: "the data place takes the data, the parity place its old value xor old block xor data; .. All other bytes stay."
   pub write-others : (b : ℕ) (v : List ℕ) → e .call ≡ write b v → (S d : ℕ) → S < r .stripes → d < disksOf r
@@ -68,8 +69,10 @@ pub record LeavesAlone (e : Event) (r : Record) : Type 0 where
       → absent (r .health) S d ≡ true → Stays e r S d
   -- grow: "given images of n + m disks, zeroes those behind the first n"
   pub grow-old : (m : ℕ) → e .call ≡ grow m → (S d : ℕ) → S < r .stripes → d < r .old → Stays e r S d
-  -- rebuild: "writes disk d of every stripe"
-  pub rebuild-others : (d : ℕ) → e .call ≡ rebuild d → (S f : ℕ) → S < r .stripes → f < disksOf r → f ≢ d → Stays e r S f
+  -- continue "does stripes in rising order until k are done or none is left, and reports how many": it leaves every other disk, and its own
+  -- outside these stripes
+  pub continue-others : (k o c : ℕ) → e .call ≡ continue k → r .health ≡ Rebuilding o c → (S d : ℕ) → S < r .stripes → d < disksOf r
+      → (d ≡ o → (S < c) ⊎ (c + count (act e r .answer) ≤ S)) → Stays e r S d
 
 -- .. and it holds of every call that the table lets through, whatever bytes it is lent
 abbrev pub Alone : Type 0

@@ -1,4 +1,4 @@
--- The eleven calls, what each is lent beside the record, and the answers.
+-- The twelve calls, what each is lent beside the record, and the answers.
 use Prim.Native.Nat.{ℕ}
 use mathlib.Core.Bool.{Bool, true, false}
 use mathlib.Core.List.{List, [], _∷_}
@@ -8,7 +8,7 @@ use Rattle.layout.specs.declared.Place.{Place}
 use Rattle.layout.specs.declared.Role.the-variants.{Data, Parity, Blank}
 use Rattle.layout.specs.declared.Role.{Role}
 use Rattle.state.specs.declared.Health.{Health}
-use Rattle.state.specs.Bytes.{healthByte, diskByte}
+use Rattle.state.specs.Bytes.{healthByte, diskByte, stripesDone}
 
 -- a call with the numbers that it is given, and a write's data
 pub data Call : Type 0 where
@@ -19,12 +19,14 @@ pub data Call : Type 0 where
   grow : (m : ℕ) → Call
   advance : (k : ℕ) → Call
   out : (d : ℕ) → Call
-  rebuild : (d : ℕ) → Call
+  begin : (d : ℕ) → Call
+  continue : (k : ℕ) → Call
   status : Call
   locate : (b : ℕ) → Call
   owner : (S d : ℕ) → Call
 
--- which call it is, whatever it is given: its place in document 01's list of calls, and its column in the tables over them
+-- which call it is, whatever it is given: its place in document 01's list of calls (begin and continue stand where rebuild stood), and its
+-- column in the tables over them
 abbrev pub column : Call → ℕ
 column (format n B T) = 0
 column (read b) = 1
@@ -33,10 +35,11 @@ column (write b v) = 3
 column (grow m) = 4
 column (advance k) = 5
 column (out d) = 6
-column (rebuild d) = 7
-column status = 8
-column (locate b) = 9
-column (owner S d) = 10
+column (begin d) = 7
+column (continue k) = 8
+column status = 9
+column (locate b) = 10
+column (owner S d) = 11
 
 -- the same call, whatever each is given?
 abbrev pub sameCall : Call → Call → Bool
@@ -105,7 +108,7 @@ shown (figures c t total h) = []
 shown (placed q) = []
 shown (owned o) = []
 
--- the count of advance
+-- the count of advance and continue
 abbrev pub count : Answer → ℕ
 count (refused k) = 0
 count done = 0
@@ -126,13 +129,13 @@ roleBlock Blank = 0
 roleBlock Parity = 0
 roleBlock (Data b) = b
 
--- the numbers beside the first, of a call that has w of them: advance's count; status's capacity, t, total, health and the disk that is
--- out; locate's stripe and disk; owner's role and block
+-- the numbers beside the first, of a call that has w of them: the count of advance and continue; status's capacity, t, total, health, the
+-- disk that is out or being rebuilt and the stripes done; locate's stripe and disk; owner's role and block
 abbrev pub beside : ℕ → Answer → List ℕ
 beside w (refused k) = replicate w 0
 beside w done = []
 beside w (bytes v) = []
 beside w (made k) = k ∷ []
-beside w (figures c t total h) = c ∷ t ∷ total ∷ healthByte h ∷ diskByte h ∷ []
+beside w (figures c t total h) = c ∷ t ∷ total ∷ healthByte h ∷ diskByte h ∷ stripesDone h ∷ []
 beside w (placed q) = q .stripe ∷ q .disk ∷ []
 beside w (owned o) = roleNumber o ∷ roleBlock o ∷ []

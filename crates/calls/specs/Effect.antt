@@ -1,5 +1,5 @@
--- What each call answers and stores, and so what it leaves. Document 01, Calls.
-use Prim.Native.Nat.{ℕ, zero, suc, _-_}
+-- What each call answers and stores, and so what it leaves. Document 01, Calls; of begin and continue document 02, (d).
+use Prim.Native.Nat.{ℕ, zero, suc, _+_, _-_, min}
 use mathlib.Core.Bool.{true, false, cond}
 use mathlib.Core.List.{List, [], _∷_, _++_}
 use Rattle.layout.specs.declared.Place.{Place}
@@ -7,14 +7,14 @@ use Rattle.layout.specs.Layout.{totalOf, capacity, layout, nextStripe, nextFrom
 use Rattle.blocks.specs.Block.{blockAt, zeros}
 use Rattle.blocks.specs.Xor.{xorB}
 use Rattle.blocks.specs.Stripe.{offset}
-use Rattle.state.specs.declared.Health.the-variants.{Whole}
+use Rattle.state.specs.declared.Health.the-variants.{Rebuilding}
 use Rattle.state.specs.declared.Record.{Record}
 use Rattle.state.specs.Good.{geometry}
-use Rattle.state.specs.Bytes.{decode, encode}
-use Rattle.calls.specs.Call.{Call, format, read, view, write, grow, advance, out, rebuild, status, locate, owner}
+use Rattle.state.specs.Bytes.{decode, diskByte, stripesDone, encode}
+use Rattle.calls.specs.Call.{Call, format, read, view, write, grow, advance, out, begin, continue, status, locate, owner}
 use Rattle.calls.specs.Call.{Event, fed, Answer, refused, done, bytes, made, figures, placed, owned}
 use Rattle.state.specs.Update.{formatted, grownBy, withMoves, withHealth}
-use Rattle.calls.specs.Health.{absent, afterOut}
+use Rattle.calls.specs.Health.{absent, afterOut, rebuiltTo}
 use Rattle.calls.specs.Images.{placeIn, othersIn, seen, Store, block, header, storedIn, recorded, unless, fillDisk, zeroDisks}
 use Rattle.calls.specs.Table.{idle, refusalOf, refusalBytes}
 
@@ -85,6 +85,20 @@ parityAfter i r img S =
     let ps = advanceStores i r img in
     placeIn r (storedIn r ps img) S (layout (geometry (recorded ps r)) .parity S)
 
+-- ---- continue
+
+-- "until k are done or none is left": how many stripes it makes
+abbrev pub stripesMade : ℕ → Record → ℕ
+stripesMade k r = min k (r .stripes - stripesDone (r .health))
+
+-- "does stripes in rising order": the disk in each as the xor of the others; then the record, with as many more done
+unfoldable pub continueStores : ℕ → Record → List ℕ → List Store
+continueStores k r img =
+    let d = diskByte (r .health) in
+    let first = stripesDone (r .health) in
+    let more = stripesMade k r in
+    fillDisk first more d (λ S. othersIn r img S d) ++ header (withHealth r (rebuiltTo (r .stripes) d (first + more))) ∷ []
+
 -- ---- what a call does: it tells something and leaves everything as it was lent; or it answers bytes and fills the lent block or scratch;
 -- or it makes stores, in order, into images of `shape`'s stripes and block length
 
@@ -107,8 +121,10 @@ effect (grow m) r e = stores done r (zeroDisks (r .block) (r .stripes) (r .old) 
 -- "reports how many, which is t's rise"
 effect (advance k) r e = let ps = advanceStores k r (e .images) in stores (made (recorded ps r .moves - r .moves)) r ps
 effect (out d) r e = stores done r (header (withHealth r (afterOut (r .health) d)) ∷ [])
--- "writes disk d of every stripe as the xor of the others; health whole"
-effect (rebuild d) r e = stores done r (fillDisk 0 (r .stripes) d (λ S. othersIn r (e .images) S d) ++ header (withHealth r Whole) ∷ [])
+-- "begin (d), which changes the record only"
+effect (begin d) r e = stores done r (header (withHealth r (Rebuilding d 0)) ∷ [])
+-- "and reports how many"
+effect (continue k) r e = stores (made (stripesMade k r)) r (continueStores k r (e .images))
 -- "capacity, t, total, health"
 effect status r e = tells (figures (capacity (geometry r)) (r .moves) (totalOf (geometry r)) (r .health))
 -- "the stripe and disk of block b"

@@ -1,6 +1,6 @@
--- Document 01's table of refusals once more, as facts in bare numbers: the number that each call is given, whatever the record, the
--- capacity and the lengths lent are. No condition of Table is named here, so that a mistake in one cannot hide, not even behind another.
--- (`GoodRecord` is facts too, and `geometry` the record's own numbers: `GoodIs` of crate state.)
+-- The table of refusals of documents 01 and 02 once more, as facts in bare numbers: the number that each call is given, whatever the
+-- record, the capacity and the lengths lent are. No condition of Table is named here, so that a mistake in one cannot hide, not even
+-- behind another. (`GoodRecord` is facts too, and `geometry` the record's own numbers: `GoodIs` of crate state.)
 -- The statement is `Numbered`; `numbered` of proofs/Numbered.antt proves it.
 use Prim.Native.Nat.{ℕ, _+_, _*_, _≤_, _<_}
 use mathlib.Core.Path.{_≡_}
@@ -8,11 +8,13 @@ use mathlib.Core.Logic.{_⊎_, _≢_}
 use mathlib.Core.List.{List, [], _∷_}
 use lib.ListN.{length}
 use Rattle.layout.specs.Layout.{totalOf, capacity}
-use Rattle.state.specs.declared.Health.the-variants.{Out, Lost}
+use Rattle.state.specs.declared.Health.the-variants.{Out, Lost, Rebuilding}
+use Rattle.state.specs.declared.Health.{Health}
 use Rattle.state.specs.declared.Record.{Record}
 use Rattle.state.specs.Good.{geometry, GoodRecord}
 use Rattle.state.specs.Bytes.{encode, AreBytes}
-use Rattle.calls.specs.Call.{Call, column, format, read, view, write, grow, advance, out, rebuild, status, locate, owner, feed}
+use Rattle.calls.specs.Call.{Call, column, format, read, view, write, grow, advance, out, begin, continue}
+use Rattle.calls.specs.Call.{status, locate, owner, feed}
 use Rattle.calls.specs.Table.{refusal, refusalBytes}
 
 -- a number, and what it is given for
@@ -32,7 +34,11 @@ Outside low x high = (x < low) ⊎ (high < x)
 abbrev pub NotLong : Record → ℕ → ℕ → Type 0
 NotLong r N len = len ≢ N * (r .stripes * r .block)
 
--- how the rows of many calls begin: 1, "not good"; 2, "health lost"; 3, "a disk out"
+-- a disk is being rebuilt
+abbrev pub Rebuilds : Health → Type 0
+Rebuilds h = (o : ℕ) × (c : ℕ) × (h ≡ Rebuilding o c)
+
+-- how the rows of many calls begin: 1, "not good"; 2, "health lost"; 3, "a disk out", "Grow and advance still see degraded"
 abbrev pub bad : Record → Reason
 bad r = (1, (GoodRecord r → ⊥))
 
@@ -40,7 +46,7 @@ abbrev pub lost : Record → Reason
 lost r = (2, r .health ≡ Lost)
 
 abbrev pub degraded : Record → Reason
-degraded r = (3, (o : ℕ) × (r .health ≡ Out o))
+degraded r = (3, ((o : ℕ) × (r .health ≡ Out o)) ⊎ Rebuilds (r .health))
 
 -- read, view and write, which have the same rows
 abbrev pub reached : Record → ℕ → ℕ → ℕ → ℕ → List Reason
@@ -66,21 +72,24 @@ pub record Numbered : Type 0 where
   -- 5, "m = 0 or t is the total"; k is no matter
   pub of-advance : (r : Record) (c len room k : ℕ) → Gives (refusal r c (feed (advance k) len room))
       (bad r ∷ lost r ∷ degraded r ∷ (5, (r .new ≡ 0) ⊎ (r .moves ≡ totalOf (geometry r))) ∷ (7, NotLong r (r .old + r .new) len) ∷ [])
-  -- 10, "d not below N, or out already"
+  -- 10, "d not below N, or out already": a disk that is being rebuilt is not
   pub of-out : (r : Record) (c len room d : ℕ) → Gives (refusal r c (feed (out d) len room))
       (bad r ∷ lost r ∷ (10, (r .old + r .new ≤ d) ⊎ (r .health ≡ Out d)) ∷ [])
-  -- 10, "d is not the disk out"
-  pub of-rebuild : (r : Record) (c len room d : ℕ) → Gives (refusal r c (feed (rebuild d) len room))
+  -- 10, "unless d is out and not rebuilding"
+  pub of-begin : (r : Record) (c len room d : ℕ) → Gives (refusal r c (feed (begin d) len room))
       (bad r ∷ lost r ∷ (7, NotLong r (r .old + r .new) len) ∷ (10, r .health ≢ Out d) ∷ [])
+  -- 10, "unless rebuilding"; k is no matter
+  pub of-continue : (r : Record) (c len room k : ℕ) → Gives (refusal r c (feed (continue k) len room))
+      (bad r ∷ lost r ∷ (7, NotLong r (r .old + r .new) len) ∷ (10, ¬ Rebuilds (r .health)) ∷ [])
   pub of-status : (r : Record) (c len room : ℕ) → Gives (refusal r c (feed status len room)) (bad r ∷ [])
   -- 8, "block number at or above capacity"
   pub of-locate : (r : Record) (c len room b : ℕ) → Gives (refusal r c (feed (locate b) len room)) (bad r ∷ (8, c ≤ b) ∷ [])
   -- 8, "S not below T"; 10, "d not below N"
   pub of-owner : (r : Record) (c len room S d : ℕ) → Gives (refusal r c (feed (owner S d) len room))
       (bad r ∷ (8, r .stripes ≤ S) ∷ (10, r .old + r .new ≤ d) ∷ [])
-  -- On a record's bytes, where 1 is "not 16 bytes long, all calls; not good, all but format": format looks at their length alone ..
+  -- On a record's bytes, where 1 is "not .. bytes long, all calls; not good, all but format": format looks at their length alone ..
   pub format-on-bytes : (b : List ℕ) (len room n B T : ℕ)
-      → Gives (refusalBytes b (feed (format n B T) len room)) ((1, length b ≢ 16) ∷ formed n B T len)
+      → Gives (refusalBytes b (feed (format n B T) len room)) ((1, length b ≢ 20) ∷ formed n B T len)
   -- .. and every other call (format's column is 0) is given 1 on bytes that are no good record's, and on a record's own what it is given
   -- on the record
   pub no-record : (b : List ℕ) (x : Call) (len room : ℕ) → AreBytes b → column x ≢ 0 → ((r : Record) → GoodRecord r → encode r ≢ b)

@@ -9,8 +9,9 @@ use Rattle.layout.specs.Layout.{totalOf, capacity}
 use Rattle.state.specs.declared.Record.{Record}
 use Rattle.state.specs.Good.{geometry, oldGood, newGood, blockGood, stripesGood, good}
 use Rattle.state.specs.Bytes.{recordLength, decode, goodBytes}
-use Rattle.calls.specs.Call.{Call, sameCall, format, read, view, write, grow, advance, out, rebuild, status, locate, owner, Fed}
-use Rattle.calls.specs.Health.{isLost, isDegraded, isOut}
+use Rattle.calls.specs.Call.{Call, sameCall, format, read, view, write, grow, advance, out, begin, continue}
+use Rattle.calls.specs.Call.{status, locate, owner, Fed}
+use Rattle.calls.specs.Health.{isLost, isDegraded, isOut, isRebuilding}
 use Rattle.calls.specs.Images.{disksOf, size, sizeWith}
 
 -- ---- the rows: a number, and whether its condition holds
@@ -18,7 +19,8 @@ use Rattle.calls.specs.Images.{disksOf, size, sizeWith}
 abbrev pub Row : Type 0
 Row = ℕ × Bool
 
--- "not 16 bytes long, all calls; not good, all but format"
+-- "not 16 bytes long, all calls; not good, all but format" (document 02, (d): "the record becomes 20 bytes, and refusal 1 goes by that
+-- length")
 abbrev pub badRecord : Bool → Row
 badRecord bad = (1, bad)
 
@@ -26,7 +28,7 @@ badRecord bad = (1, bad)
 abbrev pub lost : Record → Row
 lost r = (2, isLost (r .health))
 
--- "a disk out"
+-- "a disk out" (document 02, (d): "Grow and advance still see degraded.")
 abbrev pub degraded : Record → Row
 degraded r = (3, isDegraded (r .health))
 
@@ -60,7 +62,8 @@ pastEnd x end = (8, not (ltb x end))
 abbrev pub blockLength : Record → ℕ → Row
 blockLength r len = (9, not (eqb len (r .block)))
 
--- "out: d not below N, or out already; rebuild: d is not the disk out; owner: d not below N"
+-- "out: d not below N, or out already; .. owner: d not below N" (document 02, (d): "10 for begin unless d is out and not rebuilding, for
+-- continue unless rebuilding")
 abbrev pub disk : Bool → Row
 disk wrong = (10, wrong)
 
@@ -94,7 +97,8 @@ terms (grow m) r =
     asking (lost r ∷ degraded r ∷ grownAlready r ∷ badGeometry (newGood m) ∷ []) (those (sizeWith r m)) none
 terms (advance k) r = asking (lost r ∷ degraded r ∷ nothingToMove r ∷ []) (those (size r)) none
 terms (out d) r = asking (lost r ∷ []) nothing (λ c room. disk (not (ltb d (disksOf r)) || isOut (r .health) d) ∷ [])
-terms (rebuild d) r = asking (lost r ∷ []) (those (size r)) (λ c room. disk (not (isOut (r .health) d)) ∷ [])
+terms (begin d) r = asking (lost r ∷ []) (those (size r)) (λ c room. disk (not (isOut (r .health) d)) ∷ [])
+terms (continue k) r = asking (lost r ∷ []) (those (size r)) (λ c room. disk (not (isRebuilding (r .health))) ∷ [])
 terms status r = asking [] nothing none
 terms (locate b) r = asking [] nothing (λ c room. pastEnd b c ∷ [])
 terms (owner S d) r = asking [] nothing (λ c room. pastEnd S (r .stripes) ∷ disk (not (ltb d (disksOf r))) ∷ [])

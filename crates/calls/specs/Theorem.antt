@@ -1,8 +1,8 @@
 -- DEMAND 1, as far as the definitions go: "The lent images, record, block and scratch hold after a refused call the very bytes they
 -- held before it, nonsense records and lengths included; every call .. refuses exactly as the table says".
--- The statement is `Demand1`; `demand1` of proofs/Theorem.antt proves it, `in-order`, `on-bytes` and `values` the three
--- behind it.
-use Prim.Native.Nat.{ℕ, _+_, _<_}
+-- The statement is `Demand1`; `demand1` of proofs/Theorem.antt proves it, `in-order`, `in-rising-order`, `in-steps`, `on-bytes` and
+-- `values` the five behind it.
+use Prim.Native.Nat.{ℕ, zero, suc, _+_, _-_, _<_, min}
 use mathlib.Core.Path.{_≡_}
 use mathlib.Core.Bool.{Bool, true, false}
 use mathlib.Core.Logic.{_↔_, _≢_}
@@ -10,14 +10,15 @@ use mathlib.Core.List.{List, [], _∷_, _++_}
 use lib.ListN.{replicate}
 use Rattle.layout.specs.declared.Place.{Place}
 use Rattle.layout.specs.declared.Role.the-variants.{Data, Parity, Blank}
+use Rattle.state.specs.declared.Health.the-variants.{Rebuilding}
 use Rattle.state.specs.declared.Health.{Health}
 use Rattle.state.specs.declared.Record.{Record}
-use Rattle.state.specs.Bytes.{healthByte, diskByte, encode}
+use Rattle.state.specs.Bytes.{healthByte, diskByte, stripesDone, encode}
 use Rattle.calls.specs.Call.{Event, fed, Answer, refused, done, bytes, made, figures, placed, owned}
 use Rattle.calls.specs.Call.{accepted, number, shown, count, beside}
-use Rattle.calls.specs.Images.{storedIn, recorded}
+use Rattle.calls.specs.Images.{othersIn, Store, block, header, storedIn, recorded}
 use Rattle.calls.specs.Table.{Row, word, rowsBytes, refusalBytes}
-use Rattle.calls.specs.Effect.{advanceStores, called, sealed, calledBytes}
+use Rattle.calls.specs.Effect.{advanceStores, stripesMade, continueStores, called, sealed, calledBytes}
 
 -- no condition of these rows holds
 unfoldable pub NoneHolds : List Row → Type 0
@@ -56,6 +57,31 @@ InOrder =
     let ps = advanceStores i r img in
     advanceStores (i + k) r img ≡ ps ++ advanceStores k (recorded ps r) (storedIn r ps img)
 
+-- one store for each of k stripes, from stripe S on
+unfoldable pub rising : ℕ → ℕ → (ℕ → Store) → List Store
+rising S zero f = []
+rising S (suc k) f = f S ∷ rising (suc S) k f
+
+-- "does stripes in rising order until k are done or none is left" (document 02, (d)): the stores of a continue are those of the disk's next
+-- stripes, each once, and behind them all the record that it leaves. (`in-rising-order`)
+abbrev pub InRisingOrder : Type 0
+InRisingOrder =
+    (k o c : ℕ) (r : Record) (img : List ℕ) → r .health ≡ Rebuilding o c →
+    let ps = continueStores k r img in
+    ps ≡ rising c (min k (r .stripes - c)) (λ S. block S o (othersIn r img S o)) ++ header (recorded ps r) ∷ []
+
+-- And i + k stripes at once are i, and then k more on what the first leave: the same images and the same record, and the counts add up.
+-- (`in-steps`)
+abbrev pub InSteps : Type 0
+InSteps =
+    (i k o c : ℕ) (r : Record) (img : List ℕ) → r .health ≡ Rebuilding o c → c + i < r .stripes →
+    let ps = continueStores i r img in
+    let r′ = recorded ps r in
+    let img′ = storedIn r ps img in
+    (storedIn r (continueStores (i + k) r img) img ≡ storedIn r′ (continueStores k r′ img′) img′)
+    × (recorded (continueStores (i + k) r img) r ≡ recorded (continueStores k r′ img′) r′)
+    × (stripesMade (i + k) r ≡ stripesMade i r + stripesMade k r′)
+
 -- What is proved of calls on a record's bytes holds of calls on the record. (`on-bytes`)
 abbrev pub OnBytes : Type 0
 OnBytes = (e : Event) (r : Record) → calledBytes e (encode r) ≡ sealed (called e r)
@@ -64,10 +90,11 @@ OnBytes = (e : Event) (r : Record) → calledBytes e (encode r) ≡ sealed (call
 pub record Values : Type 0 where
   pub refusals : (w k : ℕ) → (number (refused k) ≡ k) × (beside w (refused k) ≡ replicate w 0) × (shown (refused k) ≡ [])
   pub accepts : (a : Answer) → accepted a ≡ true → number a ≡ 0
-  -- advance's count
+  -- the count of advance and continue
   pub counts : (w k : ℕ) → (beside w (made k) ≡ k ∷ []) × (count (made k) ≡ k) × (count (refused k) ≡ 0)
-  -- status's capacity, t, total, health and the disk that is out
-  pub statuses : (w c t total : ℕ) (h : Health) → beside w (figures c t total h) ≡ c ∷ t ∷ total ∷ healthByte h ∷ diskByte h ∷ []
+  -- status's capacity, t, total, health, the disk that is out or being rebuilt and the stripes done
+  pub statuses : (w c t total : ℕ) (h : Health)
+      → beside w (figures c t total h) ≡ c ∷ t ∷ total ∷ healthByte h ∷ diskByte h ∷ stripesDone h ∷ []
   -- locate's stripe and disk
   pub places : (w : ℕ) (q : Place) → beside w (placed q) ≡ q .stripe ∷ q .disk ∷ []
   -- owner's role, blank 0, parity 1, data 2, and block

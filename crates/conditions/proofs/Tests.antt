@@ -22,6 +22,14 @@ and-true a b e = simp e
 pub and-false : (a b : Bool) → a ≡ false → (a && b) ≡ false
 and-false a b e = simp e
 
+pub and-yes : (a : Bool) → (a && true) ≡ a
+and-yes true = refl
+and-yes false = refl
+
+pub and-no : (a : Bool) → (a && false) ≡ false
+and-no true = refl
+and-no false = refl
+
 pub neither : (a b : Bool) → (a || b) ≡ false → (a ≡ false) × (b ≡ false)
 neither true b e = (e, let z : b ≡ false = cc in z)
 neither false b e = (refl, e)

@@ -2,20 +2,23 @@
 use Prim.Native.Nat.{ℕ}
 use mathlib.Core.Path.{_≡_, refl, ap, _∙_}
 use mathlib.Core.List.{List, [], _∷_, map}
+use mathlib.Core.Bool.{true}
 use lib.ListN.{length}
 use Rattle.blocks.specs.Block.{zeros}
+use Rattle.state.specs.declared.Health.the-variants.{Lost}
 use Rattle.state.specs.declared.Record.{Record}
+use Rattle.state.specs.Good.{good}
 use Rattle.state.proofs.Laws.Bytes.{decode-encode}
-use Rattle.calls.specs.Call.{format, write, out, Event, fed, Answer}
+use Rattle.calls.specs.Call.{format, write, out, Event, Fed, fed, Answer, accepted}
 use Rattle.calls.specs.Images.{size}
-use Rattle.history.specs.Flat.{Flat, flatStep}
+use Rattle.history.specs.Flat.{Flat, fallen, flatStep}
 use Rattle.history.specs.Lent.{Form, asBytes, asRecord, Cabinet, leaves, next}
-use Rattle.history.specs.Theorem.{tally, Claim, Claims, opening, Demand3On, Demand3, MayBeLent, Fair, outcomes, flatOutcomes, FlatListOn, FlatList, LentAsLeft, AlwaysFairOn, AlwaysFair, LastGiven, ZeroAtFirst, SecondOut}
+use Rattle.history.specs.Theorem.{tally, Claim, Claims, opening, Demand3On, Demand3, MayBeLent, Fair, outcomes, flatOutcomes, FlatListOn, FlatList, LentAsLeft, AlwaysFairOn, AlwaysFair, LastGiven, ZeroAtFirst, NoReads, SecondOut}
 use Rattle.history.proofs.Laws.Claim.{on-bytes}
 use Rattle.history.proofs.Laws.Records.{on-records}
 use Rattle.history.proofs.Laws.Lending.{free-to-lend}
 use Rattle.history.proofs.Laws.Last.{gives, is-written, is-zero}
-use Rattle.history.proofs.Laws.Lost.{lost-then, lost-reads}
+use Rattle.history.proofs.Laws.Lost.{lost-then, second-lost, other-lost, lost-reads}
 
 pub demand3 : Demand3
 demand3 = (on-bytes, on-records on-bytes)
@@ -80,5 +83,14 @@ zero-at-first f n B T len room u b es ng = gives b (zeros B) (flatStep (record {
 -- ---- a second disk out
 
 pub second-out : SecondOut
-second-out f first second len room g h u es =
-    lost-reads es (flatStep (record { call = out second; images = len; room = room }) f .1) (f .numbers) g (lost-then f first second len room g h u)
+second-out =
+    record {
+      while-out = λ f first second len room g h. no-reads f second len room g (second-lost (f .numbers .health) first second h);
+      while-rebuilding = λ f first c second len room g h ne. no-reads f second len room g (other-lost (f .numbers .health) first c second h ne);
+    }
+  where
+    no-reads : (f : Flat) (second len room : ℕ) → good (f .numbers) ≡ true → fallen (f .numbers .health) second ≡ Lost →
+        let y = flatStep (record { call = out second; images = len; room = room }) f in
+        accepted (y .0) ≡ true → (es : List Fed) → NoReads es (y .1)
+    no-reads f second len room g q u es =
+        lost-reads es (flatStep (record { call = out second; images = len; room = room }) f .1) (f .numbers) g (lost-then f second len room q u)

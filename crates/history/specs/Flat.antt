@@ -1,18 +1,19 @@
 -- Document 01: "The flat list is a small machine. It is fed each call's arguments, a write's data among them, and the lengths
 -- lent, and no byte of record or images. It holds n, m, B, T, t, health with the disk out, and a list of blocks; capacity is
--- that list's length."
+-- that list's length." (Document 02, (d): "Health gains Rebuilding .. with disk and stripes done".)
 use Prim.Native.Nat.{ℕ, zero, suc, _+_, _-_, _*_, _/_, min}
 use mathlib.Core.Bool.{cond}
 use mathlib.Core.List.{List, [], _++_}
-use lib.Dec.{eqb}
+use lib.Dec.{eqb, ltb}
 use lib.ListN.{length, getD, set, replicate}
 use Rattle.layout.specs.Layout.{totalOf, layout}
 use Rattle.blocks.specs.Block.{zeros}
-use Rattle.state.specs.declared.Health.the-variants.{Whole, Out, Lost}
+use Rattle.state.specs.declared.Health.the-variants.{Whole, Out, Lost, Rebuilding}
 use Rattle.state.specs.declared.Health.{Health}
 use Rattle.state.specs.declared.Record.{Record}
 use Rattle.state.specs.Good.{geometry}
-use Rattle.calls.specs.Call.{Call, format, read, view, write, grow, advance, out, rebuild, status, locate, owner, Fed}
+use Rattle.state.specs.Bytes.{stripesDone}
+use Rattle.calls.specs.Call.{Call, format, read, view, write, grow, advance, out, begin, continue, status, locate, owner, Fed}
 use Rattle.calls.specs.Call.{Answer, refused, done, bytes, made, figures, placed, owned}
 use Rattle.calls.specs.Table.{refusal}
 
@@ -38,11 +39,20 @@ reached r =
 abbrev pub lengthened : Record → List (List ℕ) → List (List ℕ)
 lengthened r bs = bs ++ zeroBlocks (reached r - length bs) (r .block)
 
--- "Out and rebuild: health as under Calls": "whole becomes out; out with another disk becomes lost"
+-- "Out ..: health as under Calls": "whole becomes out; out with another disk becomes lost". Of a rebuild: "Another disk out means lost; the
+-- same disk out means out again."
 abbrev pub fallen : Health → ℕ → Health
 fallen Whole d = Out d
 fallen (Out o) d = Lost
 fallen Lost d = Lost
+fallen (Rebuilding o c) d = cond (eqb o d) (Out o) Lost
+
+-- x more stripes of a rebuild: "At T health is whole."
+abbrev pub risen : ℕ → Health → ℕ → Health
+risen T Whole x = Whole
+risen T (Out o) x = Out o
+risen T Lost x = Lost
+risen T (Rebuilding o c) x = cond (ltb (c + x) T) (Rebuilding o (c + x)) Whole
 
 unfoldable pub flatAct : Call → Record → List (List ℕ) → Answer × Flat
 -- "Format: n, B, T as given, m = t = 0, whole, T × (n − 1) zero blocks."
@@ -65,8 +75,16 @@ flatAct (advance k) r bs =
 flatAct (out d) r bs =
     let h = fallen (r .health) d in
     (done, flat (record { old = r .old; new = r .new; health = h; block = r .block; stripes = r .stripes; moves = r .moves }) bs)
-flatAct (rebuild d) r bs =
-    (done, flat (record { old = r .old; new = r .new; health = Whole; block = r .block; stripes = r .stripes; moves = r .moves }) bs)
+-- "begin (d), which changes the record only"
+flatAct (begin d) r bs =
+    let h = Rebuilding d 0 in
+    (done, flat (record { old = r .old; new = r .new; health = h; block = r .block; stripes = r .stripes; moves = r .moves }) bs)
+-- "continue (k stripes), which does stripes in rising order until k are done or none is left, and reports how many": the lesser of k and
+-- T less those done
+flatAct (continue k) r bs =
+    let c = min k (r .stripes - stripesDone (r .health)) in
+    let h = risen (r .stripes) (r .health) c in
+    (made c, flat (record { old = r .old; new = r .new; health = h; block = r .block; stripes = r .stripes; moves = r .moves }) bs)
 -- "Status, locate and owner answer from these numbers, by Layout."
 flatAct status r bs = (figures (length bs) (r .moves) (totalOf (geometry r)) (r .health), flat r bs)
 flatAct (locate b) r bs = (placed (layout (geometry r) .place b), flat r bs)

@@ -24,7 +24,7 @@ pub record Form (R : Type 0) : Type 0 where
   pub encoded : Record → R
   pub isGood : R → Bool
 
--- "exported .. with the record as 16 bytes"
+-- "exported .. with the record as .. bytes"
 abbrev pub asBytes : Form (List ℕ)
 asBytes = record { call = calledBytes; decoded = decode; encoded = encode; isGood = goodBytes }
 
@@ -43,9 +43,9 @@ pub record Cabinet (R : Type 0) : Type 0 where
 abbrev pub takes : Call → Record → Takes
 takes c r = terms c r .takes
 
--- every place of `left` stands in `lent`, but those of a disk that is out: "once out (d) is accepted .., and until a rebuild of d
--- or a format is accepted, disk d may hold any bytes, new ones before each call" (where health is lost, any disk may: no call
--- looks at them)
+-- every place of `left` stands in `lent`, but those where a disk counts as out: "once out (d) is accepted .., disk d may hold any bytes,
+-- new ones before each call"; once it is being rebuilt "only in stripes not yet rebuilt" (document 02, (d)); where health is lost, any
+-- disk may: no call looks at them
 unfoldable pub Keeps : Record → List ℕ → List ℕ → Type 0
 Keeps r left lent = (S d : ℕ) → S < r .stripes → d < disksOf r → absent (r .health) S d ≡ false → placeIn r lent S d ≡ placeIn r left S d
 

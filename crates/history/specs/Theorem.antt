@@ -4,7 +4,8 @@
 -- refusal is exactly that of document 01's flat list, zero at first, of what each block was last given; each move keeps its
 -- stripe's parity value; and growth is over exactly when the moves reported since it began are T × n × m / (n + m) .. A second
 -- disk out while the first is not rebuilt refuses all reads until a new format." (That number is the total, of which document 02, (a),
--- says: "The total becomes (T div (n × (n + m))) × n × n × m".)
+-- says: "The total becomes (T div (n × (n + m))) × n × n × m". Of a rebuild (d) says: "The disk may hold any bytes only in stripes not yet
+-- rebuilt, and reads still follow the flat list.")
 -- The statement is `Demand3`; behind it stand `MayBeLent`, `FlatList`, `AlwaysFair`, `LastGiven`, `ZeroAtFirst` and
 -- `SecondOut`. `demand3`, `may-be-lent`, `flat-list`, `always-fair`, `last-given`, `zero-at-first` and `second-out` of proofs/Theorem.antt
 -- prove them, and assume nothing.
@@ -16,7 +17,7 @@ use mathlib.Core.List.{List, [], _∷_, _++_, map}
 use lib.ListN.{length, getD}
 use Rattle.layout.specs.Layout.{totalOf, capacity, layout}
 use Rattle.blocks.specs.Block.{zeros}
-use Rattle.state.specs.declared.Health.the-variants.{Out, Lost}
+use Rattle.state.specs.declared.Health.the-variants.{Out, Lost, Rebuilding}
 use Rattle.state.specs.declared.Record.{Record}
 use Rattle.state.specs.Good.{geometry, good}
 use Rattle.calls.specs.Call.{Call, sameCall, format, read, view, write, grow, advance, out}
@@ -41,7 +42,8 @@ tally c a sum = cond (accepted a) (tallied c (count a) sum) sum
 -- of the growth after it
 
 pub record Claim {R : Type 0} (x : Form R) (e : Event) (a : Cabinet R) (f : Flat) (sum : ℕ) : Type 0 where
-  -- "the number; the bytes that read fills in or view returns; the count of advance; the answers of status, locate and owner"
+  -- "the number; the bytes that read fills in or view returns; the count of advance; the answers of status, locate and owner"; the count
+  -- of continue too
   pub answer : leaves x e a .answer ≡ flatStep (fed e) f .0
   pub filled : (b : ℕ) → e .call ≡ read b → accepted (leaves x e a .answer) ≡ true → leaves x e a .answer ≡ bytes (leaves x e a .room)
   -- "as a part of the images, or, if its disk is out, as the lent scratch filled with it. Scratch is else untouched."
@@ -93,7 +95,7 @@ Claims x (e ∷ es) a f sum =
     let after = tally (e .call) (leaves x e a .answer) sum in
     Lends e (f .numbers) (a .img) → Claim x e a f after × Claims x es (next x e a) (flatStep (fed e) f .1) after
 
--- "The list opens with an accepted format, lent any record and images. Behind it come any of the eleven calls above, with any
+-- "The list opens with an accepted format, lent any record and images. Behind it come any of the .. calls above, with any
 -- arguments, refused or not." (What the flat list and the sum were before it does not matter.)
 abbrev pub opening : ℕ → ℕ → ℕ → List ℕ → List ℕ → Event
 opening n B T img room = record { call = format n B T; images = img; room = room }
@@ -121,6 +123,9 @@ pub record FreeToLend (e : Event) (r : Record) (left : List ℕ) : Type 0 where
   -- "disk d may hold any bytes"
   pub any-out : (o : ℕ) → r .health ≡ Out o
       → ((S d : ℕ) → S < r .stripes → d < disksOf r → d ≢ o → placeIn r (e .images) S d ≡ placeIn r left S d) → Lends e r left
+  -- "The disk may hold any bytes only in stripes not yet rebuilt"
+  pub any-not-rebuilt : (o c : ℕ) → r .health ≡ Rebuilding o c
+      → ((S d : ℕ) → S < r .stripes → d < disksOf r → (d ≡ o → S < c) → placeIn r (e .images) S d ≡ placeIn r left S d) → Lends e r left
   -- and where two disks are out, any disk may
   pub any-lost : r .health ≡ Lost → Lends e r left
   -- calls that take no images do not look at any
@@ -211,8 +216,12 @@ NoReads (e ∷ es) f =
     × ((b : ℕ) → e .call ≡ view b → y .0 ≡ refused 2)
     × (((n B T : ℕ) → e .call ≡ format n B T → accepted (y .0) ≡ false) → NoReads es (y .1))
 
-abbrev pub SecondOut : Type 0
-SecondOut =
-    (f : Flat) (first second len room : ℕ) →
-    let y = flatStep (record { call = out second; images = len; room = room }) f in
-    good (f .numbers) ≡ true → f .numbers .health ≡ Out first → accepted (y .0) ≡ true → (es : List Fed) → NoReads es (y .1)
+-- the first is out, or being rebuilt and so not rebuilt yet
+pub record SecondOut : Type 0 where
+  pub while-out : (f : Flat) (first second len room : ℕ) →
+      let y = flatStep (record { call = out second; images = len; room = room }) f in
+      good (f .numbers) ≡ true → f .numbers .health ≡ Out first → accepted (y .0) ≡ true → (es : List Fed) → NoReads es (y .1)
+  pub while-rebuilding : (f : Flat) (first done second len room : ℕ) →
+      let y = flatStep (record { call = out second; images = len; room = room }) f in
+      good (f .numbers) ≡ true → f .numbers .health ≡ Rebuilding first done → second ≢ first → accepted (y .0) ≡ true
+      → (es : List Fed) → NoReads es (y .1)

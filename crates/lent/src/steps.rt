@@ -1,12 +1,12 @@
 // The calls that change the record, each as a step from the record before to the one behind it, with the answer in numbers.
 ghost use mathlib.Core.Path.{_≡_};
 ghost use mathlib.Core.List.{[]};
-ghost use Rattle.array.specs.Answers.{changedAnswer, changedRecord, advancedAnswer, advancedRecord};
-ghost use Rattle.calls.specs.Call.{format, grow, advance, out, rebuild, on, number, count};
+ghost use Rattle.array.specs.Answers.{changedAnswer, changedRecord, countedAnswer, countedRecord};
+ghost use Rattle.calls.specs.Call.{format, grow, advance, out, begin, continue, on, number, count};
 ghost use Rattle.calls.specs.Effect.{called};
 use crate::Count;
-use array::Advanced;
 use array::Changed;
+use array::Counted;
 use state::Record;
 
 pub struct Step {
@@ -29,16 +29,16 @@ fn stepped(r: Record, x: Changed) -> Step
     }
 }
 
-fn moved(r: Record, x: Advanced) -> Progress
-    ensures answer { λ s. ⌜ (s .count .number ≡ number (advancedAnswer x)) × (s .count .made ≡ count (advancedAnswer x)) ⌝ }
-    ensures state { λ s. ⌜ s .rec ≡ advancedRecord r x ⌝ }
+fn progressed(r: Record, x: Counted) -> Progress
+    ensures answer { λ s. ⌜ (s .count .number ≡ number (countedAnswer x)) × (s .count .made ≡ count (countedAnswer x)) ⌝ }
+    ensures state { λ s. ⌜ s .rec ≡ countedRecord r x ⌝ }
 {
     match x {
-        Advanced::Refused(k) => {
+        Counted::Refused(k) => {
             let c = Count { number: k, made: 0 };
             Progress { rec: r, count: c }
         }
-        Advanced::Made { count, record } => {
+        Counted::Made { count, record } => {
             let c = Count {
                 number: 0,
                 made: count,
@@ -73,7 +73,7 @@ pub fn advance_step(r: Record, images: &mut [u8], k: u64) -> Progress
     ensures state { λ s. ⌜ s .rec ≡ called (on (advance k) (now (images .entry)) []) r .state ⌝ }
     ensures images { λ _. ⌜ now (images .exit) ≡ called (on (advance k) (now (images .entry)) []) r .images ⌝ }
 {
-    moved(r, array::advance(r, images, k))
+    progressed(r, array::advance(r, images, k))
 }
 
 pub fn out_step(r: Record, d: u64) -> Step
@@ -83,10 +83,18 @@ pub fn out_step(r: Record, d: u64) -> Step
     stepped(r, array::out(r, d))
 }
 
-pub fn rebuild_step(r: Record, images: &mut [u8], d: u64) -> Step
-    ensures answer { λ s. ⌜ s .number ≡ number (called (on (rebuild d) (now (images .entry)) []) r .answer) ⌝ }
-    ensures state { λ s. ⌜ s .rec ≡ called (on (rebuild d) (now (images .entry)) []) r .state ⌝ }
-    ensures images { λ _. ⌜ now (images .exit) ≡ called (on (rebuild d) (now (images .entry)) []) r .images ⌝ }
+pub fn begin_step(r: Record, images: &[u8], d: u64) -> Step
+    ensures answer { λ s. ⌜ s .number ≡ number (called (on (begin d) (now (images .entry)) []) r .answer) ⌝ }
+    ensures state { λ s. ⌜ s .rec ≡ called (on (begin d) (now (images .entry)) []) r .state ⌝ }
 {
-    stepped(r, array::rebuild(r, images, d))
+    stepped(r, array::begin_rebuild(r, images, d))
+}
+
+pub fn continue_step(r: Record, images: &mut [u8], k: u64) -> Progress
+    ensures answer { λ s. ⌜ (s .count .number ≡ number (called (on (continue k) (now (images .entry)) []) r .answer))
+        × (s .count .made ≡ count (called (on (continue k) (now (images .entry)) []) r .answer)) ⌝ }
+    ensures state { λ s. ⌜ s .rec ≡ called (on (continue k) (now (images .entry)) []) r .state ⌝ }
+    ensures images { λ _. ⌜ now (images .exit) ≡ called (on (continue k) (now (images .entry)) []) r .images ⌝ }
+{
+    progressed(r, array::continue_rebuild(r, images, k))
 }

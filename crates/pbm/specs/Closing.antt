@@ -4,13 +4,13 @@ use mathlib.Core.List.{List}
 use Rattle.state.specs.Bytes.{encode}
 use Rattle.array.specs.declared.Changed.{Changed}
 use Rattle.array.specs.declared.Changed.the-variants as changed
-use Rattle.array.specs.declared.Advanced.{Advanced}
-use Rattle.array.specs.declared.Advanced.the-variants as advanced
+use Rattle.array.specs.declared.Counted.{Counted}
+use Rattle.array.specs.declared.Counted.the-variants as counting
 
 abbrev pub changedBytes : Changed → List ℕ → List ℕ
 changedBytes (changed.Refused k) b = b
 changedBytes (changed.Done r) b = encode r
 
-abbrev pub advancedBytes : Advanced → List ℕ → List ℕ
-advancedBytes (advanced.Refused k) b = b
-advancedBytes (advanced.Made k r) b = encode r
+abbrev pub countedBytes : Counted → List ℕ → List ℕ
+countedBytes (counting.Refused k) b = b
+countedBytes (counting.Made k r) b = encode r

@@ -12,6 +12,7 @@ use layout::Role;
 use state::decode;
 use state::disk_byte;
 use state::health_byte;
+use state::stripes_done;
 
 #[no_mangle]
 pub extern "C" fn pbm_status(
@@ -21,16 +22,18 @@ pub extern "C" fn pbm_status(
     total: &mut u64,
     health: &mut u64,
     out: &mut u64,
+    rebuilt: &mut u64,
 ) -> u8
     ensures answer { λ k. ⌜ k ≡ number (calledBytes (on status [] []) (now (rec .entry)) .answer) ⌝ }
-    ensures beside { λ _. ⌜ (now (capacity .exit) ∷ now (moves .exit) ∷ now (total .exit) ∷ now (health .exit) ∷ now (out .exit) ∷ []) ≡
-        beside 5 (calledBytes (on status [] []) (now (rec .entry)) .answer) ⌝ }
+    ensures beside { λ _. ⌜ (now (capacity .exit) ∷ now (moves .exit) ∷ now (total .exit) ∷ now (health .exit) ∷ now (out .exit)
+        ∷ now (rebuilt .exit) ∷ []) ≡ beside 6 (calledBytes (on status [] []) (now (rec .entry)) .answer) ⌝ }
 {
     *capacity = 0;
     *moves = 0;
     *total = 0;
     *health = 0;
     *out = 0;
+    *rebuilt = 0;
     if !is_readable(rec) {
         return RECORD;
     }
@@ -48,6 +51,7 @@ pub extern "C" fn pbm_status(
             *total = all;
             *health = health_byte(h) as u64;
             *out = disk_byte(h) as u64;
+            *rebuilt = stripes_done(h) as u64;
             0
         }
     }

@@ -1,10 +1,10 @@
 // The calls that change the record.
 ghost use mathlib.Core.Path.{_≡_};
 ghost use mathlib.Core.List.{[], _∷_};
-ghost use Rattle.calls.specs.Call.{format, grow, advance, out, rebuild, on, number, beside};
+ghost use Rattle.calls.specs.Call.{format, grow, advance, out, begin, continue, on, number, beside};
 ghost use Rattle.calls.specs.Effect.{calledBytes};
 use crate::closing::close;
-use crate::closing::close_advance;
+use crate::closing::close_count;
 use crate::opening::is_readable;
 use array::RECORD;
 use state::RECORD_LENGTH;
@@ -54,7 +54,7 @@ pub extern "C" fn pbm_advance(rec: &mut [u8], images: &mut [u8], k: u64, made: &
         *made = 0;
         return RECORD;
     }
-    close_advance(rec, array::advance(decode(rec), images, k), made)
+    close_count(rec, array::advance(decode(rec), images, k), made)
 }
 
 #[no_mangle]
@@ -69,13 +69,27 @@ pub extern "C" fn pbm_out(rec: &mut [u8], d: u64) -> u8
 }
 
 #[no_mangle]
-pub extern "C" fn pbm_rebuild(rec: &mut [u8], images: &mut [u8], d: u64) -> u8
-    ensures answer { λ k. ⌜ k ≡ number (calledBytes (on (rebuild d) (now (images .entry)) []) (now (rec .entry)) .answer) ⌝ }
-    ensures state { λ _. ⌜ now (rec .exit) ≡ calledBytes (on (rebuild d) (now (images .entry)) []) (now (rec .entry)) .state ⌝ }
-    ensures images { λ _. ⌜ now (images .exit) ≡ calledBytes (on (rebuild d) (now (images .entry)) []) (now (rec .entry)) .images ⌝ }
+pub extern "C" fn pbm_begin(rec: &mut [u8], images: &[u8], d: u64) -> u8
+    ensures answer { λ k. ⌜ k ≡ number (calledBytes (on (begin d) (now (images .entry)) []) (now (rec .entry)) .answer) ⌝ }
+    ensures state { λ _. ⌜ now (rec .exit) ≡ calledBytes (on (begin d) (now (images .entry)) []) (now (rec .entry)) .state ⌝ }
 {
     if !is_readable(rec) {
         return RECORD;
     }
-    close(rec, array::rebuild(decode(rec), images, d))
+    close(rec, array::begin_rebuild(decode(rec), images, d))
+}
+
+#[no_mangle]
+pub extern "C" fn pbm_continue(rec: &mut [u8], images: &mut [u8], k: u64, made: &mut u64) -> u8
+    ensures answer { λ x. ⌜ x ≡ number (calledBytes (on (continue k) (now (images .entry)) []) (now (rec .entry)) .answer) ⌝ }
+    ensures beside { λ _. ⌜ (now (made .exit) ∷ []) ≡
+        beside 1 (calledBytes (on (continue k) (now (images .entry)) []) (now (rec .entry)) .answer) ⌝ }
+    ensures state { λ _. ⌜ now (rec .exit) ≡ calledBytes (on (continue k) (now (images .entry)) []) (now (rec .entry)) .state ⌝ }
+    ensures images { λ _. ⌜ now (images .exit) ≡ calledBytes (on (continue k) (now (images .entry)) []) (now (rec .entry)) .images ⌝ }
+{
+    if !is_readable(rec) {
+        *made = 0;
+        return RECORD;
+    }
+    close_count(rec, array::continue_rebuild(decode(rec), images, k), made)
 }

@@ -2,11 +2,11 @@
 ghost use mathlib.Core.Path.{_≡_};
 ghost use lib.ListN.{length};
 ghost use Rattle.state.specs.Bytes.{recordLength};
-ghost use Rattle.array.specs.Answers.{changedAnswer, advancedAnswer};
+ghost use Rattle.array.specs.Answers.{changedAnswer, countedAnswer};
 ghost use Rattle.calls.specs.Call.{number, count};
-ghost use Rattle.pbm.specs.Closing.{changedBytes, advancedBytes};
-use array::Advanced;
+ghost use Rattle.pbm.specs.Closing.{changedBytes, countedBytes};
 use array::Changed;
+use array::Counted;
 use state::encode;
 
 // Answers the number.
@@ -24,19 +24,19 @@ pub(crate) fn close(rec: &mut [u8], x: Changed) -> u8
     }
 }
 
-// The same for advance, with the moves made.
-pub(crate) fn close_advance(rec: &mut [u8], x: Advanced, made: &mut u64) -> u8
+// The same for advance and continue, with the moves or stripes made.
+pub(crate) fn close_count(rec: &mut [u8], x: Counted, made: &mut u64) -> u8
     requires { ⌜ length (now rec) ≡ recordLength ⌝ }
-    ensures answer { λ k. ⌜ k ≡ number (advancedAnswer x) ⌝ }
-    ensures made { λ _. ⌜ now (made .exit) ≡ count (advancedAnswer x) ⌝ }
-    ensures state { λ _. ⌜ now (rec .exit) ≡ advancedBytes x (now (rec .entry)) ⌝ }
+    ensures answer { λ k. ⌜ k ≡ number (countedAnswer x) ⌝ }
+    ensures made { λ _. ⌜ now (made .exit) ≡ count (countedAnswer x) ⌝ }
+    ensures state { λ _. ⌜ now (rec .exit) ≡ countedBytes x (now (rec .entry)) ⌝ }
 {
     match x {
-        Advanced::Refused(k) => {
+        Counted::Refused(k) => {
             *made = 0;
             k
         }
-        Advanced::Made { count, record } => {
+        Counted::Made { count, record } => {
             *made = count;
             encode(record, rec);
             0

@@ -11,6 +11,7 @@ ghost use Rattle.io.specs.Counts.{Counts};
 use libc::STDOUT_FILENO;
 use marks::mark;
 use marks::write_marks;
+use records::begun;
 use records::formatted;
 use records::grown;
 use records::moved;
@@ -97,7 +98,16 @@ fn show_disk_out(r: Record, images: &mut [u8])
     show(out, images, 4, b"disk 1 out and overwritten");
     show(out, images, 5, b"disk 1 out and overwritten");
     show(r, images, 4, b"by the record from before");
-    let back = rebuilt(out, images, 1);
+    show_rebuild(out, images);
+}
+
+// Stripe 2 is the third to be done.
+fn show_rebuild(out: Record, images: &mut [u8]) {
+    let two = rebuilt(begun(out, images, 1), images, 2);
+    show(two, images, 4, b"2 stripes of disk 1 rebuilt");
+    let three = rebuilt(two, images, 1);
+    show(three, images, 4, b"3 stripes of disk 1 rebuilt");
+    let back = rebuilt(three, images, 12);
     show(back, images, 4, b"disk 1 rebuilt");
 }
 

@@ -1,7 +1,7 @@
 // Calls of `lent` on a record that stands in a local: it is lent, and what the call leaves in it is returned.
 ghost use mathlib.Core.Path.{_≡_};
 ghost use mathlib.Core.List.{[]};
-ghost use Rattle.calls.specs.Call.{format, grow, advance, out, rebuild, on};
+ghost use Rattle.calls.specs.Call.{format, grow, advance, out, begin, continue, on};
 ghost use Rattle.calls.specs.Effect.{called};
 use state::Record;
 
@@ -23,12 +23,20 @@ pub fn moved(mut r: Record, images: &mut [u8], k: u64) -> Record
     r
 }
 
-// With disk d rebuilt.
-pub fn rebuilt(mut r: Record, images: &mut [u8], d: u64) -> Record
-    ensures state { λ y. ⌜ y ≡ called (on (rebuild d) (now (images .entry)) []) r .state ⌝ }
-    ensures images { λ _. ⌜ now (images .exit) ≡ called (on (rebuild d) (now (images .entry)) []) r .images ⌝ }
+// With disk d being rebuilt.
+pub fn begun(mut r: Record, images: &[u8], d: u64) -> Record
+    ensures state { λ y. ⌜ y ≡ called (on (begin d) (now (images .entry)) []) r .state ⌝ }
 {
-    lent::rebuild(&mut r, images, d);
+    lent::begin_rebuild(&mut r, images, d);
+    r
+}
+
+// With k more stripes rebuilt.
+pub fn rebuilt(mut r: Record, images: &mut [u8], k: u64) -> Record
+    ensures state { λ y. ⌜ y ≡ called (on (continue k) (now (images .entry)) []) r .state ⌝ }
+    ensures images { λ _. ⌜ now (images .exit) ≡ called (on (continue k) (now (images .entry)) []) r .images ⌝ }
+{
+    lent::continue_rebuild(&mut r, images, k);
     r
 }
 

@@ -16,6 +16,6 @@ grownBy r m = record { old = r .old; new = m; health = r .health; block = r .blo
 abbrev pub withMoves : Record → ℕ → Record
 withMoves r t = record { old = r .old; new = r .new; health = r .health; block = r .block; stripes = r .stripes; moves = t }
 
--- "**Out** (d): whole becomes out; ..", "**Rebuild** (d): .. health whole"
+-- "**Out** (d): whole becomes out; .."; begin: "changes the record only"; continue: "At T health is whole."
 abbrev pub withHealth : Record → Health → Record
 withHealth r h = record { old = r .old; new = r .new; health = h; block = r .block; stripes = r .stripes; moves = r .moves }

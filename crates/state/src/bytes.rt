@@ -1,52 +1,13 @@
 // The record's bytes, in and out. Reading tests nothing: `is_plain` and `is_good` are apart, so that no caller tests twice.
 ghost use mathlib.Core.Path.{_≡_};
 ghost use lib.ListN.{length};
-ghost use Rattle.state.specs.Bytes.{recordLength, two, four, healthOf, decode, healthPlain, plain, healthByte, diskByte, encode};
+ghost use Rattle.state.specs.Bytes.{recordLength, two, four, doneFrom, healthOf, decode, healthPlain, plain};
+ghost use Rattle.state.specs.Bytes.{healthByte, diskByte, stripesDone, encode};
 use crate::Health;
 use crate::Record;
 
 // How many they are: `recordLength`.
-pub const RECORD_LENGTH: usize = 16;
-
-// Is the health byte 0 to 2, and the disk byte zero unless it is 1?
-fn health_is_plain(h: u8, d: u8) -> bool
-    ensures { λ r. ⌜ r ≡ healthPlain h d ⌝ }
-{
-    if 2 < h {
-        return false;
-    }
-    if h == 1 {
-        return true;
-    }
-    d == 0
-}
-
-// Are these the bytes of a record, good or not?
-pub fn is_plain(bytes: &[u8]) -> bool
-    requires { ⌜ length (now bytes) ≡ recordLength ⌝ }
-    ensures { λ r. ⌜ r ≡ plain (now (bytes .entry)) ⌝ }
-{
-    if !health_is_plain(bytes[2], bytes[3]) {
-        return false;
-    }
-    if bytes[6] != 0 {
-        return false;
-    }
-    bytes[7] == 0
-}
-
-// The health that its byte and the disk's spell.
-fn health_from(h: u8, d: u8) -> Health
-    ensures { λ r. ⌜ r ≡ healthOf h d ⌝ }
-{
-    if h == 0 {
-        return Health::Whole;
-    }
-    if h == 1 {
-        return Health::Out(d);
-    }
-    Health::Lost
-}
+pub const RECORD_LENGTH: usize = 20;
 
 // Two bytes as a number, least byte first.
 fn join_two(a: u8, b: u8) -> u16
@@ -62,6 +23,66 @@ fn join_four(a: u8, b: u8, c: u8, d: u8) -> u32
     (a as u32) + 256 * (b as u32) + 65536 * (c as u32) + 16777216 * (d as u32)
 }
 
+// The stripes done that the bytes spell.
+fn done_from(bytes: &[u8]) -> u32
+    requires { ⌜ length (now bytes) ≡ recordLength ⌝ }
+    ensures { λ r. ⌜ r ≡ doneFrom (now (bytes .entry)) ⌝ }
+{
+    join_four(bytes[16], bytes[17], bytes[18], bytes[19])
+}
+
+// Is the health byte 0 to 3, are the stripes done zero unless it is 3, and is the disk unless it is 1 or 3?
+fn health_is_plain(h: u8, d: u8, done: u32) -> bool
+    ensures { λ r. ⌜ r ≡ healthPlain h d done ⌝ }
+{
+    if 3 < h {
+        return false;
+    }
+    if h == 3 {
+        return true;
+    }
+    if done != 0 {
+        return false;
+    }
+    if h == 1 {
+        return true;
+    }
+    d == 0
+}
+
+// Are these the bytes of a record, good or not?
+pub fn is_plain(bytes: &[u8]) -> bool
+    requires { ⌜ length (now bytes) ≡ recordLength ⌝ }
+    ensures { λ r. ⌜ r ≡ plain (now (bytes .entry)) ⌝ }
+{
+    if !health_is_plain(bytes[2], bytes[3], done_from(bytes)) {
+        return false;
+    }
+    if bytes[6] != 0 {
+        return false;
+    }
+    bytes[7] == 0
+}
+
+// The health that its byte, the disk's and the stripes done spell.
+fn health_from(h: u8, d: u8, done: u32) -> Health
+    ensures { λ r. ⌜ r ≡ healthOf h d done ⌝ }
+{
+    if h == 0 {
+        return Health::Whole;
+    }
+    if h == 1 {
+        return Health::Out(d);
+    }
+    if h == 2 {
+        return Health::Lost;
+    }
+    Health::Rebuilding {
+        disk: d,
+        done: done,
+    }
+}
+
 // The record that the bytes spell.
 pub fn decode(bytes: &[u8]) -> Record
     requires { ⌜ length (now bytes) ≡ recordLength ⌝ }
@@ -70,7 +91,7 @@ pub fn decode(bytes: &[u8]) -> Record
     Record {
         old: bytes[0],
         new: bytes[1],
-        health: health_from(bytes[2], bytes[3]),
+        health: health_from(bytes[2], bytes[3], done_from(bytes)),
         block: join_two(bytes[4], bytes[5]),
         stripes: join_four(bytes[8], bytes[9], bytes[10], bytes[11]),
         moves: join_four(bytes[12], bytes[13], bytes[14], bytes[15]),
@@ -85,10 +106,11 @@ pub fn health_byte(health: Health) -> u8
         Health::Whole => 0,
         Health::Out(_) => 1,
         Health::Lost => 2,
+        Health::Rebuilding { disk: _, done: _ } => 3,
     }
 }
 
-// Byte 3: zero unless a disk is out.
+// Byte 3: zero unless a disk is out or being rebuilt.
 pub fn disk_byte(health: Health) -> u8
     ensures { λ r. ⌜ r ≡ diskByte health ⌝ }
 {
@@ -96,6 +118,19 @@ pub fn disk_byte(health: Health) -> u8
         Health::Whole => 0,
         Health::Out(d) => d,
         Health::Lost => 0,
+        Health::Rebuilding { disk, done: _ } => disk,
+    }
+}
+
+// Bytes 16 to 19: zero unless a disk is being rebuilt.
+pub fn stripes_done(health: Health) -> u32
+    ensures { λ r. ⌜ r ≡ stripesDone health ⌝ }
+{
+    match health {
+        Health::Whole => 0,
+        Health::Out(_) => 0,
+        Health::Lost => 0,
+        Health::Rebuilding { disk: _, done } => done,
     }
 }
 
@@ -105,6 +140,7 @@ pub fn encode(r: Record, bytes: &mut [u8])
     ensures { λ _. ⌜ now (bytes .exit) ≡ encode r ⌝ }
 {
     let health = r.health;
+    let done = stripes_done(health);
     bytes[0] = r.old;
     bytes[1] = r.new;
     bytes[2] = health_byte(health);
@@ -121,4 +157,8 @@ pub fn encode(r: Record, bytes: &mut [u8])
     bytes[13] = (r.moves / 256 % 256) as u8;
     bytes[14] = (r.moves / 65536 % 256) as u8;
     bytes[15] = (r.moves / 16777216) as u8;
+    bytes[16] = (done % 256) as u8;
+    bytes[17] = (done / 256 % 256) as u8;
+    bytes[18] = (done / 65536 % 256) as u8;
+    bytes[19] = (done / 16777216) as u8;
 }

@@ -10,6 +10,7 @@ pub use bytes::disk_byte;
 pub use bytes::encode;
 pub use bytes::health_byte;
 pub use bytes::is_plain;
+pub use bytes::stripes_done;
 pub use good::block_is_good;
 pub use good::geometry_of;
 pub use good::is_good;
@@ -21,11 +22,13 @@ pub use update::grown_by;
 pub use update::with_health;
 pub use update::with_moves;
 
-// All disks are in; the one that is out; or two were out at once, and nothing can be read until a new format.
+// All disks are in; two were out at once, and nothing can be read until a new format; the one that is out; or the one that is being
+// rebuilt, with the stripes of it that are done: those below that number. (The two that have a disk stand last: one test tells them.)
 pub enum Health {
     Whole,
-    Out(u8),
     Lost,
+    Out(u8),
+    Rebuilding { disk: u8, done: u32 },
 }
 
 // n old disks, m new ones (0 before growth), B the block length, T stripes, t moves done.

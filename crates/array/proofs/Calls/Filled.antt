@@ -1,7 +1,6 @@
--- Rebuild: disk d, stripe by stripe from S₀ on, as the xor of the others; what is stored on it changes none of these. Assumes nothing.
-use Prim.Native.Nat.{ℕ, zero, suc, _+_, _≤_, _<_}
+-- Continue: disk d, stripe by stripe from S₀ on, as the xor of the others; what is stored on it changes none of these. Assumes nothing.
+use Prim.Native.Nat.{ℕ, zero, suc, _+_, _-_, _≤_, _<_, min}
 use mathlib.Core.Path.{_≡_, refl, sym, ap, ap₂, _∙_}
-use mathlib.Core.Logic.{inr}
 use mathlib.Core.List.{List, [], _∷_}
 use native.Mathlib.Nat.{le-antisymm}
 use native.Mathlib.Numerals.{add-one}
@@ -10,36 +9,32 @@ use lib.ListN.{length}
 use Rattle.layout.specs.Layout.{capacity}
 use Rattle.blocks.specs.Block.{store}
 use Rattle.blocks.specs.Stripe.{offset, others}
-use Rattle.blocks.proofs.Laws.Stripe.{length-others, others-store}
-use Rattle.state.specs.declared.Health.the-variants.{Whole}
+use Rattle.blocks.proofs.Laws.Stripe.{length-others}
+use Rattle.state.specs.declared.Health.the-variants.{Rebuilding}
 use Rattle.state.specs.declared.Record.{Record}
 use Rattle.state.specs.Good.{geometry, GoodRecord}
 use Rattle.state.specs.Update.{withHealth}
-use Rattle.state.proofs.Laws.Good.{out-lt}
-use Rattle.calls.specs.Call.{rebuild, feed, on, done}
-use Rattle.calls.specs.Images.{disksOf, size, othersIn, block, stored, fillDisk}
+use Rattle.state.specs.Bytes.{diskByte, stripesDone}
+use Rattle.state.proofs.Laws.Good.{out-lt, rebuilding-lt}
+use Rattle.calls.specs.Call.{begin, continue, feed, on, done, made}
+use Rattle.calls.specs.Health.{rebuiltTo}
+use Rattle.calls.specs.Images.{disksOf, size, othersIn, block, stored, recorded, fillDisk}
 use Rattle.calls.specs.Table.{refusalOf}
-use Rattle.calls.specs.Effect.{effect, called}
+use Rattle.calls.specs.Effect.{continueStores, effect, called}
 use Rattle.calls.proofs.Laws.Stores.{length-stored, stored-append, stored-last, recorded-last}
-use Rattle.calls.proofs.Laws.Passed.{passed, in-limits, Rebuilds, rebuilds}
+use Rattle.calls.proofs.Laws.Passed.{passed, in-limits, begins, Continues, continues}
+use Rattle.calls.proofs.Laws.Rebuild.{sums, others-filled}
 use Rattle.array.proofs.Calls.Called.{called-done}
 
 module _ (B T N d S₀ : ℕ) (img : List ℕ) where
-  abbrev sums : ℕ → List ℕ
-  sums S = others B T img S N d
-
-  others-filled : (k S : ℕ) → S₀ + k ≤ T → S < T → others B T (stored B T (fillDisk S₀ k d sums) img) S N d ≡ sums S
-  unfolding stored fillDisk
-  others-filled zero S lk lS = refl
-  others-filled (suc k) S lk lS =
-      ap (λ (l : List ℕ). others B T l S N d) (stored-append B T (fillDisk S₀ k d sums) (block (S₀ + k) d (sums (S₀ + k)) ∷ []) img)
-      ∙ others-store B T (stored B T (fillDisk S₀ k d sums) img) S N d (S₀ + k) d (sums (S₀ + k)) lS (omega arith) (inr refl) (length-others B T img (S₀ + k) N d)
-      ∙ others-filled k S (omega arith) lS
+  -- the xors of the others, before any of it
+  abbrev before : ℕ → List ℕ
+  before = sums B T N d S₀ img
 
   -- behind k turns of count: the images, and the block that is summed into
   pub record Filled (count : ℕ) (l b : List ℕ) (k : ℕ) : Type 0 where
     pub most : k ≤ count
-    pub images : l ≡ stored B T (fillDisk S₀ k d sums) img
+    pub images : l ≡ stored B T (fillDisk S₀ k d before) img
     pub long : length l ≡ length img
     pub whole : length b ≡ B
 
@@ -47,47 +42,78 @@ module _ (B T N d S₀ : ℕ) (img : List ℕ) where
   unfolding stored fillDisk
   filled-none count b e = record { most = omega arith; images = refl; long = refl; whole = e }
 
-  filled : (k : ℕ) → stored B T (fillDisk S₀ (suc k) d sums) img ≡ store (stored B T (fillDisk S₀ k d sums) img) (offset B T (S₀ + k) d) (sums (S₀ + k))
+  filled : (k : ℕ) → stored B T (fillDisk S₀ (suc k) d before) img ≡ store (stored B T (fillDisk S₀ k d before) img) (offset B T (S₀ + k) d) (before (S₀ + k))
   unfolding stored fillDisk
-  filled k = stored-append B T (fillDisk S₀ k d sums) (block (S₀ + k) d (sums (S₀ + k)) ∷ []) img
+  filled k = stored-append B T (fillDisk S₀ k d before) (block (S₀ + k) d (before (S₀ + k)) ∷ []) img
 
   pub filled-more : {count : ℕ} {l b l′ b′ : List ℕ} {k : ℕ} → S₀ + count ≤ T → k < count → Filled count l b k
       → l′ ≡ store l (offset (length b) T (S₀ + k) d) (others (length b) T l (S₀ + k) N d) → b′ ≡ others (length b) T l (S₀ + k) N d → Filled count l′ b′ (k + 1)
   filled-more {count} {l} {b} {l′} {b′} {k} high h f el eb =
       let s : ℕ = S₀ + k in
-      let sum : others (length b) T l s N d ≡ sums s =
-      ap₂ (λ (n : ℕ) (x : List ℕ). others n T x s N d) (f .whole) (f .images) ∙ others-filled k s (omega (arith, f .most)) (omega arith) in
-      let el′ : l′ ≡ stored B T (fillDisk S₀ (k + 1) d sums) img =
+      let sum : others (length b) T l s N d ≡ before s =
+      ap₂ (λ (n : ℕ) (x : List ℕ). others n T x s N d) (f .whole) (f .images) ∙ others-filled B T N d S₀ img k s (omega (arith, f .most)) (omega arith) in
+      let el′ : l′ ≡ stored B T (fillDisk S₀ (k + 1) d before) img =
       el ∙ ap₂ (λ (n : ℕ) (v : List ℕ). store l (offset n T s d) v) (f .whole) sum
-      ∙ ap (λ (x : List ℕ). store x (offset B T s d) (sums s)) (f .images)
-      ∙ sym (filled k) ∙ ap (λ (n : ℕ). stored B T (fillDisk S₀ n d sums) img) (sym (add-one k)) in
+      ∙ ap (λ (x : List ℕ). store x (offset B T s d) (before s)) (f .images)
+      ∙ sym (filled k) ∙ ap (λ (n : ℕ). stored B T (fillDisk S₀ n d before) img) (sym (add-one k)) in
       record {
         most = omega arith;
         images = el′;
-        long = ap length el′ ∙ length-stored B T (fillDisk S₀ (k + 1) d sums) img;
+        long = ap length el′ ∙ length-stored B T (fillDisk S₀ (k + 1) d before) img;
         whole = ap length (eb ∙ sum) ∙ length-others B T img s N d;
       }
 
-  pub filled-all : {count : ℕ} {l b : List ℕ} {k : ℕ} → Filled count l b k → count ≤ k → l ≡ stored B T (fillDisk S₀ count d sums) img
-  filled-all f h = f .images ∙ ap (λ (n : ℕ). stored B T (fillDisk S₀ n d sums) img) (le-antisymm (f .most) h)
+  pub filled-all : {count : ℕ} {l b : List ℕ} {k : ℕ} → Filled count l b k → count ≤ k → l ≡ stored B T (fillDisk S₀ count d before) img
+  filled-all f h = f .images ∙ ap (λ (n : ℕ). stored B T (fillDisk S₀ n d before) img) (le-antisymm (f .most) h)
 
--- ---- the call
+-- ---- begin
 
-module _ (img : List ℕ) (r : Record) (d : ℕ) (z : refusalOf r (feed (rebuild d) (length img) 0) ≡ 0) where
-  at-once : Rebuilds r (length img) d
-  at-once = rebuilds r (capacity (geometry r)) (length img) 0 d (passed r (capacity (geometry r)) (feed (rebuild d) (length img) 0) z)
+module _ (img : List ℕ) (r : Record) (d : ℕ) (z : refusalOf r (feed (begin d) (length img) 0) ≡ 0) where
+  pub begin-passed : d < 256
+  begin-passed =
+      let l : GoodRecord r = in-limits r (capacity (geometry r)) (feed (begin d) (length img) 0) refl z in
+      let q = begins r (capacity (geometry r)) (length img) 0 d (passed r (capacity (geometry r)) (feed (begin d) (length img) 0) z) in
+      omega (arith, out-lt r d l (q .is-out), l .array .disks)
 
-  -- what filling a disk asks for
-  pub rebuild-passed : GoodRecord r × (d < disksOf r) × (0 + r .stripes ≤ r .stripes) × (length img ≡ size r)
-  rebuild-passed =
-      let l : GoodRecord r = in-limits r (capacity (geometry r)) (feed (rebuild d) (length img) 0) refl z in
-      (l, out-lt r d l (at-once .is-out), omega arith, at-once .long)
+  pub begin-done : called (on (begin d) img []) r ≡ record { answer = done; state = withHealth r (Rebuilding d 0); images = img; room = [] }
+  unfolding effect stored recorded
+  begin-done = called-done (on (begin d) img []) r z
 
-  pub rebuild-done : called (on (rebuild d) img []) r
-      ≡ record { answer = done; state = withHealth r Whole; images = stored (r .block) (r .stripes) (fillDisk 0 (r .stripes) d (λ S. othersIn r img S d)) img; room = [] }
-  unfolding effect
-  rebuild-done =
-      let x : Record = withHealth r Whole in
-      let ps = fillDisk 0 (r .stripes) d (λ S. othersIn r img S d) in
-      called-done (on (rebuild d) img []) r z
-      ∙ ap₂ (λ (y : Record) (l : List ℕ). record { answer = done; state = y; images = l; room = [] }) (recorded-last ps x r) (stored-last (r .block) (r .stripes) ps x img)
+-- ---- continue
+
+module _ (img : List ℕ) (r : Record) (k : ℕ) (z : refusalOf r (feed (continue k) (length img) 0) ≡ 0) where
+  at-once : Continues r (length img)
+  at-once = continues r (capacity (geometry r)) (length img) 0 k (passed r (capacity (geometry r)) (feed (continue k) (length img) 0) z)
+
+  abbrev pub disk : ℕ
+  disk = diskByte (r .health)
+
+  abbrev pub first : ℕ
+  first = stripesDone (r .health)
+
+  within : GoodRecord r
+  within = in-limits r (capacity (geometry r)) (feed (continue k) (length img) 0) refl z
+
+  -- what it goes on with, and what filling a disk asks for
+  pub continue-passed : GoodRecord r × (disk < disksOf r) × (first < r .stripes) × (first + min k (r .stripes - first) ≤ r .stripes) × (length img ≡ size r)
+  continue-passed =
+      let q = at-once in
+      let (ld, lc) = rebuilding-lt r (q .disk) (q .done) within (q .health) in
+      let ld′ : disk < disksOf r = rw (q .health) ld in
+      let lc′ : first < r .stripes = rw (q .health) lc in
+      (within, ld′, lc′, omega (arith, lc′), q .long)
+
+  pub continue-done : called (on (continue k) img []) r
+      ≡ record {
+        answer = made (min k (r .stripes - first));
+        state = withHealth r (rebuiltTo (r .stripes) disk (first + min k (r .stripes - first)));
+        images = stored (r .block) (r .stripes) (fillDisk first (min k (r .stripes - first)) disk (λ S. othersIn r img S disk)) img;
+        room = [];
+      }
+  unfolding effect continueStores
+  continue-done =
+      let n : ℕ = min k (r .stripes - first) in
+      let x : Record = withHealth r (rebuiltTo (r .stripes) disk (first + n)) in
+      let ps = fillDisk first n disk (λ S. othersIn r img S disk) in
+      called-done (on (continue k) img []) r z
+      ∙ ap₂ (λ (y : Record) (l : List ℕ). record { answer = made n; state = y; images = l; room = [] }) (recorded-last ps x r) (stored-last (r .block) (r .stripes) ps x img)

@@ -149,7 +149,7 @@ module _ (r : Record) (img : List ℕ) (count : ℕ) (l : GoodRecord r) (busy : 
         array = record { disks = a .disks; stripes-low = a .stripes-low; stripes-high = a .stripes-high; moves = left };
         block-low = l .block-low;
         block-high = l .block-high;
-        out = l .out;
+        health = l .health;
       } in
       subst (λ (y : Record). GoodRecord y × (idle (geometry y) ≡ false) × (at ≡ cursorAt (y .old) (y .new) (y .moves)) × (length J ≡ size y)) (sym e)
       (lim, still, f .next, f .long ∙ lent)

@@ -8,11 +8,11 @@ use Rattle.layout.specs.Layout.{openStripes, capacity, grownPlace, grownParity}
 use Rattle.state.specs.Good.{movesGood, good}
 use Rattle.calls.specs.Images.{seen, stored, recorded, fillDisk, zeroDisks}
 use Rattle.calls.specs.Table.{idle, formable, terms, laterRows, table, refusal}
-use Rattle.calls.specs.Effect.{viewOf, scratchLeft, writeStores, moveStores, advanceStores, effect, called}
+use Rattle.calls.specs.Effect.{viewOf, scratchLeft, writeStores, moveStores, advanceStores, continueStores, effect, called}
 use Rattle.calls.specs.Cases.Drawers.{Drawers}
 
 pub drawers : Drawers
-unfolding dataDisk homeStripe homeDisk moveZone moveTo moveLag moveWithin moveStripe moveFrom total lag target turn isMoved diskAt source taken blanksBelow blanks newStripe newDisk openStripes capacity grownPlace grownParity movesGood good seen stored recorded fillDisk zeroDisks idle formable terms laterRows table refusal viewOf scratchLeft writeStores moveStores advanceStores effect called
+unfolding dataDisk homeStripe homeDisk moveZone moveTo moveLag moveWithin moveStripe moveFrom total lag target turn isMoved diskAt source taken blanksBelow blanks newStripe newDisk openStripes capacity grownPlace grownParity movesGood good seen stored recorded fillDisk zeroDisks idle formable terms laterRows table refusal viewOf scratchLeft writeStores moveStores advanceStores continueStores effect called
 drawers = record {
   move = refl;
   no-move = refl;
@@ -23,7 +23,24 @@ drawers = record {
   read-degraded = refl;
   viewed = refl;
   viewed-degraded = refl;
+  begun = refl;
   rebuilt = refl;
+  rebuilt-some = refl;
+  rebuilt-none = refl;
+  rebuilt-more = refl;
+  rebuilt-but-one = refl;
+  rebuilt-rest = refl;
+  read-done = refl;
+  read-not-done = refl;
+  viewed-done = refl;
+  viewed-not-done = refl;
+  written-done = refl;
+  written-not-done = refl;
+  parity-done = refl;
+  parity-not-done = refl;
+  out-again = refl;
+  out-other = refl;
+  no-advance = refl;
   first-out = refl;
   second-out = refl;
   grown = refl;
@@ -36,6 +53,8 @@ drawers = record {
   no-block = refl;
   move-stores = refl;
   write-stores = refl;
+  continue-stores = refl;
+  last-stores = refl;
   written-unsound = refl;
   written-beside-unsound = refl;
   written-degraded-unsound = refl;

@@ -4,7 +4,7 @@ use Rattle.layout.specs.Layout.{openStripes, capacity}
 use Rattle.layout.specs.Moves.{total}
 use Rattle.state.specs.Good.{movesGood, good}
 use Rattle.state.specs.Bytes.{decode, plain, encode}
-use Rattle.calls.specs.Call.{format, read, view, write, grow, advance, out, rebuild, status, locate, owner}
+use Rattle.calls.specs.Call.{format, read, view, write, grow, advance, out, begin, continue, status, locate, owner}
 use Rattle.calls.specs.Table.{idle, formable, terms, laterRows, table, rowsBytes, refusalBytes}
 use Rattle.calls.specs.Cases.Refusals.{Rowwise, Refusals}
 
@@ -17,7 +17,8 @@ rowwise (write b v) short bad r cap len room = refl
 rowwise (grow m) short bad r cap len room = refl
 rowwise (advance k) short bad r cap len room = refl
 rowwise (out d) short bad r cap len room = refl
-rowwise (rebuild d) short bad r cap len room = refl
+rowwise (begin d) short bad r cap len room = refl
+rowwise (continue k) short bad r cap len room = refl
 rowwise status short bad r cap len room = refl
 rowwise (locate b) short bad r cap len room = refl
 rowwise (owner S d) short bad r cap len room = refl
@@ -35,7 +36,8 @@ refusals = record {
   grows = refl;
   advances = refl;
   outs = refl;
-  rebuilds = refl;
+  begins = refl;
+  continues = refl;
   statuses = refl;
   locates = refl;
   owners = refl;

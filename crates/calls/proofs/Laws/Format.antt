@@ -59,7 +59,7 @@ module _ (n B T : ℕ) where
             };
         block-low = bl;
         block-high = bh;
-        out = tt;
+        health = tt;
       }
 
   empty : T * (n - 1) ≡ capacity (geometry r)

@@ -136,7 +136,7 @@ module _ (r : Record) (left img room : List ℕ) (bs : List (List ℕ)) (h : Hol
         state = recorded-last ps x r;
         holding =
             record {
-              limits = record { array = good; block-low = h .limits .block-low; block-high = h .limits .block-high; out = rw hw tt };
+              limits = record { array = good; block-low = h .limits .block-low; block-high = h .limits .block-high; health = rw hw tt };
               long = rw (stored-last (r .block) (r .stripes) ps x img) (length-stored (r .block) (r .stripes) ps img ∙ long);
               count = count-with-new g′ (r .block) bs (enough mz);
               whole = whole-with-new g′ (r .block) bs (h .whole);

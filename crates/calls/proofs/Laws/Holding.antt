@@ -12,7 +12,8 @@ use Rattle.layout.proofs.Laws.Layout.{lawful}
 use Rattle.blocks.proofs.Laws.Grid.{Grid}
 use Rattle.blocks.proofs.Laws.Rows.{rest}
 use Rattle.blocks.proofs.Laws.Stripe.{cell, length-place, getD-place, length-others, getD-others}
-use Rattle.state.specs.declared.Health.the-variants.{Whole, Out, Lost}
+use Rattle.conditions.proofs.Tests.{both}
+use Rattle.state.specs.declared.Health.the-variants.{Whole, Out, Lost, Rebuilding}
 use Rattle.state.specs.declared.Health.{Health}
 use Rattle.state.specs.declared.Record.{Record}
 use Rattle.state.specs.Good.{geometry, GoodRecord}
@@ -53,6 +54,7 @@ unfolding Single
 single N T Whole nl S d e p q = let z : d ≡ e = cc in z
 single N T (Out o) nl S d e p q = eqb-true d o p ∙ sym (eqb-true e o q)
 single N T Lost nl S d e p q = let z : d ≡ e = cc in z
+single N T (Rebuilding o c) nl S d e p q = eqb-true d o (both _ _ p .0) ∙ sym (eqb-true e o (both _ _ q .0))
 
 -- ---- what is seen of a place, byte by byte
 

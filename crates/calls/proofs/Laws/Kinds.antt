@@ -1,6 +1,6 @@
 -- What holds of a call by what it does: it tells, it fills, or it stores. One function by cases on the call, `facts`; what else is said of
 -- every call is read off it. Assumes nothing.
-use Prim.Native.Nat.{ℕ, _+_, _≤_, _<_}
+use Prim.Native.Nat.{ℕ, _+_}
 use mathlib.Core.Path.{_≡_, refl, sym, _∙_}
 use mathlib.Core.Bool.{Bool, true, false, cond}
 use mathlib.Core.List.{List, [], _∷_, _++_}
@@ -9,27 +9,26 @@ use lib.ListN.{length}
 use Rattle.layout.specs.Layout.{capacity}
 use Rattle.layout.proofs.Laws.Layout.{lawful}
 use Rattle.blocks.proofs.Laws.Stripe.{length-others}
-use Rattle.state.specs.declared.Health.the-variants.{Whole}
 use Rattle.state.specs.declared.Record.{Record}
 use Rattle.state.specs.Good.{geometry, GoodRecord}
-use Rattle.calls.specs.Call.{Call, format, read, view, write, grow, advance, out, rebuild, status, locate, owner}
+use Rattle.calls.specs.Call.{Call, format, read, view, write, grow, advance, out, begin, continue, status, locate, owner}
 use Rattle.calls.specs.Call.{Event, Fed, feed, Answer, accepted, number, done}
-use Rattle.state.specs.Update.{formatted, grownBy, withHealth}
-use Rattle.state.proofs.Laws.Good.{out-lt}
+use Rattle.state.specs.Update.{formatted, grownBy}
 use Rattle.calls.specs.Health.{absent}
-use Rattle.calls.specs.Images.{disksOf, othersIn, Store, header, stored, storedIn, recorded, fillDisk, zeroDisks}
+use Rattle.calls.specs.Images.{disksOf, othersIn, Store, header, stored, storedIn, recorded, zeroDisks}
 use Rattle.calls.specs.Table.{looks, refusalOf}
-use Rattle.calls.specs.Effect.{placeOf, scratchLeft, writeStores, advanceStores, Effect, tells, fills, stores, effect, answerOf, recordLeft, imagesLeft, roomLeft}
+use Rattle.calls.specs.Effect.{placeOf, scratchLeft, writeStores, advanceStores, continueStores, Effect, tells, fills, stores, effect, answerOf, recordLeft, imagesLeft, roomLeft}
 use Rattle.calls.specs.Alone.{Inside, StoresInside, FillsRoom, read-fills, view-fills}
-use Rattle.calls.specs.Alone.{StoresBlocks, format-stores, write-stores, grow-stores, advance-stores, rebuild-stores}
-use Rattle.calls.specs.Acts.{StoresRecord, format-records, grow-records, advance-records, out-records, rebuild-records}
-use Rattle.calls.proofs.Laws.Stores.{Within, length-stored, within-append, within-fill, within-zero}
+use Rattle.calls.specs.Alone.{StoresBlocks, format-stores, write-stores, grow-stores, advance-stores, continue-stores}
+use Rattle.calls.specs.Acts.{StoresRecord, format-records, grow-records, advance-records, out-records, begin-records, continue-records}
+use Rattle.calls.proofs.Laws.Stores.{Within, length-stored, within-append, within-zero}
 use Rattle.calls.proofs.Laws.Acting.{zero-done}
 use Rattle.calls.proofs.Laws.Holding.{length-seen}
 use Rattle.calls.proofs.Laws.Write.{within-write, recorded-write}
 use Rattle.calls.proofs.Laws.Passed as passed
-use Rattle.calls.proofs.Laws.Passed.{Formats, Reaches, Grows, Moves, Rebuilds, in-limits}
+use Rattle.calls.proofs.Laws.Passed.{Formats, Reaches, Grows, Moves, Continues, in-limits}
 use Rattle.calls.proofs.Laws.Kept.{inside-within, within-advance}
+use Rattle.calls.proofs.Laws.Rebuild.{within-remade, stores-are}
 
 -- a record stored behind blocks
 within-last : (N B T : ℕ) (ps : List Store) (x : Record) → Within N B T ps → Within N B T (ps ++ header x ∷ [])
@@ -73,27 +72,16 @@ module _ (r : Record) (e : Event) where
   pub moving : (k : ℕ) → Passed (advance k) → Moves r (length img)
   moving k z = passed.moves r cap (length img) (length (e .room)) k (passed.passed r cap (asked (advance k)) z)
 
-  pub rebuilding : (d : ℕ) → Passed (rebuild d) → Rebuilds r (length img) d
-  rebuilding d z = passed.rebuilds r cap (length img) (length (e .room)) d (passed.passed r cap (asked (rebuild d)) z)
-
-  -- the disk that is out is below N
-  pub below-N : (d : ℕ) → Passed (rebuild d) → d < disksOf r
-  below-N d z = out-lt r d (bounds (rebuild d) refl z) (rebuilding d z .is-out)
+  pub continuing : (k : ℕ) → Passed (continue k) → Continues r (length img)
+  continuing k z = passed.continues r cap (length img) (length (e .room)) k (passed.passed r cap (asked (continue k)) z)
 
   -- ---- the stores of each call that makes any
 
   abbrev pub zeroed : ℕ → List Store
   zeroed m = zeroDisks (r .block) (r .stripes) (r .old) m
 
-  abbrev pub rebuilt : ℕ → List Store
-  rebuilt d = fillDisk 0 (r .stripes) d (λ S. othersIn r img S d)
-
   pub within-grow : (m : ℕ) → Within (r .old + m) (r .block) (r .stripes) (zeroed m)
   within-grow m = within-zero (r .block) (r .stripes) (r .old) (r .old + m) m (omega arith)
-
-  pub within-rebuild : (d : ℕ) → d < disksOf r → Within (disksOf r) (r .block) (r .stripes) (rebuilt d)
-  within-rebuild d ld =
-      within-fill 0 d (λ S. othersIn r img S d) (disksOf r) (r .block) (r .stripes) ld (λ S. length-others (r .block) (r .stripes) img S (disksOf r) d) (r .stripes) (omega arith)
 
   format-inside : (n B T : ℕ) → Passed (format n B T) → Inside (length img) B T (zeroDisks B T 0 n ++ header (formatted n B T) ∷ [])
   format-inside n B T z =
@@ -120,10 +108,13 @@ module _ (r : Record) (e : Event) where
       inside-within (disksOf r) (r .block) (r .stripes) (length img) (w .long) (advanceStores k r img)
       (within-advance k r img (bounds (advance k) refl z .array) (w .long))
 
-  rebuild-inside : (d : ℕ) → Passed (rebuild d) → Inside (length img) (r .block) (r .stripes) (rebuilt d ++ header (withHealth r Whole) ∷ [])
-  rebuild-inside d z =
-      inside-within (disksOf r) (r .block) (r .stripes) (length img) (rebuilding d z .long) (rebuilt d ++ header (withHealth r Whole) ∷ [])
-      (within-last (disksOf r) (r .block) (r .stripes) (rebuilt d) (withHealth r Whole) (within-rebuild d (below-N d z)))
+  continue-inside : (k : ℕ) → Passed (continue k) → Inside (length img) (r .block) (r .stripes) (continueStores k r img)
+  continue-inside k z =
+      let w = continuing k z in
+      let l = bounds (continue k) refl z in
+      inside-within (disksOf r) (r .block) (r .stripes) (length img) (w .long) (continueStores k r img)
+      (rw (stores-are r img (w .disk) (w .done) (w .health) k)
+      (within-last (disksOf r) (r .block) (r .stripes) _ _ (within-remade r img (w .disk) (w .done) (w .health) k l)))
 
   -- ---- the block or scratch of each call that fills it is as long as it was
 
@@ -201,8 +192,9 @@ module _ (r : Record) (e : Event) where
   facts (grow m) = storing (grow m) done r _ refl (grow-inside m) (λ no. absurd (no (grow-stores m))) (λ z no. absurd (no (grow-records m)))
   facts (advance k) = storing (advance k) _ r _ refl (advance-inside k) (λ no. absurd (no (advance-stores k))) (λ z no. absurd (no (advance-records k)))
   facts (out d) = storing (out d) done r _ refl (λ z. tt) (λ no. refl) (λ z no. absurd (no (out-records d)))
-  facts (rebuild d) =
-      storing (rebuild d) done r _ refl (rebuild-inside d) (λ no. absurd (no (rebuild-stores d))) (λ z no. absurd (no (rebuild-records d)))
+  facts (begin d) = storing (begin d) done r _ refl (λ z. tt) (λ no. refl) (λ z no. absurd (no (begin-records d)))
+  facts (continue k) =
+      storing (continue k) _ r _ refl (continue-inside k) (λ no. absurd (no (continue-stores k))) (λ z no. absurd (no (continue-records k)))
   facts status = telling status _ refl
   facts (locate b) = telling (locate b) _ refl
   facts (owner S d) = telling (owner S d) _ refl

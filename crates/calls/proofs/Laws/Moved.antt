@@ -125,7 +125,7 @@ module _ (r : Record) (img : List ℕ) (bs : List (List ℕ)) (h : Holding r img
   pub holding-move : Holding (moved r) (stored (r .block) (r .stripes) (moveStores r img) img) (with-new (geometry (moved r)) (r .block) bs)
   holding-move =
       record {
-        limits = record { array = good-moved r good busy; block-low = h .limits .block-low; block-high = h .limits .block-high; out = rw whole tt };
+        limits = record { array = good-moved r good busy; block-low = h .limits .block-low; block-high = h .limits .block-high; health = rw whole tt };
         long = long-move r img good busy (h .long);
         count = count-with-new (geometry (moved r)) (r .block) bs enough-moved;
         whole = whole-with-new (geometry (moved r)) (r .block) bs (h .whole);

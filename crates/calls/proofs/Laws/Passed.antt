@@ -6,18 +6,18 @@ use mathlib.Core.List.{List}
 use lib.Dec.{eqb, ltb}
 use lib.ListN.{length}
 use borrow.Author.Tests.{not-false}
-use Rattle.state.specs.declared.Health.the-variants.{Whole, Out}
+use Rattle.state.specs.declared.Health.the-variants.{Whole, Out, Rebuilding}
 use Rattle.state.specs.declared.Record.{Record}
 use Rattle.layout.specs.Layout.{capacity}
 use Rattle.state.specs.Good.{geometry, newGood, good, GoodRecord}
 use Rattle.state.specs.Bytes.{recordLength, decode, goodBytes}
 use Rattle.state.proofs.Laws.Good.{limits}
-use Rattle.calls.specs.Call.{Call, Fed, format, read, view, write, grow, advance, out, rebuild, locate, owner}
-use Rattle.calls.specs.Health.{isLost, isDegraded, isOut}
+use Rattle.calls.specs.Call.{Call, Fed, format, read, view, write, grow, advance, out, begin, continue, locate, owner}
+use Rattle.calls.specs.Health.{isLost, isDegraded, isOut, isRebuilding}
 use Rattle.calls.specs.Images.{disksOf, size, sizeWith}
 use Rattle.calls.specs.Table.{idle, formable, looks, terms, laterRows, word, table, refusal, rowsBytes, refusalBytes}
 use Rattle.conditions.proofs.Tests.{equal, below, neither}
-use Rattle.calls.proofs.Laws.Health.{all-in, which}
+use Rattle.calls.proofs.Laws.Health.{all-in, which, rebuilt}
 use Rattle.calls.proofs.Laws.Table.{passes}
 
 pub record Formats (n B T len : ℕ) : Type 0 where
@@ -46,8 +46,14 @@ pub record Falls (r : Record) (d : ℕ) : Type 0 where
   pub here : isLost (r .health) ≡ false
   pub disk-lt : d < disksOf r
 
-pub record Rebuilds (r : Record) (len d : ℕ) : Type 0 where
+pub record Begins (r : Record) (len d : ℕ) : Type 0 where
   pub is-out : r .health ≡ Out d
+  pub long : len ≡ size r
+
+pub record Continues (r : Record) (len : ℕ) : Type 0 where
+  pub disk : ℕ
+  pub done : ℕ
+  pub health : r .health ≡ Rebuilding disk done
   pub long : len ≡ size r
 
 pub record Owns (r : Record) (S d : ℕ) : Type 0 where
@@ -135,13 +141,22 @@ module _ (r : Record) (c len room : ℕ) where
       let (l, o) = neither (not (ltb d (disksOf r))) (isOut (r .health) d) p₁₀ in
       record { here = p₂; disk-lt = below d (disksOf r) l }
 
-  pub rebuilds : (d : ℕ) → word (laterRows (rebuild d) r c len room) ≡ 0 → Rebuilds r len d
+  pub begins : (d : ℕ) → word (laterRows (begin d) r c len room) ≡ 0 → Begins r len d
   unfolding laterRows terms
-  rebuilds d z =
+  begins d z =
       let (p₂, z₂) = passes (isLost (r .health)) 1 _ z in
       let (p₇, z₇) = passes (not (eqb len (size r))) 6 _ z₂ in
       let (p₁₀, z₁₀) = passes (not (isOut (r .health) d)) 9 _ z₇ in
       record { is-out = which (r .health) d p₂ (not-false _ p₁₀); long = equal len (size r) p₇ }
+
+  pub continues : (k : ℕ) → word (laterRows (continue k) r c len room) ≡ 0 → Continues r len
+  unfolding laterRows terms
+  continues k z =
+      let (p₂, z₂) = passes (isLost (r .health)) 1 _ z in
+      let (p₇, z₇) = passes (not (eqb len (size r))) 6 _ z₂ in
+      let (p₁₀, z₁₀) = passes (not (isRebuilding (r .health))) 9 _ z₇ in
+      let (o, q, h) = rebuilt (r .health) (not-false _ p₁₀) in
+      record { disk = o; done = q; health = h; long = equal len (size r) p₇ }
 
   pub locates : (b : ℕ) → word (laterRows (locate b) r c len room) ≡ 0 → b < c
   unfolding laterRows terms

@@ -11,15 +11,15 @@ use borrow.Author.Tests.{not-true, not-false, eqb-true, eqb-false, ltb-true, lt-
 use Rattle.layout.specs.declared.Geometry.{Geometry}
 use Rattle.layout.specs.Layout.{totalOf}
 use Rattle.layout.proofs.Laws.Basics.{le-or-lt}
-use Rattle.state.specs.declared.Health.the-variants.{Whole, Out, Lost}
+use Rattle.state.specs.declared.Health.the-variants.{Whole, Out, Lost, Rebuilding}
 use Rattle.state.specs.declared.Health.{Health}
 use Rattle.state.specs.declared.Record.{Record}
 use Rattle.state.specs.Good.{within, oldGood, blockGood, stripesGood, good, GoodRecord}
 use Rattle.state.proofs.Laws.Good.{within-true, true-within, limits, within-limits}
-use Rattle.calls.specs.Health.{isLost, isDegraded, isOut}
+use Rattle.calls.specs.Health.{isLost, isDegraded, isOut, isRebuilding}
 use Rattle.calls.specs.Table.{Row, word, idle, formable}
-use Rattle.calls.specs.Numbered.{Reason, Gives, Outside}
-use Rattle.calls.proofs.Laws.Health.{which, not-out}
+use Rattle.calls.specs.Numbered.{Reason, Gives, Outside, Rebuilds}
+use Rattle.calls.proofs.Laws.Health.{which, not-out, rebuilt, not-rebuilt}
 use Rattle.calls.proofs.Laws.Table.{some-new, not-total, none-left}
 
 -- b tells whether A holds
@@ -74,12 +74,20 @@ not-good r = record {
 pub is-lost : (h : Health) → Tells (isLost h) (h ≡ Lost)
 is-lost Whole = record { yes = λ e. let z : Whole ≡ Lost = cc in z; no = λ e q. let w : _≡_ {A = ℕ} 0 1 = cc in omega arith }
 is-lost (Out o) = record { yes = λ e. let z : Out o ≡ Lost = cc in z; no = λ e q. let w : _≡_ {A = ℕ} 0 1 = cc in omega arith }
+is-lost (Rebuilding o c) = record { yes = λ e. let z : Rebuilding o c ≡ Lost = cc in z; no = λ e q. let w : _≡_ {A = ℕ} 0 1 = cc in omega arith }
 is-lost Lost = record { yes = λ e. refl; no = λ e q. let w : _≡_ {A = ℕ} 0 1 = cc in omega arith }
 
-pub is-degraded : (h : Health) → isLost h ≡ false → Tells (isDegraded h) ((o : ℕ) × (h ≡ Out o))
-is-degraded Whole nl = record { yes = λ e. absurd (let w : _≡_ {A = ℕ} 0 1 = cc in omega arith); no = λ e (o, q). let w : _≡_ {A = ℕ} 0 1 = cc in omega arith }
-is-degraded (Out o) nl = record { yes = λ e. (o, refl); no = λ e q. let w : _≡_ {A = ℕ} 0 1 = cc in omega arith }
+pub is-degraded : (h : Health) → isLost h ≡ false → Tells (isDegraded h) (((o : ℕ) × (h ≡ Out o)) ⊎ Rebuilds h)
+is-degraded Whole nl = record {
+  yes = λ e. absurd (let w : _≡_ {A = ℕ} 0 1 = cc in omega arith);
+  no = λ e x. elim x [ inl (o, q) ↦ let w : _≡_ {A = ℕ} 0 1 = cc in omega arith | inr (o, c, q) ↦ let w : _≡_ {A = ℕ} 0 1 = cc in omega arith ];
+}
+is-degraded (Out o) nl = record { yes = λ e. inl (o, refl); no = λ e q. let w : _≡_ {A = ℕ} 0 1 = cc in omega arith }
 is-degraded Lost nl = absurd (let w : _≡_ {A = ℕ} 0 1 = cc in omega arith)
+is-degraded (Rebuilding o c) nl = record { yes = λ e. inr (o, c, refl); no = λ e q. let w : _≡_ {A = ℕ} 0 1 = cc in omega arith }
+
+pub none-rebuilt : (h : Health) → Tells (not (isRebuilding h)) (¬ Rebuilds h)
+none-rebuilt h = record { yes = λ e (o, c, q). not-rebuilt h (not-true _ e) o c q; no = λ e n. n (rebuilt h (not-false _ e)) }
 
 pub is-idle : (g : Geometry) → Tells (idle g) ((g .new ≡ 0) ⊎ (g .moves ≡ totalOf g))
 is-idle g = record {

@@ -1,8 +1,9 @@
 -- Lists of stores: what they leave, byte by byte; joined, skipped, and over whole disks. Assumes nothing.
 use Prim.Native.Nat.{ℕ, zero, suc, _+_, _*_, _≤_, _<_}
-use mathlib.Core.Path.{_≡_, refl, _∙_}
+use mathlib.Core.Path.{_≡_, refl, sym, ap, ap₂, _∙_}
 use mathlib.Core.Bool.{Bool, true, false, cond}
-use mathlib.Core.List.{List, [], _∷_, _++_}
+use mathlib.Core.List.{List, [], _∷_, _++_, append-nil, append-assoc}
+use mathlib.Core.Logic.{_⊎_, inl, inr}
 use native.Mathlib.Decide.{ℕ-discrete}
 use native.Mathlib.Omega.{arith}
 use lib.ListN.{length, getD, length-replicate}
@@ -14,6 +15,7 @@ use Rattle.blocks.proofs.Laws.Rows.{put, put-same, put-other}
 use Rattle.blocks.proofs.Laws.Stripe.{cell, cell-store}
 use Rattle.blocks.proofs.Laws.Xor.{getD-zeros}
 use Rattle.state.specs.declared.Record.{Record}
+use Rattle.calls.specs.Theorem.{rising}
 use Rattle.calls.specs.Images.{Store, block, header, stored, recorded, unless, fillDisk, zeroDisks}
 
 -- every block of a list of stores is whole, and goes to one of N disks of T stripes
@@ -106,12 +108,25 @@ recorded-unless false S d v x = refl
 
 module _ (S₀ d : ℕ) (f : ℕ → List ℕ) where
   -- in k stripes the blocks given, elsewhere what was there
-  column-miss : (j k : ℕ) (I : Grid) (S e : ℕ) → S₀ + k ≤ S → column j (fillDisk S₀ k d f) I S e ≡ I S e
+  pub column-apart : (j k : ℕ) (I : Grid) (S e : ℕ) → (e ≡ d → (S < S₀) ⊎ (S₀ + k ≤ S)) → column j (fillDisk S₀ k d f) I S e ≡ I S e
   unfolding fillDisk column
-  column-miss j zero I S e l = refl
-  column-miss j (suc k) I S e l =
-      rw (column-append j (fillDisk S₀ k d f) (block (S₀ + k) d (f (S₀ + k)) ∷ []) I)
-      (storeAt-far (column j (fillDisk S₀ k d f) I) (S₀ + k) d (getD (f (S₀ + k)) j 0) S e (omega arith) ∙ column-miss j k I S e (omega arith))
+  column-apart j zero I S e far = refl
+  column-apart j (suc k) I S e far =
+      rw (column-append j (fillDisk S₀ k d f) (block T d (f T) ∷ []) I) (go (ℕ-discrete S T) (ℕ-discrete e d) ∙ column-apart j k I S e nearer)
+    where
+      T : ℕ
+      T = S₀ + k
+
+      J : Grid
+      J = column j (fillDisk S₀ k d f) I
+
+      nearer : e ≡ d → (S < S₀) ⊎ (S₀ + k ≤ S)
+      nearer q = elim (far q) [ inl l ↦ inl l | inr l ↦ inr (omega (arith, l)) ]
+
+      go : Dec (S ≡ T) → Dec (e ≡ d) → storeAt J T d (getD (f T) j 0) S e ≡ J S e
+      go (yes p) (yes q) = absurd (elim (far q) [ inl l ↦ omega (arith, l, p) | inr l ↦ omega (arith, l, p) ])
+      go (yes p) (no q) = rw (p, storeAt-row J T d (getD (f T) j 0) e q)
+      go (no p) q = storeAt-far J T d (getD (f T) j 0) S e p
 
   pub column-fill : (j k : ℕ) (I : Grid) (S e : ℕ) → S₀ ≤ S → S < S₀ + k → column j (fillDisk S₀ k d f) I S e ≡ put (I S) d (getD (f S) j 0) e
   unfolding fillDisk column
@@ -127,14 +142,43 @@ module _ (S₀ d : ℕ) (f : ℕ → List ℕ) where
 
       go : Dec (S ≡ T) → Dec (e ≡ d) → (S < T → J S e ≡ put (I S) d (getD (f S) j 0) e) → storeAt J T d (getD (f T) j 0) S e ≡ put (I S) d (getD (f S) j 0) e
       go (yes q) (yes p) ih = rw (q, p, storeAt-same J T d (getD (f T) j 0), put-same (I T) d (getD (f T) j 0))
-      go (yes q) (no p) ih = rw (q, storeAt-row J T d (getD (f T) j 0) e p, put-other (I T) d (getD (f T) j 0) e p) (column-miss j k I T e (omega arith))
+      go (yes q) (no p) ih = rw (q, storeAt-row J T d (getD (f T) j 0) e p, put-other (I T) d (getD (f T) j 0) e p) (column-apart j k I T e (λ x. inr (omega arith)))
       go (no q) p ih = storeAt-far J T d (getD (f T) j 0) S e q ∙ ih (omega arith)
+
+  -- a part, and then the next
+  pub fill-append : (i k : ℕ) → fillDisk S₀ (i + k) d f ≡ fillDisk S₀ i d f ++ fillDisk (S₀ + i) k d f
+  unfolding fillDisk
+  fill-append i zero = ap (λ (n : ℕ). fillDisk S₀ n d f) (let q : i + 0 ≡ i = omega arith in q) ∙ sym (append-nil (fillDisk S₀ i d f))
+  fill-append i (suc k) =
+      ap (λ (n : ℕ). fillDisk S₀ n d f) (let q : i + suc k ≡ suc (i + k) = omega arith in q)
+      ∙ ap₂ (λ (ps : List Store) (s : ℕ). ps ++ block s d (f s) ∷ []) (fill-append i k) (let q : S₀ + (i + k) ≡ S₀ + i + k = omega arith in q)
+      ∙ append-assoc (fillDisk S₀ i d f) (fillDisk (S₀ + i) k d f) (block (S₀ + i + k) d (f (S₀ + i + k)) ∷ [])
+
+  pub fill-cong : (g : ℕ → List ℕ) (k : ℕ) → ((S : ℕ) → S < S₀ + k → f S ≡ g S) → fillDisk S₀ k d f ≡ fillDisk S₀ k d g
+  unfolding fillDisk
+  fill-cong g zero q = refl
+  fill-cong g (suc k) q =
+      ap₂ (λ (ps : List Store) (v : List ℕ). ps ++ block (S₀ + k) d v ∷ []) (fill-cong g k (λ S l. q S (omega arith))) (q (S₀ + k) (omega arith))
 
   pub within-fill : (N B T : ℕ) → d < N → ((S : ℕ) → length (f S) ≡ B) → (k : ℕ) → S₀ + k ≤ T → Within N B T (fillDisk S₀ k d f)
   unfolding fillDisk Within
   within-fill N B T ld lf zero l = tt
   within-fill N B T ld lf (suc k) l =
       within-append N B T (fillDisk S₀ k d f) (block (S₀ + k) d (f (S₀ + k)) ∷ []) (within-fill N B T ld lf k (omega arith)) (omega arith, ld, lf (S₀ + k), tt)
+
+-- one more at the end is one more at the start
+rising-last : (g : ℕ → Store) (S k : ℕ) → rising S k g ++ g (S + k) ∷ [] ≡ rising S (suc k) g
+unfolding rising
+rising-last g S zero = ap (λ (x : ℕ). g x ∷ []) (let q : S + 0 ≡ S = omega arith in q)
+rising-last g S (suc k) =
+    ap (λ (x : ℕ). g S ∷ (rising (suc S) k g ++ g x ∷ [])) (let q : S + suc k ≡ suc S + k = omega arith in q)
+    ∙ ap (λ (ps : List Store). g S ∷ ps) (rising-last g (suc S) k)
+
+pub fill-rising : (d : ℕ) (f : ℕ → List ℕ) (S k : ℕ) → fillDisk S k d f ≡ rising S k (λ x. block x d (f x))
+unfolding fillDisk rising
+fill-rising d f S zero = refl
+fill-rising d f S (suc k) =
+    ap (λ (ps : List Store). ps ++ (block (S + k) d (f (S + k)) ∷ [])) (fill-rising d f S k) ∙ rising-last (λ x. block x d (f x)) S k
 
 module _ (B T first : ℕ) where
   pub column-below : (j k : ℕ) (I : Grid) (S e : ℕ) → S < T → e < first → column j (zeroDisks B T first k) I S e ≡ I S e

@@ -16,8 +16,9 @@ use lib.ListN.{length}
 use Rattle.state.specs.declared.Health.the-variants.{Lost}
 use Rattle.state.specs.declared.Record.{Record}
 use Rattle.state.specs.Good.{newGood, good}
-use Rattle.calls.specs.Call.{Call, format, read, view, write, grow, advance, out, rebuild, status, locate, owner, feed}
-use Rattle.calls.specs.Health.{isOut}
+use Rattle.calls.specs.Call.{Call, format, read, view, write, grow, advance, out, begin, continue}
+use Rattle.calls.specs.Call.{status, locate, owner, feed}
+use Rattle.calls.specs.Health.{isOut, isRebuilding}
 use Rattle.calls.specs.Images.{disksOf, size, sizeWith}
 use Rattle.calls.specs.Table.{Row, badRecord, grownAlready, idle, nothingToMove, formable, badGeometry, images, pastEnd, blockLength, disk}
 use Rattle.calls.specs.Table.{lost, looks, laterRows, terms, table, word, kept, keptWhole, keptLent, refusal}
@@ -113,9 +114,13 @@ module _ (r : Record) (c len room : ℕ) where
   unfolding refusal table laterRows terms
   out-rows d = refl
 
-  pub rebuild-rows : (d : ℕ) → refusal r c (feed (rebuild d) len room) ≡ word (keptLent r len ++ (disk (not (isOut (r .health) d)) ∷ []))
+  pub begin-rows : (d : ℕ) → refusal r c (feed (begin d) len room) ≡ word (keptLent r len ++ (disk (not (isOut (r .health) d)) ∷ []))
   unfolding refusal table laterRows terms
-  rebuild-rows d = refl
+  begin-rows d = refl
+
+  pub continue-rows : (k : ℕ) → refusal r c (feed (continue k) len room) ≡ word (keptLent r len ++ (disk (not (isRebuilding (r .health))) ∷ []))
+  unfolding refusal table laterRows terms
+  continue-rows k = refl
 
   pub status-rows : refusal r c (feed status len room) ≡ word (badRecord (not (good r)) ∷ [])
   unfolding refusal table laterRows terms

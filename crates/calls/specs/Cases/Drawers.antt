@@ -6,13 +6,13 @@ use Prim.Native.Nat.{ℕ}
 use mathlib.Core.Path.{_≡_}
 use mathlib.Core.List.{List, [], _∷_, _++_}
 use Rattle.blocks.specs.Block.{zeros}
-use Rattle.state.specs.declared.Health.the-variants.{Whole, Out, Lost}
+use Rattle.state.specs.declared.Health.the-variants.{Whole, Out, Lost, Rebuilding}
 use Rattle.state.specs.declared.Health.{Health}
 use Rattle.state.specs.declared.Record.{Record}
 use Rattle.state.specs.Update.{formatted, grownBy, withMoves, withHealth}
-use Rattle.calls.specs.Call.{Call, format, read, view, write, grow, advance, out, rebuild, Answer, refused, bytes, made, done}
+use Rattle.calls.specs.Call.{Call, format, read, view, write, grow, advance, out, begin, continue, Answer, refused, bytes, made, done}
 use Rattle.calls.specs.Images.{block, header}
-use Rattle.calls.specs.Effect.{writeStores, moveStores, Left, called}
+use Rattle.calls.specs.Effect.{writeStores, moveStores, continueStores, Left, called}
 
 -- before growth, and with this health after t moves
 abbrev pub fresh : Record
@@ -43,6 +43,16 @@ standing = disk0 ++ disk1 ++ disk2 ++ disk3
 
 abbrev pub degraded : List ℕ
 degraded = disk0 ++ disk1 ++ garbage ++ disk3
+
+-- disk 2 with its first 5 stripes rebuilt; and with something else in stripe 3, and in stripe 2
+abbrev pub halfway : List ℕ
+halfway = disk0 ++ disk1 ++ (1 ∷ 0 ∷ 3 ∷ 7 ∷ 9 ∷ 77 ∷ 77 ∷ 77 ∷ 77 ∷ 77 ∷ 77 ∷ 77 ∷ []) ++ disk3
+
+abbrev pub third : List ℕ
+third = disk0 ++ disk1 ++ (1 ∷ 0 ∷ 3 ∷ 99 ∷ 9 ∷ 77 ∷ 77 ∷ 77 ∷ 77 ∷ 77 ∷ 77 ∷ 77 ∷ []) ++ disk3
+
+abbrev pub second : List ℕ
+second = disk0 ++ disk1 ++ (1 ∷ 0 ∷ 99 ∷ 7 ∷ 9 ∷ 77 ∷ 77 ∷ 77 ∷ 77 ∷ 77 ∷ 77 ∷ 77 ∷ []) ++ disk3
 
 -- disk 3 too, so that its blank places are not zero
 abbrev pub spoilt : List ℕ
@@ -140,7 +150,50 @@ pub record Drawers : Type 0 where
   -- the scratch is filled only if the block's disk is out
   pub viewed : on standing (cabinet Whole 4) (view 6) ≡ left (cabinet Whole 4) standing (9 ∷ []) (bytes (7 ∷ []))
   pub viewed-degraded : on degraded (cabinet (Out 2) 4) (view 6) ≡ left (cabinet (Out 2) 4) degraded (7 ∷ []) (bytes (7 ∷ []))
-  pub rebuilt : on degraded (cabinet (Out 2) 4) (rebuild 2) ≡ left (cabinet Whole 4) standing (9 ∷ []) done
+  pub begun : on degraded (cabinet (Out 2) 4) (begin 2) ≡ left (cabinet (Rebuilding 2 0) 4) degraded (9 ∷ []) done
+  pub rebuilt : on degraded (cabinet (Rebuilding 2 0) 4) (continue 12) ≡ left (cabinet Whole 4) standing (9 ∷ []) (made 12)
+  -- in steps: 5 stripes, none, 3 more, and the rest
+  pub rebuilt-some : on degraded (cabinet (Rebuilding 2 0) 4) (continue 5) ≡ left (cabinet (Rebuilding 2 5) 4) halfway (9 ∷ []) (made 5)
+  pub rebuilt-none : on halfway (cabinet (Rebuilding 2 5) 4) (continue 0) ≡ left (cabinet (Rebuilding 2 5) 4) halfway (9 ∷ []) (made 0)
+  pub rebuilt-more : on halfway (cabinet (Rebuilding 2 5) 4) (continue 3)
+      ≡ left (cabinet (Rebuilding 2 8) 4)
+      (disk0 ++ disk1 ++ (1 ∷ 0 ∷ 3 ∷ 7 ∷ 9 ∷ 7 ∷ 13 ∷ 15 ∷ 77 ∷ 77 ∷ 77 ∷ 77 ∷ []) ++ disk3)
+      (9 ∷ []) (made 3)
+  pub rebuilt-but-one : on halfway (cabinet (Rebuilding 2 5) 4) (continue 6)
+      ≡ left (cabinet (Rebuilding 2 11) 4)
+      (disk0 ++ disk1 ++ (1 ∷ 0 ∷ 3 ∷ 7 ∷ 9 ∷ 7 ∷ 13 ∷ 15 ∷ 3 ∷ 19 ∷ 21 ∷ 77 ∷ []) ++ disk3)
+      (9 ∷ []) (made 6)
+  pub rebuilt-rest : on halfway (cabinet (Rebuilding 2 5) 4) (continue 8) ≡ left (cabinet Whole 4) standing (9 ∷ []) (made 7)
+  -- block 6, stripe 3, disk 2: with 4 stripes done the disk is in service there, with 3 it counts as out
+  pub read-done : on third (cabinet (Rebuilding 2 4) 4) (read 6) ≡ left (cabinet (Rebuilding 2 4) 4) third (99 ∷ []) (bytes (99 ∷ []))
+  pub read-not-done : on third (cabinet (Rebuilding 2 3) 4) (read 6) ≡ left (cabinet (Rebuilding 2 3) 4) third (7 ∷ []) (bytes (7 ∷ []))
+  pub viewed-done : on third (cabinet (Rebuilding 2 4) 4) (view 6) ≡ left (cabinet (Rebuilding 2 4) 4) third (9 ∷ []) (bytes (99 ∷ []))
+  pub viewed-not-done : on third (cabinet (Rebuilding 2 3) 4) (view 6) ≡ left (cabinet (Rebuilding 2 3) 4) third (7 ∷ []) (bytes (7 ∷ []))
+  pub written-done : on halfway (cabinet (Rebuilding 2 4) 4) (write 6 (200 ∷ []))
+      ≡ left (cabinet (Rebuilding 2 4) 4)
+      (disk0 ++ disk1 ++ (1 ∷ 0 ∷ 3 ∷ 200 ∷ 9 ∷ 77 ∷ 77 ∷ 77 ∷ 77 ∷ 77 ∷ 77 ∷ 77 ∷ [])
+      ++ (0 ∷ 3 ∷ 5 ∷ 192 ∷ 0 ∷ 0 ∷ 0 ∷ 31 ∷ 0 ∷ 0 ∷ 0 ∷ 0 ∷ []))
+      (9 ∷ []) done
+  pub written-not-done : on third (cabinet (Rebuilding 2 3) 4) (write 6 (200 ∷ []))
+      ≡ left (cabinet (Rebuilding 2 3) 4)
+      (disk0 ++ disk1 ++ (1 ∷ 0 ∷ 3 ∷ 99 ∷ 9 ∷ 77 ∷ 77 ∷ 77 ∷ 77 ∷ 77 ∷ 77 ∷ 77 ∷ [])
+      ++ (0 ∷ 3 ∷ 5 ∷ 192 ∷ 0 ∷ 0 ∷ 0 ∷ 31 ∷ 0 ∷ 0 ∷ 0 ∷ 0 ∷ []))
+      (9 ∷ []) done
+  -- block 5, stripe 2, disk 0, its parity on disk 2: 3 xor 6 xor 200 is 205
+  pub parity-done : on halfway (cabinet (Rebuilding 2 3) 4) (write 5 (200 ∷ []))
+      ≡ left (cabinet (Rebuilding 2 3) 4)
+      ((3 ∷ 4 ∷ 200 ∷ 0 ∷ 10 ∷ 12 ∷ 3 ∷ 16 ∷ 18 ∷ 7 ∷ 22 ∷ 24 ∷ []) ++ disk1
+      ++ (1 ∷ 0 ∷ 205 ∷ 7 ∷ 9 ∷ 77 ∷ 77 ∷ 77 ∷ 77 ∷ 77 ∷ 77 ∷ 77 ∷ []) ++ disk3)
+      (9 ∷ []) done
+  pub parity-not-done : on second (cabinet (Rebuilding 2 2) 4) (write 5 (200 ∷ []))
+      ≡ left (cabinet (Rebuilding 2 2) 4)
+      ((3 ∷ 4 ∷ 200 ∷ 0 ∷ 10 ∷ 12 ∷ 3 ∷ 16 ∷ 18 ∷ 7 ∷ 22 ∷ 24 ∷ []) ++ disk1
+      ++ (1 ∷ 0 ∷ 99 ∷ 7 ∷ 9 ∷ 77 ∷ 77 ∷ 77 ∷ 77 ∷ 77 ∷ 77 ∷ 77 ∷ []) ++ disk3)
+      (9 ∷ []) done
+  -- the same disk out, and another; and the growth waits
+  pub out-again : on halfway (cabinet (Rebuilding 2 5) 4) (out 2) ≡ left (cabinet (Out 2) 4) halfway (9 ∷ []) done
+  pub out-other : on halfway (cabinet (Rebuilding 2 5) 4) (out 0) ≡ left (cabinet Lost 4) halfway (9 ∷ []) done
+  pub no-advance : on halfway (cabinet (Rebuilding 2 5) 4) (advance 1) ≡ left (cabinet (Rebuilding 2 5) 4) halfway (9 ∷ []) (refused 3)
   pub first-out : on standing (cabinet Whole 4) (out 2) ≡ left (cabinet (Out 2) 4) standing (9 ∷ []) done
   pub second-out : on degraded (cabinet (Out 2) 4) (out 0) ≡ left (cabinet Lost 4) degraded (9 ∷ []) done
   -- a new disk of garbage, zeroed; and a lost cabinet formatted anew
@@ -160,12 +213,16 @@ pub record Drawers : Type 0 where
       ≡ left (cabinet (Out 1) 4) newDegraded (9 ∷ []) done
   pub read-new-degraded : on newDegraded (cabinet (Out 1) 4) (read 26)
       ≡ left (cabinet (Out 1) 4) newDegraded (200 ∷ []) (bytes (200 ∷ []))
-  pub rebuilt-new : on newDegraded (cabinet (Out 1) 4) (rebuild 1) ≡ left (cabinet Whole 4) withNew (9 ∷ []) done
+  pub rebuilt-new : on newDegraded (cabinet (Rebuilding 1 0) 4) (continue 12) ≡ left (cabinet Whole 4) withNew (9 ∷ []) (made 12)
   -- zone 1 is not finished: there is no block 28
   pub no-block : on standing (cabinet Whole 4) (read 28) ≡ left (cabinet Whole 4) standing (9 ∷ []) (refused 8)
-  -- in order: the copy, the zeroes, the record; the parity, the data
+  -- in order: the copy, the zeroes, the record; the parity, the data; the stripes, the record
   pub move-stores : moveStores (cabinet Whole 4) standing ≡ block 6 3 (13 ∷ []) ∷ block 6 2 (0 ∷ []) ∷ header (cabinet Whole 5) ∷ []
   pub write-stores : writeStores (cabinet Whole 4) standing 6 (200 ∷ []) ≡ block 3 3 (192 ∷ []) ∷ block 3 2 (200 ∷ []) ∷ []
+  pub continue-stores : continueStores 2 (cabinet (Rebuilding 2 5) 4) halfway
+      ≡ block 5 2 (7 ∷ []) ∷ block 6 2 (13 ∷ []) ∷ header (cabinet (Rebuilding 2 7) 4) ∷ []
+  pub last-stores : continueStores 2 (cabinet (Rebuilding 2 10) 4) standing
+      ≡ block 10 2 (21 ∷ []) ∷ block 11 2 (15 ∷ []) ∷ header (cabinet Whole 4) ∷ []
   -- ---- on stripes that are not sound
   -- a write goes by the old values: on disk 2 of stripe 3 stands 77, on disk 3 the parity 15, and 15 xor 77 xor 200 is 138 (the
   -- other places of the stripe, 0 and 8, would make 192) ..
@@ -189,10 +246,10 @@ pub record Drawers : Type 0 where
   pub read-degraded-unsound : on spoilt (cabinet (Out 2) 4) (read 12) ≡ left (cabinet (Out 2) 4) spoilt (64 ∷ []) (bytes (64 ∷ []))
   pub viewed-degraded-unsound : on spoilt (cabinet (Out 2) 4) (view 12) ≡ left (cabinet (Out 2) 4) spoilt (64 ∷ []) (bytes (64 ∷ []))
   -- "the xor of the others", blank or not
-  pub rebuilt-unsound : on spoilt (cabinet (Out 2) 4) (rebuild 2)
+  pub rebuilt-unsound : on spoilt (cabinet (Rebuilding 2 0) 4) (continue 12)
       ≡ left (cabinet Whole 4)
       (disk0 ++ disk1 ++ (76 ∷ 78 ∷ 75 ∷ 69 ∷ 68 ∷ 74 ∷ 64 ∷ 93 ∷ 78 ∷ 94 ∷ 88 ∷ 66 ∷ []) ++ garbage)
-      (9 ∷ []) done
+      (9 ∷ []) (made 12)
   -- ---- blocks of two bytes: place (S, d) begins at byte (d × 12 + S) × 2
   -- moves 4 and 5: block 12, stripe 6, disk 2 to 3; block 11, stripe 5, disk 0 to 3
   pub wide-moves : onWide wideStanding (wide Whole 4) (advance 2)
@@ -226,12 +283,12 @@ pub record Drawers : Type 0 where
   pub wide-viewed : onWide wideStanding (wide Whole 4) (view 23) ≡ leftWide (wide Whole 4) wideStanding (bytes (24 ∷ 17 ∷ []))
   pub wide-viewed-degraded : onWide wideDegraded (wide (Out 2) 4) (view 6)
       ≡ left (wide (Out 2) 4) wideDegraded (7 ∷ 51 ∷ []) (bytes (7 ∷ 51 ∷ []))
-  pub wide-rebuilt : onWide wideDegraded (wide (Out 2) 4) (rebuild 2) ≡ leftWide (wide Whole 4) wideStanding done
-  pub wide-rebuilt-unsound : onWide wideDegraded (wide (Out 0) 4) (rebuild 0)
+  pub wide-rebuilt : onWide wideDegraded (wide (Rebuilding 2 0) 4) (continue 12) ≡ leftWide (wide Whole 4) wideStanding (made 12)
+  pub wide-rebuilt-unsound : onWide wideDegraded (wide (Rebuilding 0 0) 4) (continue 12)
       ≡ leftWide (wide Whole 4)
       ((26 ∷ 36 ∷ 30 ∷ 34 ∷ 25 ∷ 42 ∷ 25 ∷ 44 ∷ 35 ∷ 35 ∷ 41 ∷ 8 ∷ 42 ∷ 0 ∷ 57 ∷ 37 ∷ 57 ∷ 54 ∷ 62 ∷ 50 ∷ 47 ∷ 47 ∷ 57 ∷ 60 ∷ [])
       ++ wide1 ++ noise ++ wide3)
-      done
+      (made 12)
   pub wide-grown : onWide (wide0 ++ wide1 ++ wide2 ++ noise) freshWide (grow 1)
       ≡ leftWide (wide Whole 0) (wide0 ++ wide1 ++ wide2 ++ zeros 24) done
   pub wide-formatted : onWide (noise ++ noise ++ noise) (wide Lost 4) (format 3 2 12) ≡ leftWide freshWide (zeros 72) done

@@ -8,12 +8,12 @@ use mathlib.Core.Bool.{Bool, cond}
 use mathlib.Core.List.{List, [], _∷_, _++_}
 use lib.Dec.{eqb}
 use lib.ListN.{getD, take, drop, replicate}
-use Rattle.state.specs.declared.Health.the-variants.{Whole, Out, Lost}
+use Rattle.state.specs.declared.Health.the-variants.{Whole, Out, Lost, Rebuilding}
 use Rattle.state.specs.declared.Health.{Health}
 use Rattle.state.specs.declared.Record.{Record}
 use Rattle.state.specs.Bytes.{recordLength, encode}
 use Rattle.state.specs.Update.{formatted, grownBy, withMoves, withHealth}
-use Rattle.calls.specs.Call.{Call, column, format, read, view, write, grow, advance, out, rebuild, status, locate, owner}
+use Rattle.calls.specs.Call.{Call, column, format, read, view, write, grow, advance, out, begin, continue, status, locate, owner}
 use Rattle.calls.specs.Table.{Row, table, refusalBytes}
 
 -- ---- which calls each number is for: the table's last column, a line a number, a column a call (`column` of Call). `rowwise` proves that
@@ -21,17 +21,17 @@ use Rattle.calls.specs.Table.{Row, table, refusalBytes}
 
 abbrev pub marks : List (List ℕ)
 marks =
-    -- format, read, view, write, grow, advance, out, rebuild, status, locate, owner
-    (1 ∷ 1 ∷ 1 ∷ 1 ∷ 1 ∷ 1 ∷ 1 ∷ 1 ∷ 1 ∷ 1 ∷ 1 ∷ [])  -- 1 record
-    ∷ (0 ∷ 1 ∷ 1 ∷ 1 ∷ 1 ∷ 1 ∷ 1 ∷ 1 ∷ 0 ∷ 0 ∷ 0 ∷ [])  -- 2 lost
-    ∷ (0 ∷ 0 ∷ 0 ∷ 0 ∷ 1 ∷ 1 ∷ 0 ∷ 0 ∷ 0 ∷ 0 ∷ 0 ∷ [])  -- 3 degraded
-    ∷ (0 ∷ 0 ∷ 0 ∷ 0 ∷ 1 ∷ 0 ∷ 0 ∷ 0 ∷ 0 ∷ 0 ∷ 0 ∷ [])  -- 4 grown
-    ∷ (0 ∷ 0 ∷ 0 ∷ 0 ∷ 0 ∷ 1 ∷ 0 ∷ 0 ∷ 0 ∷ 0 ∷ 0 ∷ [])  -- 5 nothing to move
-    ∷ (1 ∷ 0 ∷ 0 ∷ 0 ∷ 1 ∷ 0 ∷ 0 ∷ 0 ∷ 0 ∷ 0 ∷ 0 ∷ [])  -- 6 geometry
-    ∷ (1 ∷ 1 ∷ 1 ∷ 1 ∷ 1 ∷ 1 ∷ 0 ∷ 1 ∷ 0 ∷ 0 ∷ 0 ∷ [])  -- 7 images
-    ∷ (0 ∷ 1 ∷ 1 ∷ 1 ∷ 0 ∷ 0 ∷ 0 ∷ 0 ∷ 0 ∷ 1 ∷ 1 ∷ [])  -- 8 past the end
-    ∷ (0 ∷ 1 ∷ 1 ∷ 1 ∷ 0 ∷ 0 ∷ 0 ∷ 0 ∷ 0 ∷ 0 ∷ 0 ∷ [])  -- 9 block length
-    ∷ (0 ∷ 0 ∷ 0 ∷ 0 ∷ 0 ∷ 0 ∷ 1 ∷ 1 ∷ 0 ∷ 0 ∷ 1 ∷ [])  -- 10 disk
+    -- format, read, view, write, grow, advance, out, begin, continue, status, locate, owner
+    (1 ∷ 1 ∷ 1 ∷ 1 ∷ 1 ∷ 1 ∷ 1 ∷ 1 ∷ 1 ∷ 1 ∷ 1 ∷ 1 ∷ [])  -- 1 record
+    ∷ (0 ∷ 1 ∷ 1 ∷ 1 ∷ 1 ∷ 1 ∷ 1 ∷ 1 ∷ 1 ∷ 0 ∷ 0 ∷ 0 ∷ [])  -- 2 lost
+    ∷ (0 ∷ 0 ∷ 0 ∷ 0 ∷ 1 ∷ 1 ∷ 0 ∷ 0 ∷ 0 ∷ 0 ∷ 0 ∷ 0 ∷ [])  -- 3 degraded
+    ∷ (0 ∷ 0 ∷ 0 ∷ 0 ∷ 1 ∷ 0 ∷ 0 ∷ 0 ∷ 0 ∷ 0 ∷ 0 ∷ 0 ∷ [])  -- 4 grown
+    ∷ (0 ∷ 0 ∷ 0 ∷ 0 ∷ 0 ∷ 1 ∷ 0 ∷ 0 ∷ 0 ∷ 0 ∷ 0 ∷ 0 ∷ [])  -- 5 nothing to move
+    ∷ (1 ∷ 0 ∷ 0 ∷ 0 ∷ 1 ∷ 0 ∷ 0 ∷ 0 ∷ 0 ∷ 0 ∷ 0 ∷ 0 ∷ [])  -- 6 geometry
+    ∷ (1 ∷ 1 ∷ 1 ∷ 1 ∷ 1 ∷ 1 ∷ 0 ∷ 1 ∷ 1 ∷ 0 ∷ 0 ∷ 0 ∷ [])  -- 7 images
+    ∷ (0 ∷ 1 ∷ 1 ∷ 1 ∷ 0 ∷ 0 ∷ 0 ∷ 0 ∷ 0 ∷ 0 ∷ 1 ∷ 1 ∷ [])  -- 8 past the end
+    ∷ (0 ∷ 1 ∷ 1 ∷ 1 ∷ 0 ∷ 0 ∷ 0 ∷ 0 ∷ 0 ∷ 0 ∷ 0 ∷ 0 ∷ [])  -- 9 block length
+    ∷ (0 ∷ 0 ∷ 0 ∷ 0 ∷ 0 ∷ 0 ∷ 1 ∷ 1 ∷ 1 ∷ 0 ∷ 0 ∷ 1 ∷ [])  -- 10 disk
     ∷ []
 
 -- the numbers marked in a column, counted from k
@@ -62,7 +62,8 @@ of-stripes T = encode (formatted 3 1 T)
 abbrev pub growing : Health → ℕ → List ℕ
 growing h t = encode (withHealth (withMoves (grownBy fresh 2) t) h)
 
--- not good, of 2 disks; good but for the health's bytes and bytes 6 and 7, and so for byte 6; lost; a byte short and a byte long
+-- not good, of 2 disks; good but for the health's bytes and bytes 6 and 7, and so for byte 6; good but for health, disk and the stripes
+-- done; lost; a byte short and a byte long
 abbrev pub bad : List ℕ
 bad = encode (withHealth (withMoves (grownBy (formatted 2 2 15) 2) 18) Lost)
 
@@ -71,6 +72,9 @@ spoilt health disk six seven = 3 ∷ 0 ∷ health ∷ disk ∷ 2 ∷ 0 ∷ six �
 
 abbrev pub sixth : List ℕ
 sixth = spoilt 0 0 1 0
+
+abbrev pub counted : ℕ → ℕ → List ℕ → List ℕ
+counted health disk done = take 16 (spoilt health disk 0 0) ++ done
 
 abbrev pub lost : List ℕ
 lost = growing Lost 17
@@ -91,7 +95,13 @@ ones c len room =
     asks short c len room ∷ asks long c len room ∷ asks [] c len room
     ∷ asks bad c len room ∷ asks sixth c len room ∷ asks (spoilt 0 0 0 1) c len room
     -- no such health; a disk beside whole and beside lost
-    ∷ asks (spoilt 3 0 0 0) c len room ∷ asks (spoilt 0 1 0 0) c len room ∷ asks (spoilt 2 1 0 0) c len room
+    ∷ asks (spoilt 4 0 0 0) c len room ∷ asks (spoilt 0 1 0 0) c len room ∷ asks (spoilt 2 1 0 0) c len room
+    -- stripes done, in each of their bytes, beside whole, out and lost
+    ∷ asks (counted 0 0 (1 ∷ 0 ∷ 0 ∷ 0 ∷ [])) c len room ∷ asks (counted 0 0 (0 ∷ 1 ∷ 0 ∷ 0 ∷ [])) c len room
+    ∷ asks (counted 1 1 (0 ∷ 0 ∷ 1 ∷ 0 ∷ [])) c len room ∷ asks (counted 2 0 (0 ∷ 0 ∷ 0 ∷ 1 ∷ [])) c len room
+    -- all done, and more; a disk past the last
+    ∷ asks (counted 3 1 (15 ∷ 0 ∷ 0 ∷ 0 ∷ [])) c len room ∷ asks (counted 3 1 (0 ∷ 0 ∷ 0 ∷ 1 ∷ [])) c len room
+    ∷ asks (counted 3 3 (0 ∷ 0 ∷ 0 ∷ 0 ∷ [])) c len room
     ∷ []
 
 -- read, view and write have the same rows: a call for a block and a length of its room or data
@@ -104,6 +114,7 @@ reads c =
     ∷ asks (growing Whole 17) (c 49 1) 150 1 ∷ asks (growing Whole 17) (c 49 2) 150 2
     -- degraded, grown and idle are no matter
     ∷ asks (growing (Out 4) 17) (c 49 2) 150 2 ∷ asks (growing Whole 18) (c 59 2) 150 2 ∷ asks small (c 29 2) 90 2
+    ∷ asks (growing (Rebuilding 4 14) 17) (c 49 2) 150 2
     -- the other sides of the bounds
     ∷ asks (growing Whole 18) (c 60 2) 150 2 ∷ asks small (c 30 2) 90 2 ∷ asks small (c 29 2) 91 2 ∷ asks small (c 29 3) 90 3
     -- around the last move of zone 0: block 30; block 40 is of zone 1
@@ -112,7 +123,7 @@ reads c =
     ∷ []
 
 abbrev pub read-numbers : List ℕ
-read-numbers = 1 ∷ 1 ∷ 1 ∷ 2 ∷ 7 ∷ 8 ∷ 9 ∷ 0 ∷ 0 ∷ 0 ∷ 0 ∷ 8 ∷ 8 ∷ 7 ∷ 9 ∷ 0 ∷ 8 ∷ 0 ∷ 0 ∷ 8 ∷ []
+read-numbers = 1 ∷ 1 ∷ 1 ∷ 2 ∷ 7 ∷ 8 ∷ 9 ∷ 0 ∷ 0 ∷ 0 ∷ 0 ∷ 0 ∷ 8 ∷ 8 ∷ 7 ∷ 9 ∷ 0 ∷ 8 ∷ 0 ∷ 0 ∷ 8 ∷ []
 
 -- data of so many bytes
 abbrev pub bytes : ℕ → List ℕ
@@ -122,9 +133,10 @@ pub record Refusals : Type 0 where
   -- 1: all calls for its length, all but format for a record that is not good
   pub row-1 :
       ones (read 29) 90 2 ++ ones (view 29) 90 2 ++ ones (write 29 (bytes 2)) 90 0 ++ ones (grow 2) 150 0 ++ ones (advance 1) 90 0
-      ++ ones (out 2) 0 0 ++ ones (rebuild 2) 90 0 ++ ones status 0 0 ++ ones (locate 29) 0 0 ++ ones (owner 14 2) 0 0
-      ≡ replicate 90 1
-  pub row-1-format : ones (format 3 2 15) 90 0 ≡ 1 ∷ 1 ∷ 1 ∷ 0 ∷ 0 ∷ 0 ∷ 0 ∷ 0 ∷ 0 ∷ []
+      ++ ones (out 2) 0 0 ++ ones (begin 2) 90 0 ++ ones (continue 1) 90 0
+      ++ ones status 0 0 ++ ones (locate 29) 0 0 ++ ones (owner 14 2) 0 0
+      ≡ replicate 176 1
+  pub row-1-format : ones (format 3 2 15) 90 0 ≡ 1 ∷ 1 ∷ 1 ∷ replicate 13 0
   -- 1 for its length alone; 6, 7; health lost, a bad record, m and t are no matter
   pub formats :
       asks short (format 2 2 15) 89 0 ∷ asks small (format 2 2 15) 89 0 ∷ asks small (format 3 2 15) 89 0 ∷ asks small (format 3 2 15) 90 0
@@ -146,8 +158,9 @@ pub record Refusals : Type 0 where
       ∷ asks small (grow 17) 600 0 ∷ asks small (grow 1) 120 0 ∷ asks small (grow 3) 180 0
       ∷ asks small (grow 1) 119 0 ∷ asks small (grow 2) 90 0
       ∷ asks (of-stripes 57) (grow 16) 1083 0 ∷ asks (of-stripes 60) (grow 17) 1200 0 ∷ asks (of-stripes 12) (grow 1) 48 0
+      ∷ asks (growing (Rebuilding 4 0) 17) (grow 0) 89 0
       ∷ []
-      ≡ 1 ∷ 1 ∷ 2 ∷ 3 ∷ 4 ∷ 6 ∷ 7 ∷ 0 ∷ 6 ∷ 0 ∷ 0 ∷ 7 ∷ 7 ∷ 0 ∷ 6 ∷ 0 ∷ []
+      ≡ 1 ∷ 1 ∷ 2 ∷ 3 ∷ 4 ∷ 6 ∷ 7 ∷ 0 ∷ 6 ∷ 0 ∷ 0 ∷ 7 ∷ 7 ∷ 0 ∷ 6 ∷ 0 ∷ 3 ∷ []
   -- 1, 2, 3, 5, 7, none; 5 with m = 0, and with a total of 0; k = 0 is no refusal, and spares none
   pub advances :
       asks short (advance 1) 149 0 ∷ asks bad (advance 1) 149 0 ∷ asks lost (advance 1) 149 0
@@ -156,28 +169,44 @@ pub record Refusals : Type 0 where
       ∷ asks small (advance 1) 90 0 ∷ asks (growing Whole 17) (advance 0) 150 0 ∷ asks (growing Whole 0) (advance 1) 150 0
       ∷ asks (growing Whole 18) (advance 0) 150 0 ∷ asks small (advance 0) 90 0
       ∷ asks (encode (grownBy (formatted 4 1 19) 1)) (advance 1) 94 0 ∷ asks (encode (grownBy (formatted 4 1 19) 1)) (advance 1) 95 0
+      ∷ asks (growing (Rebuilding 4 14) 18) (advance 1) 149 0
       ∷ []
-      ≡ 1 ∷ 1 ∷ 2 ∷ 3 ∷ 5 ∷ 7 ∷ 0 ∷ 5 ∷ 0 ∷ 0 ∷ 5 ∷ 5 ∷ 5 ∷ 5 ∷ []
-  -- 1, 2, 10 past the last disk and for the one that is out, none; no images are asked for
+      ≡ 1 ∷ 1 ∷ 2 ∷ 3 ∷ 5 ∷ 7 ∷ 0 ∷ 5 ∷ 0 ∷ 0 ∷ 5 ∷ 5 ∷ 5 ∷ 5 ∷ 3 ∷ []
+  -- 1, 2, 10 past the last disk and for the one that is out, none; no images are asked for; of a rebuild any disk may be out
   pub outs :
       asks short (out 5) 0 0 ∷ asks bad (out 5) 0 0 ∷ asks lost (out 5) 0 0
       ∷ asks (growing Whole 17) (out 5) 0 0 ∷ asks (growing (Out 4) 17) (out 4) 0 0
       ∷ asks (growing Whole 17) (out 4) 0 0 ∷ asks (growing (Out 4) 17) (out 3) 0 0
       ∷ asks (growing (Out 4) 17) (out 5) 0 0 ∷ asks small (out 3) 0 0 ∷ asks small (out 2) 0 0
+      ∷ asks (growing (Rebuilding 4 3) 17) (out 5) 0 0 ∷ asks (growing (Rebuilding 4 3) 17) (out 4) 0 0
+      ∷ asks (growing (Rebuilding 4 3) 17) (out 3) 0 0
       ∷ []
-      ≡ 1 ∷ 1 ∷ 2 ∷ 10 ∷ 10 ∷ 0 ∷ 0 ∷ 10 ∷ 10 ∷ 0 ∷ []
-  -- 1, 2, 7, 10 for another disk and for any if none is out, none
-  pub rebuilds :
-      asks short (rebuild 3) 149 0 ∷ asks bad (rebuild 3) 149 0 ∷ asks lost (rebuild 3) 149 0
-      ∷ asks (growing (Out 4) 17) (rebuild 3) 149 0 ∷ asks (growing (Out 4) 17) (rebuild 3) 150 0
-      ∷ asks (growing (Out 4) 17) (rebuild 4) 150 0 ∷ asks (growing Whole 17) (rebuild 0) 150 0
-      ∷ asks (growing (Out 4) 18) (rebuild 4) 150 0 ∷ asks (encode (withHealth fresh (Out 1))) (rebuild 1) 90 0
+      ≡ 1 ∷ 1 ∷ 2 ∷ 10 ∷ 10 ∷ 0 ∷ 0 ∷ 10 ∷ 10 ∷ 0 ∷ 10 ∷ 0 ∷ 0 ∷ []
+  -- 1, 2, 7, 10 for another disk and for any if none is out or one is being rebuilt, none
+  pub begins :
+      asks short (begin 3) 149 0 ∷ asks bad (begin 3) 149 0 ∷ asks lost (begin 3) 149 0
+      ∷ asks (growing (Out 4) 17) (begin 3) 149 0 ∷ asks (growing (Out 4) 17) (begin 3) 150 0
+      ∷ asks (growing (Out 4) 17) (begin 4) 150 0 ∷ asks (growing Whole 17) (begin 0) 150 0
+      ∷ asks (growing (Out 4) 18) (begin 4) 150 0 ∷ asks (encode (withHealth fresh (Out 1))) (begin 1) 90 0
+      ∷ asks (growing (Rebuilding 4 0) 17) (begin 4) 150 0 ∷ asks (growing (Rebuilding 4 14) 17) (begin 3) 150 0
       ∷ []
-      ≡ 1 ∷ 1 ∷ 2 ∷ 7 ∷ 10 ∷ 0 ∷ 10 ∷ 0 ∷ 0 ∷ []
+      ≡ 1 ∷ 1 ∷ 2 ∷ 7 ∷ 10 ∷ 0 ∷ 10 ∷ 0 ∷ 0 ∷ 10 ∷ 10 ∷ []
+  -- 1, 2, 7, 10 if all disks are in or one is out, none; k = 0 is no refusal, and spares none
+  pub continues :
+      asks short (continue 1) 149 0 ∷ asks bad (continue 1) 149 0 ∷ asks lost (continue 1) 149 0
+      ∷ asks (growing (Out 4) 17) (continue 1) 149 0 ∷ asks (growing (Rebuilding 4 3) 17) (continue 1) 149 0
+      ∷ asks (growing Whole 17) (continue 1) 150 0 ∷ asks (growing (Out 4) 17) (continue 1) 150 0
+      ∷ asks (growing (Out 4) 17) (continue 0) 150 0
+      ∷ asks (growing (Rebuilding 4 0) 17) (continue 1) 150 0 ∷ asks (growing (Rebuilding 4 14) 17) (continue 99) 150 0
+      ∷ asks (growing (Rebuilding 0 14) 18) (continue 0) 150 0 ∷ asks (encode (withHealth fresh (Rebuilding 1 3))) (continue 1) 90 0
+      ∷ []
+      ≡ 1 ∷ 1 ∷ 2 ∷ 7 ∷ 7 ∷ 10 ∷ 10 ∷ 10 ∷ 0 ∷ 0 ∷ 0 ∷ 0 ∷ []
   -- 1, and nothing else
   pub statuses :
-      asks short status 0 0 ∷ asks bad status 0 0 ∷ asks sixth status 0 0 ∷ asks lost status 0 0 ∷ asks (growing (Out 4) 18) status 0 0 ∷ []
-      ≡ 1 ∷ 1 ∷ 1 ∷ 0 ∷ 0 ∷ []
+      asks short status 0 0 ∷ asks bad status 0 0 ∷ asks sixth status 0 0 ∷ asks lost status 0 0 ∷ asks (growing (Out 4) 18) status 0 0
+      ∷ asks (growing (Rebuilding 4 14) 18) status 0 0
+      ∷ []
+      ≡ 1 ∷ 1 ∷ 1 ∷ 0 ∷ 0 ∷ 0 ∷ []
   -- 1, 8, none; health and images are no matter
   pub locates :
       asks short (locate 30) 0 0 ∷ asks bad (locate 30) 0 0 ∷ asks small (locate 30) 0 0

@@ -1,16 +1,17 @@
 -- What may be lent: `free-to-lend`. Assumes nothing.
 use Prim.Native.Nat.{ℕ, _+_, _≤_, _<_}
 use mathlib.Core.Path.{_≡_, refl, sym, ap, _∙_, subst}
-use mathlib.Core.Bool.{false}
-use mathlib.Core.Logic.{_≢_}
+use mathlib.Core.Bool.{true, false, true≢false}
+use mathlib.Core.Logic.{_⊎_, inl, inr, _≢_}
 use mathlib.Core.List.{List, _++_}
 use native.Mathlib.Omega.{arith}
 use lib.ListN.{length, length-append, List·getD-append}
 use lib.Seq.{ext-getD}
-use borrow.Author.Tests.{eqb-false}
+use borrow.Author.Tests.{eqb-false, eq-eqb}
+use Rattle.layout.proofs.Laws.Basics.{le-or-lt}
 use Rattle.blocks.specs.Stripe.{offset}
 use Rattle.blocks.proofs.Laws.Stripe.{place-in, length-place, getD-place}
-use Rattle.state.specs.declared.Health.the-variants.{Out}
+use Rattle.state.specs.declared.Health.the-variants.{Out, Rebuilding}
 use Rattle.state.specs.declared.Health.{Health}
 use Rattle.state.specs.declared.Record.{Record}
 use Rattle.calls.specs.Call.{Call, Event}
@@ -18,6 +19,7 @@ use Rattle.calls.specs.Health.{absent}
 use Rattle.calls.specs.Images.{disksOf, size, placeIn}
 use Rattle.calls.specs.Table.{Takes, nothing, anything, those, terms}
 use Rattle.calls.proofs.Laws.Asked.{turned-away}
+use Rattle.calls.proofs.Laws.Health.{from-count}
 use Rattle.history.specs.Lent.{takes, Keeps, Lent, Lends}
 use Rattle.history.specs.Theorem.{FreeToLend}
 
@@ -69,6 +71,16 @@ module _ (e : Event) (r : Record) (left : List ℕ) where
   others : (o : ℕ) → r .health ≡ Out o → (S d : ℕ) → absent (r .health) S d ≡ false → d ≢ o
   others o h S d u = eqb-false d o (ap (λ (x : Health). absent x S d) (sym h) ∙ u)
 
+  -- a place of a disk that is being rebuilt and counts as in is of a stripe that is done
+  done-there : (o c : ℕ) → r .health ≡ Rebuilding o c → (S d : ℕ) → absent (r .health) S d ≡ false → d ≡ o → S < c
+  done-there o c h S d u q = go (le-or-lt c S)
+    where
+      go : (c ≤ S) ⊎ (S < c) → S < c
+      go (inr l) = l
+      go (inl l) =
+          let z : absent (r .health) S d ≡ true = ap (λ (x : Health). absent x S d) h ∙ from-count o c S d l ∙ eq-eqb d o q in
+          absurd (true≢false (sym z ∙ u))
+
   pub free-to-lend : FreeToLend e r left
   unfolding Keeps Lends terms
   free-to-lend =
@@ -78,6 +90,7 @@ module _ (e : Event) (r : Record) (left : List ℕ) where
         any-length = λ len q ne. by-length (λ n p z. ne (z ∙ same-length (sym p ∙ q)));
         turned-away = λ c z. by-length (λ n q. turned-away r c (length (e .images)) (length (e .room)) n (e .call) q z);
         any-out = λ o h k. by-keeping (λ S d lS ld u. k S d lS ld (others o h S d u));
+        any-not-rebuilt = λ o c h k. by-keeping (λ S d lS ld u. k S d lS ld (done-there o c h S d u));
         any-lost = λ h. by-keeping (λ S d lS ld u. absurd (let w : _≡_ {A = ℕ} 0 1 = cc (ap (λ (x : Health). absent x S d) h) in omega arith));
         no-images = λ q. subst (λ (t : Takes). Lent t r left (e .images)) (sym q) tt;
       }

@@ -2,10 +2,13 @@
 use Prim.Native.Nat.{ℕ, zero, suc}
 use mathlib.Core.Path.{_≡_, refl, sym, ap, _∙_, subst}
 use mathlib.Core.Bool.{true, false}
+use mathlib.Core.Logic.{_≢_}
 use mathlib.Core.List.{List, [], _∷_}
 use native.Mathlib.Omega.{arith}
 use lib.ListN.{length}
-use Rattle.state.specs.declared.Health.the-variants.{Out, Lost}
+use borrow.Author.Tests.{ne-eqb}
+use Rattle.state.specs.declared.Health.the-variants.{Out, Lost, Rebuilding}
+use Rattle.state.specs.declared.Health.{Health}
 use Rattle.state.specs.declared.Record.{Record}
 use Rattle.state.specs.Good.{good}
 use Rattle.state.specs.Update.{withHealth}
@@ -13,7 +16,7 @@ use Rattle.state.proofs.Laws.Good.{limits, within-limits, turned}
 use Rattle.calls.specs.Call.{Call, format, read, view, write, grow, advance, out, Fed, Answer, refused, accepted}
 use Rattle.calls.specs.Table.{terms, refusal}
 use Rattle.calls.proofs.Laws.Table.{StopsLost, given-2}
-use Rattle.history.specs.Flat.{Flat, flatAct, flatSettle, flatStep}
+use Rattle.history.specs.Flat.{Flat, fallen, flatAct, flatSettle, flatStep}
 use Rattle.history.specs.Theorem.{NoReads}
 use Rattle.history.proofs.Laws.Look.{Look, opens, puts, grows, moves, turns, tells, look}
 
@@ -85,18 +88,25 @@ no-reads (e ∷ es) f g h = (
 )
 
 -- an accepted out of a second disk
-pub lost-then : (f : Flat) (first second len room : ℕ) → good (f .numbers) ≡ true → f .numbers .health ≡ Out first
+pub lost-then : (f : Flat) (second len room : ℕ) → fallen (f .numbers .health) second ≡ Lost
     → accepted (flatStep (record { call = out second; images = len; room = room }) f .0) ≡ true
     → flatStep (record { call = out second; images = len; room = room }) f .1 .numbers ≡ withHealth (f .numbers) Lost
 unfolding flatStep flatAct
-lost-then f first second len room g h = go (R f e)
+lost-then f second len room q = go (R f e)
   where
     e : Fed
     e = record { call = out second; images = len; room = room }
 
     go : (n : ℕ) → accepted (Y f e n .0) ≡ true → Y f e n .1 .numbers ≡ withHealth (f .numbers) Lost
-    go zero u = rw h refl
+    go zero u = ap {B = Record} (λ (x : Health). withHealth (f .numbers) x) q
     go (suc n) u = absurd (let w : _≡_ {A = ℕ} 0 1 = cc in omega arith)
+
+-- a second one: of a rebuild, another than the one that is being rebuilt
+pub second-lost : (h : Health) (first second : ℕ) → h ≡ Out first → fallen h second ≡ Lost
+second-lost h first second q = ap (λ (x : Health). fallen x second) q
+
+pub other-lost : (h : Health) (first done second : ℕ) → h ≡ Rebuilding first done → second ≢ first → fallen h second ≡ Lost
+other-lost h first done second q ne = ap (λ (x : Health). fallen x second) q ∙ rw (ne-eqb first second (λ p. ne (sym p))) refl
 
 pub lost-reads : (es : List Fed) (f : Flat) (r : Record) → good r ≡ true → f .numbers ≡ withHealth r Lost → NoReads es f
 lost-reads es f r g q = no-reads es f (ap good q ∙ good-lost r g) (ap (λ (x : Record). x .health) q)

@@ -1,22 +1,27 @@
 -- The array and the flat list, call by call: from images that hold the list, equal answers and records, and images that hold the next list. Assumes nothing.
-use Prim.Native.Nat.{ℕ, zero, suc, _+_, _-_, _*_}
+use Prim.Native.Nat.{ℕ, zero, suc, _+_, _-_, _*_, _≤_, _<_, min}
 use mathlib.Core.Path.{_≡_, refl, sym, ap, _∙_, subst}
 use mathlib.Core.Bool.{Bool, true, false, cond, not}
+use mathlib.Core.Logic.{_⊎_, inl, inr}
 use mathlib.Core.List.{List, _++_}
+use native.Mathlib.Decide.{ℕ-discrete}
 use native.Mathlib.Omega.{arith}
 use lib.Dec.{eqb}
 use lib.ListN.{length, getD}
+use borrow.Author.Tests.{eq-eqb, ne-eqb, lt-ltb, le-ltb}
 use Rattle.layout.specs.Layout.{totalOf, finishedZones, openStripes, capacity}
+use Rattle.layout.proofs.Laws.Basics.{le-or-lt}
 use Rattle.blocks.proofs.Laws.Stripe.{getD-place}
-use Rattle.state.specs.declared.Health.the-variants.{Whole, Out, Lost}
+use Rattle.state.specs.declared.Health.the-variants.{Whole, Out, Lost, Rebuilding}
 use Rattle.state.specs.declared.Health.{Health}
 use Rattle.state.specs.declared.Record.{Record}
 use Rattle.state.specs.Good.{geometry}
-use Rattle.state.specs.Bytes.{recordLength, decode, encode}
+use Rattle.state.specs.Bytes.{recordLength, decode, stripesDone, encode}
 use Rattle.state.specs.Update.{grownBy, withHealth}
 use Rattle.state.proofs.Laws.Bytes.{decode-encode}
-use Rattle.calls.specs.Call.{Call, format, read, view, write, grow, advance, out, rebuild, status, locate, owner, Event, fed, Answer, accepted}
-use Rattle.calls.specs.Health.{afterOut}
+use Rattle.calls.specs.Call.{Call, format, read, view, write, grow, advance, out, begin, continue}
+use Rattle.calls.specs.Call.{status, locate, owner, Event, fed, Answer, made, accepted}
+use Rattle.calls.specs.Health.{afterOut, rebuiltTo}
 use Rattle.calls.specs.Images.{size, recorded}
 use Rattle.calls.specs.Table.{terms, laterRows, table, word, refusal, refusalOf, rowsBytes, refusalBytes}
 use Rattle.calls.specs.Effect.{effect, Left, act, untouched, settle, sealed, calledBytes}
@@ -28,10 +33,11 @@ use Rattle.calls.proofs.Laws.Write.{writes}
 use Rattle.calls.proofs.Laws.Grow.{grows}
 use Rattle.calls.proofs.Laws.Advance.{advanced, advances}
 use Rattle.calls.proofs.Laws.Lists.{with-new}
+use Rattle.calls.proofs.Laws.Passed as rows
 use Rattle.calls.proofs.Laws.Passed.{passed}
 use Rattle.calls.proofs.Laws.Out.{outs}
-use Rattle.calls.proofs.Laws.Rebuild.{rebuilds}
-use Rattle.history.specs.Flat.{Flat, flat, zeroBlocks, reached, lengthened, fallen, flatAct, flatSettle, flatStep}
+use Rattle.calls.proofs.Laws.Rebuild.{come-to, come-to-end, begins, as-many, carries}
+use Rattle.history.specs.Flat.{Flat, flat, zeroBlocks, reached, lengthened, fallen, risen, flatAct, flatSettle, flatStep}
 use Rattle.history.specs.Lent.{asBytes, Cabinet, takes, Keeps, Lends, leaves, imagesAfter, next}
 
 -- ---- an accepted call
@@ -54,6 +60,18 @@ same-health : (x : Health) (d : ℕ) → afterOut x d ≡ fallen x d
 same-health Whole d = refl
 same-health (Out o) d = refl
 same-health Lost d = refl
+same-health (Rebuilding o c) d = go (ℕ-discrete d o)
+  where
+    go : Dec (d ≡ o) → cond (eqb d o) (Out d) Lost ≡ cond (eqb o d) (Out o) Lost
+    go (yes q) = rw (q, eq-eqb o o refl)
+    go (no n) = rw (ne-eqb d o n, ne-eqb o d (λ q. n (sym q)))
+
+same-rise : (T o c x : ℕ) → c + x ≤ T → rebuiltTo T o (c + x) ≡ risen T (Rebuilding o c) x
+same-rise T o c x l = go (le-or-lt T (c + x))
+  where
+    go : (T ≤ c + x) ⊎ (c + x < T) → rebuiltTo T o (c + x) ≡ risen T (Rebuilding o c) x
+    go (inl h) = rw (come-to-end T o (c + x) (omega arith), le-ltb (c + x) T h)
+    go (inr h) = rw (come-to T o (c + x) h, lt-ltb (c + x) T h)
 
 -- the flat list's length is the capacity, so both machines lengthen it alike
 same-length : (r : Record) → capacity (geometry r) ≡ reached r
@@ -90,6 +108,21 @@ module _ (r : Record) (left : List ℕ) (bs : List (List ℕ)) (h : Holding r le
   abbrev cap : ℕ
   cap = capacity (geometry r)
 
+  -- a continue makes of the health what the flat list makes of it
+  continues : (length img ≡ size r → Keeps r left img) → (k : ℕ) → Passes (continue k) →
+      let x = min k (r .stripes - stripesDone (r .health)) in
+      Leaves (act (event (continue k) img room) r) (made x) (withHealth r (risen (r .stripes) (r .health) x)) bs
+  continues l k z =
+      let q = rows.continues r cap (length img) (length room) k z in
+      let g : Holding r img bs = lent l (q .long) in
+      let x : ℕ = min k (r .stripes - q .done) in
+      let rise = same-rise (r .stripes) (q .disk) (q .done) x (as-many r img (q .disk) (q .done) (q .health) k (h .limits)) in
+      subst (λ (y : Health). let n = min k (r .stripes - stripesDone y) in Leaves X (made n) (withHealth r (risen (r .stripes) y n)) bs) (sym (q .health))
+      (subst (λ (y : Health). Leaves X (made x) (withHealth r y) bs) rise (carries r img (q .disk) (q .done) (q .health) k (h .limits) (q .long) room bs g))
+    where
+      X : Left Record
+      X = act (event (continue k) img room) r
+
   acts : (c : Call) → Lends (event c img room) r left → Passes c → Acted c (act (event c img room) r) r left (flatAct c r bs)
   unfolding Lends terms flatAct effect recorded
   acts (format n B T) l z = left-by (format n B T) refl refl (formats n B T img room r cap (length room) z)
@@ -102,7 +135,8 @@ module _ (r : Record) (left : List ℕ) (bs : List (List ℕ)) (h : Holding r le
   acts (out d) l z =
       let x : Holding (withHealth r (afterOut (r .health) d)) left bs = outs r left bs h d cap (length img) (length room) z in
       record { answer = refl; taken = refl; state = ap (withHealth r) (same-health (r .health) d); holding = rw (same-health (r .health) d) at x }
-  acts (rebuild d) l z = left-by (rebuild d) refl refl (rebuilds r img room bs (lent l) d cap (length room) z)
+  acts (begin d) l z = left-by (begin d) refl refl (begins r img room bs (lent l) d cap (length room) z)
+  acts (continue k) l z = left-by (continue k) refl refl (continues l k z)
   acts status l z = record { answer = rw (h .count); taken = refl; state = refl; holding = h }
   acts (locate b) l z = record { answer = refl; taken = refl; state = refl; holding = h }
   acts (owner S d) l z = record { answer = refl; taken = refl; state = refl; holding = h }

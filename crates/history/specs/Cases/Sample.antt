@@ -1,16 +1,18 @@
 -- One history of one cabinet, run through both machines. 3 disks of 12 stripes, with blocks of 2 bytes, and then a fourth: 9 moves, 3 to a
--- zone, capacity 24, then 28, 32 and 36. At last, formatted anew as 4 disks, a fifth, with which nothing has to move. The expected answers
--- are literals, printed by a program that was written from documents 01 and 02 and knows none of these definitions: it replays the moves
--- one by one on a table of places. `sample` of proofs/Cases/Sample.antt computes both machines.
-use Prim.Native.Nat.{ℕ, zero, suc, _+_, _*_, _%_}
+-- zone, capacity 24, then 28, 32 and 36. A disk is rebuilt in steps meanwhile, fails again, and is rebuilt. At last, formatted anew as 4
+-- disks, a fifth, with which nothing has to move. The expected answers are literals, printed by programs that were written from
+-- documents 01 and 02 and know none of these definitions: the moves are replayed one by one on a table of places. `sample` of
+-- proofs/Cases/Sample.antt computes both machines.
+use Prim.Native.Nat.{ℕ, zero, suc, _+_, _-_, _*_, _%_}
 use mathlib.Core.Path.{_≡_}
 use mathlib.Core.List.{List, [], _∷_, _++_, map}
 use lib.ListN.{take, drop}
 use Rattle.layout.specs.declared.Role.the-variants.{Data, Parity, Blank}
 use Rattle.layout.specs.Home.{placeAt}
-use Rattle.state.specs.declared.Health.the-variants.{Whole, Out, Lost}
+use Rattle.state.specs.declared.Health.the-variants.{Whole, Out, Lost, Rebuilding}
 use Rattle.state.specs.Bytes.{recordLength, decode}
-use Rattle.calls.specs.Call.{Call, format, read, view, write, grow, advance, out, rebuild, status, locate, owner, Event, fed}
+use Rattle.calls.specs.Call.{Call, format, read, view, write, grow, advance, out, begin, continue}
+use Rattle.calls.specs.Call.{status, locate, owner, Event, fed}
 use Rattle.calls.specs.Call.{Answer, refused, done, bytes, made, figures, placed, owned}
 use Rattle.history.specs.Flat.{Flat, flat}
 use Rattle.history.specs.Lent.{asBytes, Cabinet, next}
@@ -29,9 +31,9 @@ unfoldable pub junk : ℕ → ℕ → List ℕ
 junk g zero = []
 junk g (suc len) = (g * suc len + 37) % 256 ∷ junk g len
 
--- the 24 bytes of disk d replaced by nonsense
-abbrev pub spoil : ℕ → ℕ → List ℕ → List ℕ
-spoil d g img = take (d * 24) img ++ junk g 24 ++ drop (d * 24 + 24) img
+-- the 24 bytes of disk d, from stripe c on, replaced by nonsense
+abbrev pub spoil : ℕ → ℕ → ℕ → List ℕ → List ℕ
+spoil d c g img = take (d * 24 + c * 2) img ++ junk g (24 - c * 2) ++ drop (d * 24 + 24) img
 
 -- a call lent the images as they stand and a block of 2 bytes ..
 abbrev pub plain : Call → Step
@@ -39,7 +41,11 @@ plain c = record { call = c; change = λ img. img; room = 7 ∷ 7 ∷ [] }
 
 -- .. with nonsense on disk d ..
 abbrev pub spoilt : ℕ → ℕ → Call → Step
-spoilt d g c = record { call = c; change = spoil d g; room = 7 ∷ 7 ∷ [] }
+spoilt d g c = record { call = c; change = spoil d 0 g; room = 7 ∷ 7 ∷ [] }
+
+-- .. on those of its stripes that are not among the first k ..
+abbrev pub rebuilt : ℕ → ℕ → ℕ → Call → Step
+rebuilt d k g c = record { call = c; change = spoil d k g; room = 7 ∷ 7 ∷ [] }
 
 -- .. with a disk of nonsense behind them ..
 abbrev pub longer : Call → Step
@@ -120,8 +126,40 @@ degraded =
     ∷ spoilt 2 47 (advance 1)  -- a disk out halts the growth
     ∷ spoilt 2 53 (grow 1)  -- degraded and grown: the lower number
     ∷ spoilt 2 59 (out 2)  -- out already
-    ∷ spoilt 2 61 (rebuild 1)  -- another disk
-    ∷ spoilt 2 67 (rebuild 2)
+    ∷ spoilt 2 61 (begin 1)  -- another disk
+    ∷ spoilt 2 63 (continue 1)  -- none is being rebuilt
+    ∷ spoilt 2 67 (begin 2)
+    ∷ []
+
+-- disk 2 is rebuilt in steps, and holds other bytes in the stripes not done before every call
+abbrev pub rebuilding : List Step
+rebuilding =
+    rebuilt 2 0 139 (read 0)  -- on disk 2, stripe 0: not done
+    ∷ rebuilt 2 0 149 (continue 3)
+    ∷ rebuilt 2 3 151 status
+    ∷ rebuilt 2 3 157 (read 0)  -- done
+    ∷ rebuilt 2 3 163 (write 0 (14 ∷ 15 ∷ []))
+    ∷ rebuilt 2 3 167 (write 4 (16 ∷ 17 ∷ []))  -- stripe 2, its parity on disk 2: done
+    ∷ rebuilt 2 3 173 (view 6)  -- stripe 3, on disk 2: not done
+    ∷ rebuilt 2 3 179 (write 6 (18 ∷ 19 ∷ []))  -- the parity alone takes it
+    ∷ rebuilt 2 3 181 (continue 1)  -- stripe 3
+    ∷ rebuilt 2 4 191 (read 6)
+    ∷ rebuilt 2 4 193 (write 6 (20 ∷ 21 ∷ []))  -- both take it
+    ∷ rebuilt 2 4 197 (advance 1)  -- the growth stands still
+    ∷ rebuilt 2 4 199 (grow 1)
+    ∷ rebuilt 2 4 211 (begin 2)  -- it is being rebuilt already
+    ∷ rebuilt 2 4 223 (out 2)  -- the same disk, again
+    ∷ spoilt 2 227 status
+    ∷ spoilt 2 229 (read 0)
+    ∷ spoilt 2 233 (read 6)
+    ∷ spoilt 2 239 (continue 1)  -- none is being rebuilt
+    ∷ spoilt 2 241 (begin 2)
+    ∷ rebuilt 2 0 251 (continue 0)
+    ∷ rebuilt 2 0 257 (continue 11)  -- all but one
+    ∷ rebuilt 2 11 263 (read 6)
+    ∷ rebuilt 2 11 269 (continue 100)
+    ∷ plain (continue 1)  -- whole
+    ∷ plain (read 0)
     ∷ []
 
 -- whole again: the last move of zone 0, and its four blanks are blocks. One of them is written in mid-growth, between two moves of zone 1,
@@ -147,7 +185,8 @@ handedOut =
     ∷ spoilt 1 113 (write 26 (45 ∷ 46 ∷ []))  -- the parity alone takes it
     ∷ spoilt 1 127 (view 26)
     ∷ spoilt 1 131 (write 24 (61 ∷ 62 ∷ []))  -- another, on disk 3
-    ∷ spoilt 1 137 (rebuild 1)
+    ∷ spoilt 1 137 (begin 1)
+    ∷ spoilt 1 138 (continue 12)
     ∷ plain (read 26)
     ∷ plain (advance 2)  -- the other two of zone 1
     ∷ plain status  -- 32 blocks
@@ -190,9 +229,13 @@ abbrev pub lost : List Step
 lost =
     plain (out 1)
     ∷ spoilt 1 71 (view 26)  -- on disk 1
-    ∷ spoilt 1 73 (out 3)  -- the second
+    ∷ spoilt 1 72 (begin 1)
+    ∷ spoilt 1 73 (continue 5)
+    ∷ rebuilt 1 5 74 (view 26)  -- stripe 2: done
+    ∷ rebuilt 1 5 76 (out 3)  -- the second, while the first is not rebuilt
     ∷ spoilt 1 79 (read 4)
-    ∷ spoilt 1 83 (rebuild 1)
+    ∷ spoilt 1 82 (begin 1)
+    ∷ spoilt 1 83 (continue 1)
     ∷ spoilt 1 89 status
     ∷ spoilt 1 97 (locate 26)
     ∷ []
@@ -221,14 +264,15 @@ odd =
     ∷ plain (out 4)
     ∷ spoilt 4 101 (read 47)  -- on the disk that is out
     ∷ spoilt 4 103 (read 34)
-    ∷ spoilt 4 107 (rebuild 4)
+    ∷ spoilt 4 107 (begin 4)
+    ∷ spoilt 4 108 (continue 12)
     ∷ plain (read 47)
     ∷ plain (read 48)
     ∷ []
 
 -- all of it
 abbrev pub script : List Step
-script = begun ++ growing ++ degraded ++ handedOut ++ finished ++ turnedAway ++ lost ++ anew ++ odd
+script = begun ++ growing ++ degraded ++ rebuilding ++ handedOut ++ finished ++ turnedAway ++ lost ++ anew ++ odd
 
 -- ---- both machines before the first format
 
@@ -242,9 +286,12 @@ list = flat (decode (junk 91 recordLength)) []
 
 -- ---- the answers
 
--- the record's bytes: n, m, health with its disk, B = 2, T = 12, t
+-- the record's bytes: n, m, health with its disk, B = 2, T = 12, t, and the stripes done
+abbrev pub afterSteps : ℕ → ℕ → ℕ → ℕ → ℕ → ℕ → List ℕ
+afterSteps n m h d t c = n ∷ m ∷ h ∷ d ∷ 2 ∷ 0 ∷ 0 ∷ 0 ∷ 12 ∷ 0 ∷ 0 ∷ 0 ∷ t ∷ 0 ∷ 0 ∷ 0 ∷ c ∷ 0 ∷ 0 ∷ 0 ∷ []
+
 abbrev pub after : ℕ → ℕ → ℕ → ℕ → ℕ → List ℕ
-after n m h d t = n ∷ m ∷ h ∷ d ∷ 2 ∷ 0 ∷ 0 ∷ 0 ∷ 12 ∷ 0 ∷ 0 ∷ 0 ∷ t ∷ 0 ∷ 0 ∷ 0 ∷ []
+after n m h d t = afterSteps n m h d t 0
 
 -- what each call answers, and the record's bytes after it
 abbrev pub expected : List (Answer × List ℕ)
@@ -295,11 +342,39 @@ expected =
     ∷ (refused 3, after 3 1 1 2 2)  -- advance 1
     ∷ (refused 3, after 3 1 1 2 2)  -- grow 1
     ∷ (refused 10, after 3 1 1 2 2)  -- out 2
-    ∷ (refused 10, after 3 1 1 2 2)  -- rebuild 1
-    ∷ (done, after 3 1 0 0 2)  -- rebuild 2
+    ∷ (refused 10, after 3 1 1 2 2)  -- begin 1
+    ∷ (refused 10, after 3 1 1 2 2)  -- continue 1
+    ∷ (done, afterSteps 3 1 3 2 2 0)  -- begin 2
+    -- rebuilding
+    ∷ (bytes (250 ∷ 251 ∷ []), afterSteps 3 1 3 2 2 0)  -- read 0
+    ∷ (made 3, afterSteps 3 1 3 2 2 3)  -- continue 3
+    ∷ (figures 24 2 9 (Rebuilding 2 3), afterSteps 3 1 3 2 2 3)  -- status
+    ∷ (bytes (250 ∷ 251 ∷ []), afterSteps 3 1 3 2 2 3)  -- read 0
+    ∷ (done, afterSteps 3 1 3 2 2 3)  -- write 0 (14 ∷ 15 ∷ [])
+    ∷ (done, afterSteps 3 1 3 2 2 3)  -- write 4 (16 ∷ 17 ∷ [])
+    ∷ (bytes (40 ∷ 50 ∷ []), afterSteps 3 1 3 2 2 3)  -- view 6
+    ∷ (done, afterSteps 3 1 3 2 2 3)  -- write 6 (18 ∷ 19 ∷ [])
+    ∷ (made 1, afterSteps 3 1 3 2 2 4)  -- continue 1
+    ∷ (bytes (18 ∷ 19 ∷ []), afterSteps 3 1 3 2 2 4)  -- read 6
+    ∷ (done, afterSteps 3 1 3 2 2 4)  -- write 6 (20 ∷ 21 ∷ [])
+    ∷ (refused 3, afterSteps 3 1 3 2 2 4)  -- advance 1
+    ∷ (refused 3, afterSteps 3 1 3 2 2 4)  -- grow 1
+    ∷ (refused 10, afterSteps 3 1 3 2 2 4)  -- begin 2
+    ∷ (done, after 3 1 1 2 2)  -- out 2
+    ∷ (figures 24 2 9 (Out 2), after 3 1 1 2 2)  -- status
+    ∷ (bytes (14 ∷ 15 ∷ []), after 3 1 1 2 2)  -- read 0
+    ∷ (bytes (20 ∷ 21 ∷ []), after 3 1 1 2 2)  -- read 6
+    ∷ (refused 10, after 3 1 1 2 2)  -- continue 1
+    ∷ (done, afterSteps 3 1 3 2 2 0)  -- begin 2
+    ∷ (made 0, afterSteps 3 1 3 2 2 0)  -- continue 0
+    ∷ (made 11, afterSteps 3 1 3 2 2 11)  -- continue 11
+    ∷ (bytes (20 ∷ 21 ∷ []), afterSteps 3 1 3 2 2 11)  -- read 6
+    ∷ (made 1, after 3 1 0 0 2)  -- continue 100
+    ∷ (refused 10, after 3 1 0 0 2)  -- continue 1
+    ∷ (bytes (14 ∷ 15 ∷ []), after 3 1 0 0 2)  -- read 0
     -- handedOut
-    ∷ (bytes (40 ∷ 50 ∷ []), after 3 1 0 0 2)  -- read 6
-    ∷ (bytes (12 ∷ 21 ∷ []), after 3 1 0 0 2)  -- read 4
+    ∷ (bytes (20 ∷ 21 ∷ []), after 3 1 0 0 2)  -- read 6
+    ∷ (bytes (16 ∷ 17 ∷ []), after 3 1 0 0 2)  -- read 4
     ∷ (bytes (99 ∷ 98 ∷ []), after 3 1 0 0 2)  -- read 7
     ∷ (refused 8, after 3 1 0 0 2)  -- read 24
     ∷ (made 1, after 3 1 0 0 3)  -- advance 1
@@ -317,7 +392,8 @@ expected =
     ∷ (done, after 3 1 1 1 4)  -- write 26 (45 ∷ 46 ∷ [])
     ∷ (bytes (45 ∷ 46 ∷ []), after 3 1 1 1 4)  -- view 26
     ∷ (done, after 3 1 1 1 4)  -- write 24 (61 ∷ 62 ∷ [])
-    ∷ (done, after 3 1 0 0 4)  -- rebuild 1
+    ∷ (done, afterSteps 3 1 3 1 4 0)  -- begin 1
+    ∷ (made 12, after 3 1 0 0 4)  -- continue 12
     ∷ (bytes (45 ∷ 46 ∷ []), after 3 1 0 0 4)  -- read 26
     ∷ (made 2, after 3 1 0 0 6)  -- advance 2
     ∷ (figures 32 6 9 Whole, after 3 1 0 0 6)  -- status
@@ -348,9 +424,13 @@ expected =
     -- lost
     ∷ (done, after 3 1 1 1 9)  -- out 1
     ∷ (bytes (5 ∷ 6 ∷ []), after 3 1 1 1 9)  -- view 26
+    ∷ (done, afterSteps 3 1 3 1 9 0)  -- begin 1
+    ∷ (made 5, afterSteps 3 1 3 1 9 5)  -- continue 5
+    ∷ (bytes (5 ∷ 6 ∷ []), afterSteps 3 1 3 1 9 5)  -- view 26
     ∷ (done, after 3 1 2 0 9)  -- out 3
     ∷ (refused 2, after 3 1 2 0 9)  -- read 4
-    ∷ (refused 2, after 3 1 2 0 9)  -- rebuild 1
+    ∷ (refused 2, after 3 1 2 0 9)  -- begin 1
+    ∷ (refused 2, after 3 1 2 0 9)  -- continue 1
     ∷ (figures 36 9 9 Lost, after 3 1 2 0 9)  -- status
     ∷ (placed (placeAt 2 1), after 3 1 2 0 9)  -- locate 26
     -- anew
@@ -371,7 +451,8 @@ expected =
     ∷ (done, after 4 1 1 4 0)  -- out 4
     ∷ (bytes (8 ∷ 9 ∷ []), after 4 1 1 4 0)  -- read 47
     ∷ (bytes (31 ∷ 32 ∷ []), after 4 1 1 4 0)  -- read 34
-    ∷ (done, after 4 1 0 0 0)  -- rebuild 4
+    ∷ (done, afterSteps 4 1 3 4 0 0)  -- begin 4
+    ∷ (made 12, after 4 1 0 0 0)  -- continue 12
     ∷ (bytes (8 ∷ 9 ∷ []), after 4 1 0 0 0)  -- read 47
     ∷ (refused 8, after 4 1 0 0 0)  -- read 48
     ∷ []

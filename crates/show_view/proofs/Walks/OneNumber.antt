@@ -40,7 +40,7 @@ use Rattle.lent.proofs.Walks.OneCall.{Walk, by-walk}
 use Rattle.lent.proofs.Walks.Steps.{val, pointer, slice, lends-on, without, takes, calls, lets-go, ends}
 use Rattle.lent.proofs.Count as N
 use Rattle.lent.proofs.Count.Laws as N′
-use Rattle.lent.proofs.Walks.Changing.{Answered, stepped, moved}
+use Rattle.lent.proofs.Walks.Changing.{Answered, stepped, progressed}
 use Rattle.lent.proofs.Walks.OneNumber.{call-ended, call-clauses}
 use Rattle.show_view.proofs.Walks.Lending.{to, lends, takes-back}
 
@@ -51,7 +51,7 @@ Sorted X = (M : Type 1) (𝓤 : URA M) (H : Heap 𝓤) (A : Atoms 𝓤) → Give
 pub numbered : Sorted stepped
 numbered M 𝓤 H A W a w is = uint-lawful 𝓤 H A W w8 .typed a _ is
 
-pub counted : Sorted moved
+pub counted : Sorted progressed
 counted M 𝓤 H A W a w is = LL.lawful N.the-type N′.the-laws 𝓤 H A W .typed a _ is
 
 abbrev ended : Ended

@@ -1,18 +1,18 @@
 -- The record and its bytes: each way there and back. Assumes nothing.
 use Prim.Native.Nat.{ℕ, zero, suc, _+_, _/_, _%_, _<_, _≤_}
 use mathlib.Core.Path.{_≡_, refl, sym, ap, _∙_}
-use mathlib.Core.Bool.{Bool, true, false, cond, _&&_, _||_}
+use mathlib.Core.Bool.{true, _&&_, _||_}
 use mathlib.Core.List.{List, [], _∷_}
 use native.Mathlib.Omega.{arith}
 use lib.ListN.{length, getD, drop}
 use lib.Seq.{drop-cons, drop-length}
 use lib.Dec.{eqb}
-use borrow.Author.Tests.{leb-true, eqb-true, eqb-false}
-use Rattle.state.specs.declared.Health.the-variants.{Whole, Out, Lost}
+use borrow.Author.Tests.{leb-true, eqb-true}
+use Rattle.state.specs.declared.Health.the-variants.{Whole, Out, Lost, Rebuilding}
 use Rattle.state.specs.declared.Health.{Health}
 use Rattle.state.specs.declared.Record.{Record}
-use Rattle.state.specs.Good.{OutBelow}
-use Rattle.state.specs.Bytes.{recordLength, two, four, healthOf, decode, healthPlain, plain, healthByte, diskByte, encode, AreBytes}
+use Rattle.state.specs.Good.{HealthWithin}
+use Rattle.state.specs.Bytes.{recordLength, two, four, doneFrom, healthOf, decode, healthPlain, plain, healthByte, diskByte, stripesDone, encode, AreBytes}
 use Rattle.conditions.proofs.Tests.{both}
 
 -- ---- from the record to its bytes and back
@@ -23,14 +23,15 @@ two-back x = omega arith
 four-back : (x : ℕ) → four (x % 256) (x / 256 % 256) (x / 65536 % 256) (x / 16777216) ≡ x
 four-back x = omega arith
 
-health-back : (h : Health) → healthOf (healthByte h) (diskByte h) ≡ h
+health-back : (h : Health) → healthOf (healthByte h) (diskByte h) (stripesDone h) ≡ h
 health-back Whole = refl
 health-back (Out d) = refl
 health-back Lost = refl
+health-back (Rebuilding d c) = refl
 
 pub decode-encode : (r : Record) → decode (encode r) ≡ r
 unfolding decode encode
-decode-encode r = simp (two-back (r .block), four-back (r .stripes), four-back (r .moves), health-back (r .health))
+decode-encode r = simp (two-back (r .block), four-back (r .stripes), four-back (r .moves), four-back (stripesDone (r .health)), health-back (r .health))
 
 -- ---- what the bytes of a record are
 
@@ -38,20 +39,21 @@ pub length-encode : (r : Record) → length (encode r) ≡ recordLength
 unfolding encode
 length-encode r = refl
 
-plain-health : (h : Health) → healthPlain (healthByte h) (diskByte h) ≡ true
+plain-health : (h : Health) → healthPlain (healthByte h) (diskByte h) (stripesDone h) ≡ true
 plain-health Whole = refl
 plain-health (Out d) = refl
 plain-health Lost = refl
+plain-health (Rebuilding d c) = refl
 
 pub plain-encode : (r : Record) → plain (encode r) ≡ true
 unfolding plain encode
-plain-encode r = simp (plain-health (r .health))
+plain-encode r = simp (four-back (stripesDone (r .health)), plain-health (r .health))
 
 -- each field fits its bytes
 pub record Fits (r : Record) : Type 0 where
   pub old-fits : r .old < 256
   pub new-fits : r .new < 256
-  pub disk-fits : OutBelow 256 (r .health)
+  pub health-fits : HealthWithin 256 4294967296 (r .health)
   pub block-fits : r .block < 65536
   pub stripes-fits : r .stripes < 4294967296
   pub moves-fits : r .moves < 4294967296
@@ -66,10 +68,11 @@ small none i = omega arith
 small (more h t) zero = h
 small (more h t) (suc i) = small t i
 
-health-fits : (h : Health) → OutBelow 256 h → (healthByte h < 256) × (diskByte h < 256)
-health-fits Whole o = (omega arith, omega arith)
-health-fits (Out d) o = (omega arith, o)
-health-fits Lost o = (omega arith, omega arith)
+health-fits : (h : Health) → HealthWithin 256 4294967296 h → (healthByte h < 256) × (diskByte h < 256) × (stripesDone h < 4294967296)
+health-fits Whole o = (omega arith, omega arith, omega arith)
+health-fits (Out d) o = (omega arith, o, omega arith)
+health-fits Lost o = (omega arith, omega arith, omega arith)
+health-fits (Rebuilding d c) o = (omega arith, o .0, o .1)
 
 two-fits : (x : ℕ) {b : List ℕ} → x < 65536 → Small b → Small (x % 256 ∷ x / 256 ∷ b)
 two-fits x h t =
@@ -88,9 +91,10 @@ four-fits x h t =
 pub bytes-encode : (r : Record) → Fits r → AreBytes (encode r)
 unfolding encode
 bytes-encode r f =
-    let h = health-fits (r .health) (f .disk-fits) in
+    let h = health-fits (r .health) (f .health-fits) in
     let zero-fits : 0 < 256 = omega arith in
-    let counts = four-fits (r .stripes) (f .stripes-fits) (four-fits (r .moves) (f .moves-fits) none) in
+    let done = four-fits (stripesDone (r .health)) (h .2) none in
+    let counts = four-fits (r .stripes) (f .stripes-fits) (four-fits (r .moves) (f .moves-fits) done) in
     let sizes = two-fits (r .block) (f .block-fits) (more zero-fits (more zero-fits counts)) in
     small (more (f .old-fits) (more (f .new-fits) (more (h .0) (more (h .1) sizes))))
 
@@ -119,32 +123,51 @@ four-bytes a b c d ha hb hc =
     let e : (four a b c d % 256 ≡ a) × (four a b c d / 256 % 256 ≡ b) × (four a b c d / 65536 % 256 ≡ c) × (four a b c d / 16777216 ≡ d) = (omega arith, omega arith, omega arith, omega arith) in
     cc (e .0, e .1, e .2, e .3)
 
-health-cases : (z o : Bool) (h d : ℕ) → eqb h 0 ≡ z → eqb h 1 ≡ o → h ≤ 2 → (o || eqb d 0) ≡ true
-    → (healthByte (cond z Whole (cond o (Out d) Lost)) ≡ h) × (diskByte (cond z Whole (cond o (Out d) Lost)) ≡ d)
-health-cases true true h d p q l e = absurd (omega (arith, eqb-true h 0 p, eqb-true h 1 q))
-health-cases true false h d p q l e = (sym (eqb-true h 0 p), sym (eqb-true d 0 e))
-health-cases false true h d p q l e = (sym (eqb-true h 1 q), refl)
-health-cases false false h d p q l e = (omega (arith, eqb-false h 0 p, eqb-false h 1 q), sym (eqb-true d 0 e))
+-- the number that a byte is, by the tests before it
+pub data Told (h : ℕ) : Type 0 where
+  is-whole : h ≡ 0 → Told h
+  is-out : h ≡ 1 → Told h
+  is-lost : h ≡ 2 → Told h
+  is-rebuilding : h ≡ 3 → Told h
 
-health-bytes : (h d : ℕ) → healthPlain h d ≡ true → (healthByte (healthOf h d) ≡ h) × (diskByte (healthOf h d) ≡ d)
-health-bytes h d e =
+told : (h : ℕ) → h ≤ 3 → Told h
+told zero l = is-whole refl
+told (suc zero) l = is-out refl
+told (suc (suc zero)) l = is-lost refl
+told (suc (suc (suc zero))) l = is-rebuilding refl
+told (suc (suc (suc (suc h)))) l = absurd (omega (arith, l))
+
+abbrev SpellsBack : ℕ → ℕ → ℕ → Type 0
+SpellsBack h d c = let x = healthOf h d c in (healthByte x ≡ h) × (diskByte x ≡ d) × (stripesDone x ≡ c)
+
+health-bytes : (h d c : ℕ) → healthPlain h d c ≡ true → SpellsBack h d c
+health-bytes h d c e =
     let p = both _ _ e in
-    health-cases (eqb h 0) (eqb h 1) h d refl refl (leb-true h 2 (p .0)) (p .1)
+    let q = both _ _ (p .1) in
+    go (told h (leb-true h 3 (p .0))) (q .0) (q .1)
+  where
+    go : Told h → (eqb h 3 || eqb c 0) ≡ true → (eqb h 3 || (eqb h 1 || eqb d 0)) ≡ true → SpellsBack h d c
+    go (is-whole z) u v = let u′ = rw z at u in let v′ = rw z at v in rw z (refl, sym (eqb-true d 0 v′), sym (eqb-true c 0 u′))
+    go (is-out z) u v = let u′ = rw z at u in rw z (refl, refl, sym (eqb-true c 0 u′))
+    go (is-lost z) u v = let u′ = rw z at u in let v′ = rw z at v in rw z (refl, sym (eqb-true d 0 v′), sym (eqb-true c 0 u′))
+    go (is-rebuilding z) u v = rw z (refl, refl, refl)
 
 spelt : (b : List ℕ) → AreBytes b → plain b ≡ true → encode (decode b) ≡ spell 0 recordLength b
 unfolding encode decode plain
 spelt b by e =
-    let p = both (healthPlain (getD b 2 0) (getD b 3 0)) (eqb (getD b 6 0) 0 && eqb (getD b 7 0) 0) e in
+    let p = both (healthPlain (getD b 2 0) (getD b 3 0) (doneFrom b)) (eqb (getD b 6 0) 0 && eqb (getD b 7 0) 0) e in
     let q = both (eqb (getD b 6 0) 0) (eqb (getD b 7 0) 0) (p .1) in
-    let h = health-bytes (getD b 2 0) (getD b 3 0) (p .0) in
+    let h = health-bytes (getD b 2 0) (getD b 3 0) (doneFrom b) (p .0) in
     cc (
       h .0,
       h .1,
+      h .2,
       eqb-true (getD b 6 0) 0 (q .0),
       eqb-true (getD b 7 0) 0 (q .1),
       two-bytes (getD b 4 0) (getD b 5 0) (by 4),
       four-bytes (getD b 8 0) (getD b 9 0) (getD b 10 0) (getD b 11 0) (by 8) (by 9) (by 10),
       four-bytes (getD b 12 0) (getD b 13 0) (getD b 14 0) (getD b 15 0) (by 12) (by 13) (by 14),
+      four-bytes (getD b 16 0) (getD b 17 0) (getD b 18 0) (getD b 19 0) (by 16) (by 17) (by 18),
     )
 
 pub encode-decode : (b : List ℕ) → AreBytes b → length b ≡ recordLength → plain b ≡ true → encode (decode b) ≡ b

@@ -1,19 +1,20 @@
 -- The limits of a record, from the tests to the facts and back. Assumes nothing.
 use Prim.Native.Nat.{ℕ, _+_, _≤_, _<_}
 use mathlib.Core.Path.{_≡_, refl, sym, _∙_, subst}
-use mathlib.Core.Bool.{true, false}
+use mathlib.Core.Bool.{true, false, _&&_}
 use native.Mathlib.Decide.{ℕ-discrete}
 use native.Mathlib.Omega.{arith}
-use lib.Dec.{leb, eqb}
+use lib.Dec.{leb, ltb, eqb}
 use borrow.Author.Tests.{ltb-true, leb-true, lt-ltb, le-leb, eq-eqb, ne-eqb}
 use Rattle.layout.specs.declared.Geometry.{Geometry}
 use Rattle.layout.specs.Layout.{totalOf}
-use Rattle.state.specs.declared.Health.the-variants.{Whole, Out, Lost}
+use Rattle.state.specs.declared.Health.the-variants.{Whole, Out, Lost, Rebuilding}
 use Rattle.state.specs.declared.Health.{Health}
 use Rattle.state.specs.declared.Record.{Record}
 use Rattle.state.specs.Update.{withHealth}
-use Rattle.state.specs.Good.{geometry, within, newGood, addedGood, movesGood, healthGood, good, OutBelow, GoodRecord}
-use Rattle.conditions.proofs.Tests.{both, and-true, and-false, second}
+use Rattle.state.specs.Good.{geometry, within, newGood, addedGood, movesGood, healthGood, good, HealthWithin, GoodRecord}
+use Rattle.state.specs.Bytes.{diskByte, stripesDone}
+use Rattle.conditions.proofs.Tests.{both, and-true, and-false, and-yes, second}
 
 -- ---- between two bounds
 
@@ -54,15 +55,25 @@ module _ (g : Geometry) where
 
 -- ---- health
 
-out-below : (N : ℕ) (h : Health) → healthGood N h ≡ true → OutBelow N h
-out-below N Whole e = tt
-out-below N (Out d) e = ltb-true d N e
-out-below N Lost e = tt
+module _ (N T : ℕ) where
+  health-within : (h : Health) → healthGood N T h ≡ true → HealthWithin N T h
+  health-within Whole e = tt
+  health-within (Out d) e = ltb-true d N e
+  health-within Lost e = tt
+  health-within (Rebuilding d c) e = let p = both _ _ e in (ltb-true d N (p .0), ltb-true c T (p .1))
 
-below-out : (N : ℕ) (h : Health) → OutBelow N h → healthGood N h ≡ true
-below-out N Whole o = refl
-below-out N (Out d) o = lt-ltb d N o
-below-out N Lost o = refl
+  within-health : (h : Health) → HealthWithin N T h → healthGood N T h ≡ true
+  within-health Whole o = refl
+  within-health (Out d) o = lt-ltb d N o
+  within-health Lost o = refl
+  within-health (Rebuilding d c) o = and-true _ _ (lt-ltb d N (o .0)) ∙ lt-ltb c T (o .1)
+
+-- what a program asks by two numbers, which are 0 where no disk is out or being rebuilt
+pub health-numbers : (N T : ℕ) (h : Health) → 1 ≤ N → 1 ≤ T → healthGood N T h ≡ (ltb (diskByte h) N && ltb (stripesDone h) T)
+health-numbers N T Whole n t = rw (lt-ltb 0 N n, lt-ltb 0 T t) refl
+health-numbers N T (Out d) n t = rw (lt-ltb 0 T t) (sym (and-yes (ltb d N)))
+health-numbers N T Lost n t = rw (lt-ltb 0 N n, lt-ltb 0 T t) refl
+health-numbers N T (Rebuilding d c) n t = refl
 
 -- ---- the record
 
@@ -86,7 +97,7 @@ limits r e =
       };
       block-low = l .0;
       block-high = l .1;
-      out = out-below (r .old + r .new) (r .health) (d .1);
+      health = health-within (r .old + r .new) (r .stripes) (r .health) (d .1);
     }
 
 pub within-limits : (r : Record) → GoodRecord r → good r ≡ true
@@ -97,12 +108,16 @@ within-limits r l =
     ∙ and-true _ _ (true-within 1 (r .block) 4096 (l .block-low) (l .block-high))
     ∙ and-true _ _ (true-within 1 (r .stripes) 1048576 (a .stripes-low) (a .stripes-high))
     ∙ and-true _ _ (good-moves (geometry r) (a .disks .m-high) (a .moves))
-    ∙ below-out (r .old + r .new) (r .health) (l .out)
+    ∙ within-health (r .old + r .new) (r .stripes) (r .health) (l .health)
 
 -- the disk that is out is a disk of the array
 pub out-lt : (r : Record) (d : ℕ) → GoodRecord r → r .health ≡ Out d → d < r .old + r .new
-out-lt r d l e = subst (λ (x : Health). OutBelow (r .old + r .new) x) e (l .out)
+out-lt r d l e = subst (λ (x : Health). HealthWithin (r .old + r .new) (r .stripes) x) e (l .health)
+
+-- so is one that is being rebuilt, and not all of its stripes are done
+pub rebuilding-lt : (r : Record) (d c : ℕ) → GoodRecord r → r .health ≡ Rebuilding d c → (d < r .old + r .new) × (c < r .stripes)
+rebuilding-lt r d c l e = subst (λ (x : Health). HealthWithin (r .old + r .new) (r .stripes) x) e (l .health)
 
 -- another health
-pub turned : (r : Record) (h : Health) → GoodRecord r → OutBelow (r .old + r .new) h → GoodRecord (withHealth r h)
-turned r h l o = record { array = l .array; block-low = l .block-low; block-high = l .block-high; out = o }
+pub turned : (r : Record) (h : Health) → GoodRecord r → HealthWithin (r .old + r .new) (r .stripes) h → GoodRecord (withHealth r h)
+turned r h l o = record { array = l .array; block-low = l .block-low; block-high = l .block-high; health = o }

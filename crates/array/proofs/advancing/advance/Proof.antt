@@ -46,21 +46,21 @@ cast-left-2 c =
     let e = c .before .before .before in
     omega (arith, total-is (c .before), total-high (geometry (e .before .before .before .args .r)) (fits e .array))
 
-moves-due-requires : tie.Need-moves-due-requires
-moves-due-requires c κs = search needs
+due-requires : tie.Need-due-requires
+due-requires c κs = search needs
 
 -- the moves that are made
-due : (c : tie.After-moves-due) → let a = c .before .before .before .before .before .before .before .args in c .moves-due .result ≡ min (a .k) (totalOf (geometry (a .r)) - a .r .moves)
-due c =
+due-is : (c : tie.After-due) → let a = c .before .before .before .before .before .before .before .args in c .due .result ≡ min (a .k) (totalOf (geometry (a .r)) - a .r .moves)
+due-is c =
     let a = c .before .before .before .before .before .before .before .args in
-    c .moves-due .ensures ∙ ap (λ (n : ℕ). min (a .k) (n - a .r .moves)) (total-is (c .before .before))
+    c .due .ensures ∙ ap (λ (n : ℕ). min (a .k) (n - a .r .moves)) (total-is (c .before .before))
 
 make-moves-requires : tie.Need-make-moves-requires
 make-moves-requires c κs =
     let t = c .before .before .before in
     let e = t .before .before in
     let a = e .before .before .before .args in
-    advance-passed (a .images .now) (a .r) (a .k) (sym (e .before .of-advance .ensures) ∙ e .if1 .left) _ (omega (arith, c .before .moves-due .ensures, total-is t, fits e .array .moves))
+    advance-passed (a .images .now) (a .r) (a .k) (sym (e .before .of-advance .ensures) ∙ e .if1 .left) _ (omega (arith, c .before .due .ensures, total-is t, fits e .array .moves))
 
 cast-t9 : tie.Need-cast-t9
 cast-t9 c = search needs
@@ -70,7 +70,7 @@ add-with-moves c =
     let d = c .before .before .before .before .before in
     let e = d .before .before .before .before in
     let g = geometry (e .before .before .before .args .r) in
-    omega (arith, due d, total-high g (fits e .array), fits e .array .moves)
+    omega (arith, due-is d, total-high g (fits e .array), fits e .array .moves)
 
 with-moves-requires : tie.Need-with-moves-requires
 with-moves-requires c κs = search needs
@@ -84,7 +84,7 @@ returns-2 c =
     let d = m .before .before in
     let e = d .before .before .before .before in
     let a = e .before .before .before .args in
-    rw (advance-done (a .images .now) (a .r) (a .k) (sym (e .before .of-advance .ensures) ∙ e .if1 .left) _ (due d)) (refl, (c .with-moves .ensures, m .make-moves .ensures))
+    rw (advance-done (a .images .now) (a .r) (a .k) (sym (e .before .of-advance .ensures) ∙ e .if1 .left) _ (due-is d)) (refl, (c .with-moves .ensures, m .make-moves .ensures))
 
 pub advance-spec : {M : Type 1} → statement M
 advance-spec =
@@ -97,7 +97,7 @@ advance-spec =
     cast-left
     sub-left
     cast-left-2
-    moves-due-requires
+    due-requires
     make-moves-requires
     cast-t9
     add-with-moves

@@ -15,6 +15,9 @@ cast-result c = search needs
 enum-told-2 : tie.Need-enum-told-2
 enum-told-2 c = search needs
 
+enum-told-3 : tie.Need-enum-told-3
+enum-told-3 c = search needs
+
 returns : tie.Need-returns
 returns c = search needs
 
@@ -24,7 +27,19 @@ returns-2 c = simp (c .before .health .given .1)
 returns-3 : tie.Need-returns-3
 returns-3 c = search needs
 
+returns-4 : tie.Need-returns-4
+returns-4 c = search needs
+
 pub is-out-spec : {M : Type 1} → statement M
 is-out-spec =
     tie.close
-    (tie.spec enum-told enum-known-health cast-result enum-told-2 returns returns-2 returns-3)
+    (tie.spec
+    enum-told
+    enum-known-health
+    cast-result
+    enum-told-2
+    enum-told-3
+    returns
+    returns-2
+    returns-3
+    returns-4)

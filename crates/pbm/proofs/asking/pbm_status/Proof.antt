@@ -50,6 +50,12 @@ disk-byte-requires c κs = search needs
 cast-out : tie.Need-cast-out
 cast-out c = search needs
 
+stripes-done-requires : tie.Need-stripes-done-requires
+stripes-done-requires c κs = search needs
+
+cast-rebuilt : tie.Need-cast-rebuilt
+cast-rebuilt c = search needs
+
 -- the call on the bytes answers what the call on the record did
 answered : (c : tie.After-status) →
     let s = c .before .before .before .before .before in
@@ -62,7 +68,11 @@ returns-2 : tie.Need-returns-2
 returns-2 c = rw (answered (c .before .before .before), c .before .x .given .1) (refl, refl)
 
 returns-3 : tie.Need-returns-3
-returns-3 c = rw (answered (c .before .before .before .before .before), c .before .before .before .x2 .given .1) (refl, rw (c .before .health-byte .ensures, c .disk-byte .ensures) refl)
+returns-3 c =
+    let d = c .before in
+    let h = d .before in
+    rw (answered (h .before .before .before .before), h .before .before .x2 .given .1)
+    (refl, rw (h .health-byte .ensures, d .disk-byte .ensures, c .stripes-done .ensures) refl)
 
 pub pbm-status-spec : {M : Type 1} → statement M
 pbm-status-spec =
@@ -78,5 +88,7 @@ pbm-status-spec =
     cast-health
     disk-byte-requires
     cast-out
+    stripes-done-requires
+    cast-rebuilt
     returns-2
     returns-3)

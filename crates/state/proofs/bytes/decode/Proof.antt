@@ -1,6 +1,6 @@
 -- `decode` meets its contract. Assumes nothing.
-use borrow.Author.Needs.{needs}
 use Rattle.state.specs.Bytes.{decode}
+use borrow.Author.Needs.{needs}
 use Rattle.state.proofs.bytes.decode.Statement.{statement}
 use Rattle.state.proofs.bytes.decode.Tie as tie
 
@@ -15,6 +15,9 @@ shared-slice-read-health-from c = search needs
 
 shared-slice-read-health-from-2 : tie.Need-shared-slice-read-health-from-2
 shared-slice-read-health-from-2 c = search needs
+
+done-from-requires : tie.Need-done-from-requires
+done-from-requires c κs = search needs
 
 health-from-requires : tie.Need-health-from-requires
 health-from-requires c κs = search needs
@@ -64,7 +67,7 @@ returns c =
     let stripes = c .before .before .before .before .before in
     let block = stripes .before .before .before .before .before in
     let health = block .before .before .before in
-    simp (health .health-from .ensures, block .join-two .ensures, stripes .join-four .ensures, c .join-four2 .ensures)
+    simp (health .before .done-from .ensures, health .health-from .ensures, block .join-two .ensures, stripes .join-four .ensures, c .join-four2 .ensures)
 
 pub decode-spec : {M : Type 1} → statement M
 decode-spec =
@@ -74,6 +77,7 @@ decode-spec =
     shared-slice-read-t5
     shared-slice-read-health-from
     shared-slice-read-health-from-2
+    done-from-requires
     health-from-requires
     shared-slice-read-join-two
     shared-slice-read-join-two-2
