@@ -274,8 +274,7 @@ uint8_t pbm_begin(uint8_t *record, size_t record_len, const uint8_t *images, siz
  * Makes the next k stripes of the disk that is being rebuilt, in rising order, each as the xor of the other places, or all
  * that are left if those are fewer, and sets `made` to how many. When none is left the array is whole. With k = 0 it makes
  * none. Call it while pbm_status tells PBM_HEALTH_REBUILDING. In steps or at once, it leaves the same. While it runs the
- * line waits, so choose k by that; each call clears 4096 bytes of its own first, which counts where blocks are short and k
- * is small.
+ * line waits: choose k by that.
  * Lent: record, written; images, those stripes of the disk written; made, written.
  * Refusals: 1 record, 2 lost, 7 images, 10 disk.
  */

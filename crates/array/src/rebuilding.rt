@@ -40,14 +40,19 @@ fn fill_disk(r: Record, images: &mut [u8], d: u64, first: usize, count: usize, b
     }
 }
 
-// The same, with a block of its own to sum into.
+// The same, with a block of its own to sum into: a short one where that will do, since each call clears it.
 fn fill_disk_alone(r: Record, images: &mut [u8], d: u64, first: usize, count: usize)
     requires { ⌜ GoodRecord r × (d < disksOf r) × (first + count ≤ r .stripes) × (length (now images) ≡ size r) ⌝ }
     ensures images { λ _. ⌜ now (images .exit) ≡
         storedIn r (fillDisk first count d (λ S. othersIn r (now (images .entry)) S d)) (now (images .entry)) ⌝ }
 {
-    let mut block = [0u8; 4096];
     let len = r.block as usize;
+    if len <= 256 {
+        let mut short = [0u8; 256];
+        fill_disk(r, images, d, first, count, &mut short[..len]);
+        return;
+    }
+    let mut block = [0u8; 4096];
     fill_disk(r, images, d, first, count, &mut block[..len]);
 }
 

@@ -123,8 +123,8 @@ four-bytes a b c d ha hb hc =
     let e : (four a b c d % 256 ≡ a) × (four a b c d / 256 % 256 ≡ b) × (four a b c d / 65536 % 256 ≡ c) × (four a b c d / 16777216 ≡ d) = (omega arith, omega arith, omega arith, omega arith) in
     cc (e .0, e .1, e .2, e .3)
 
--- the number that a byte is, by the tests before it
-pub data Told (h : ℕ) : Type 0 where
+-- a health byte is one of four
+data Told (h : ℕ) : Type 0 where
   is-whole : h ≡ 0 → Told h
   is-out : h ≡ 1 → Told h
   is-lost : h ≡ 2 → Told h
