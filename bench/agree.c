@@ -2,7 +2,8 @@
  * The peers against the library: random histories of all calls, refused ones among them, on random images, from every kind
  * of record; and locate and owner of every block and place, for every n and m. Both with and without a tail, and in the
  * middle of a growth with the new blocks that are there by then, around the move that brings some. In the histories disks are
- * out and rebuilt too, with reads and writes around the stripe that a rebuild has come to.
+ * out and rebuilt too, with reads and writes around the stripe that a rebuild has come to. Points of every length, packed and
+ * unpacked.
  */
 #include "agree.h"
 
@@ -13,6 +14,7 @@
 #include "pbm.h"
 #include "peer.h"
 #include "random.h"
+#include "series.h"
 
 enum { ROOM = 2 * PBM_RECORD_LEN }; /* for a record that is lent at another length */
 
@@ -370,6 +372,32 @@ static const struct shape shapes[] = {
     {6, 3, 85, 54},   {6, 4, 85, 60},   {9, 8, 149, 153},  {16, 2, 67, 288}, {16, 16, 95, 512}, {7, 5, 15, 84},
     {16, 16, 4095, 2}};
 
+enum { MOST_POINTS = 4096 + 2 }; /* bytes: a block, and a little more */
+
+/* From the same bytes into the same, of which those behind the length stay as they are. */
+static bool same_points(struct random *r, points_call *ours, points_call *peer, size_t from_len, size_t into_len)
+{
+    uint8_t from[MOST_POINTS], a[MOST_POINTS], b[MOST_POINTS];
+    random_fill(r, from, sizeof from);
+    random_fill(r, a, sizeof a);
+    memcpy(b, a, sizeof a);
+    uint8_t x = ours(from, from_len, a, into_len), y = peer(from, from_len, b, into_len);
+    if (x == y && memcmp(a, b, sizeof a) == 0)
+        return true;
+    fprintf(stderr, "points, %zu bytes into %zu: %u and %u\n", from_len, into_len, x, y);
+    return false;
+}
+
+/* Every length of a block, and two lengths that differ by one or two. */
+static bool points(struct random *r, points_call *ours, points_call *peer)
+{
+    for (size_t len = 0; len + 2 <= MOST_POINTS; len++)
+        for (size_t more = 0; more <= 2; more++)
+            if (!same_points(r, ours, peer, len, len + more) || !same_points(r, ours, peer, len + more, len))
+                return false;
+    return true;
+}
+
 bool peers_agree(uint64_t seed)
 {
     struct random r = {seed};
@@ -379,5 +407,6 @@ bool peers_agree(uint64_t seed)
         if (shapes[i].block_len % 32 == 0 && !histories(&r, shapes[i], run_isal))
             return false;
     }
-    return layouts(&r);
+    return layouts(&r) && points(&r, pbm_points_pack, peer_points_pack) &&
+           points(&r, pbm_points_unpack, peer_points_unpack);
 }

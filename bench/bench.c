@@ -43,8 +43,10 @@ static const char notes[] =
     "- *With a tail*: one whole group, and the same with a tail of half a group and one stripe, which does not move; visited\n"
     "  over and over as in cache, in turn with the array without the tail. The stripes are drawn from all, so that moved ones\n"
     "  and those of the tail mix. A tail is less than a group: of an array out of cache it is a small part, and not measured.\n"
-    "- Targets are set for B = 4096, and at B = 64 for a write whose disk is out and a rebuild by 64. locate and owner read\n"
-    "  the record alone.\n"
+    "- *points pack* and *points unpack* go from the places of the blocks into one buffer, as read does, and are lent nothing\n"
+    "  else. The bytes are random: the time does not depend on them.\n"
+    "- Targets are set for B = 4096, for points in cache alone, and at B = 64 for a write whose disk is out and a rebuild by\n"
+    "  64. locate and owner read the record alone.\n"
     "- view returns a reference and is not exported to C. A read of a block of 32 bytes makes the same tests and finds the\n"
     "  same place; it also copies 32 bytes, which view does not. It is given against C's read of the same and C's view.\n";
 
@@ -59,6 +61,8 @@ static void run_all(bool quick, struct settings set, uint64_t seed)
                 static struct stage s;
                 stage_open(&s, (struct plan){shapes[h][0], shapes[h][1], blocks[b], len, in_cache, 0, 0}, seed);
                 cases_run(&s, set, &report);
+                if (h == 0) /* no shape matters to points */
+                    cases_points(&s, set, &report);
                 stage_close(&s);
             }
     for (size_t h = 0; h < 2; h++) {

@@ -14,11 +14,14 @@ struct set {
     step_call *advance, *go_on;
     locate_call *locate;
     owner_call *owner;
+    points_call *pack, *unpack;
 };
 
 static const struct set sets[2] = {
-    {pbm_read, pbm_write, pbm_grow, pbm_begin, pbm_advance, pbm_continue, pbm_locate, pbm_owner},
-    {peer_read, peer_write, peer_grow, peer_begin, peer_advance, peer_continue, peer_locate, peer_owner}};
+    {pbm_read, pbm_write, pbm_grow, pbm_begin, pbm_advance, pbm_continue, pbm_locate, pbm_owner, pbm_points_pack,
+     pbm_points_unpack},
+    {peer_read, peer_write, peer_grow, peer_begin, peer_advance, peer_continue, peer_locate, peer_owner, peer_points_pack,
+     peer_points_unpack}};
 
 static volatile uint64_t sink;
 
@@ -92,6 +95,12 @@ static void growths(struct stage *s, const struct set *c, size_t times, uint64_t
     }
 }
 
+static void packs(struct stage *s, points_call *call, size_t times)
+{
+    for (size_t i = 0; i < times; i++)
+        must(call(s->data, s->plan.block_len, s->into, s->plan.block_len) == 0, "points");
+}
+
 enum state { BEFORE, HALF, GROWN };
 
 static struct lent lend(struct stage *s, enum state state, bool new)
@@ -158,6 +167,10 @@ static bool run(struct stage *s, const struct set *c, const char *name, size_t t
         growths(s, c, times, s->total);
     else if (strcmp(name, "growth-by-64") == 0)
         growths(s, c, times, 64);
+    else if (strcmp(name, "points-pack") == 0)
+        packs(s, c->pack, times);
+    else if (strcmp(name, "points-unpack") == 0)
+        packs(s, c->unpack, times);
     else
         return false;
     return true;

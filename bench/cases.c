@@ -67,12 +67,22 @@ static struct contestant owner(const char *name, owner_call *call, struct list l
     return (struct contestant){.name = name, .turn = owners, .list = l, .owner = call};
 }
 
+static struct contestant packer(const char *name, points_call *call, struct list l)
+{
+    return (struct contestant){.name = name, .turn = packs, .list = l, .points = call};
+}
+
+static struct contestant copier(struct list places)
+{
+    return (struct contestant){.name = "memcpy alone", .turn = copies, .list = places};
+}
+
 /* With the places of the blocks also against memcpy. */
 static void reading_from(struct stage *s, struct settings set, struct report *report, const char *name,
                          const uint8_t record[PBM_RECORD_LEN], struct list l, struct list places)
 {
     struct series x = {name, {reader("library", pbm_read, l), held(reader("C", peer_read, l), 0.95, 0.6),
-                              {.name = "memcpy alone", .turn = copies, .list = places}}, places.count > 0 ? 3 : 2, 1};
+                              copier(places)}, places.count > 0 ? 3 : 2, 1};
     lend(s, record);
     series_run(&x, s, set, report);
     free(l.items), free(places.items);
@@ -108,6 +118,18 @@ void cases_view(struct stage *s, struct settings set, struct report *report)
     lend(s, s->half);
     series_run(&x, s, set, report);
     free(l.items);
+}
+
+void cases_points(struct stage *s, struct settings set, struct report *report)
+{
+    struct list blocks = list_blocks(s), l = list_place_numbers(s, blocks);
+    struct series pack = {"points pack", {packer("library", pbm_points_pack, l),
+                                          held(packer("C", peer_points_pack, l), 0, 0.9), copier(l)}, 3, 1};
+    struct series unpack = {"points unpack", {packer("library", pbm_points_unpack, l),
+                                              held(packer("C", peer_points_unpack, l), 0, 0.9), copier(l)}, 3, 1};
+    series_run(&pack, s, set, report);
+    series_run(&unpack, s, set, report);
+    free(blocks.items), free(l.items);
 }
 
 static void reading_degraded(struct stage *s, struct settings set, struct report *report)

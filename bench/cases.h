@@ -14,6 +14,9 @@ void cases_run(struct stage *s, struct settings set, struct report *report);
 void cases_beside(struct stage *whole, struct stage *tailed, struct settings set, struct report *report);
 void cases_asking_beside(struct stage *whole, struct stage *tailed, struct settings set, struct report *report);
 
+/* The points of the blocks: no record is lent, and the images are no more than many blocks one behind the other. */
+void cases_points(struct stage *s, struct settings set, struct report *report);
+
 /* What stands for view, on an array of short blocks. */
 void cases_view(struct stage *s, struct settings set, struct report *report);
 

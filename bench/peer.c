@@ -282,3 +282,69 @@ uint8_t peer_owner(const uint8_t *record, size_t record_len, uint64_t stripe, ui
     *block = only_if(old, old_block) + only_if(new, new_block);
     return PBM_DONE;
 }
+
+static bool are_points(size_t from_len, size_t into_len) { return from_len % 2 == 0 && from_len == into_len; }
+
+static uint16_t get_point(const uint8_t *points, size_t i)
+{
+    uint16_t point;
+    memcpy(&point, points + 2 * i, 2);
+    return point;
+}
+
+static void set_point(uint8_t *points, size_t i, uint16_t point) { memcpy(points + 2 * i, &point, 2); }
+
+/* Reads both points of each difference: with the one before kept in a variable the compiler makes no vectors of the loop. */
+static void pack(const uint8_t *restrict points, uint8_t *restrict low, uint8_t *restrict high, size_t count)
+{
+    if (count == 0)
+        return;
+    low[0] = points[0];
+    high[0] = points[1];
+    for (size_t i = 1; i < count; i++) {
+        uint16_t difference = (uint16_t)(get_point(points, i) - get_point(points, i - 1));
+        low[i] = (uint8_t)difference;
+        high[i] = (uint8_t)(difference >> 8);
+    }
+}
+
+/* Turns differences into points, in place, behind this point; returns the last. */
+static inline uint16_t add_up(uint8_t *points, size_t first, size_t end, uint16_t point)
+{
+    for (size_t i = first; i < end; i++) {
+        point = (uint16_t)(point + get_point(points, i));
+        set_point(points, i, point);
+    }
+    return point;
+}
+
+/*
+ * In two passes: the compiler makes vectors of the first; one loop for both takes 1.4 to 1.7 times as long. Four points a turn, as
+ * the time of a shorter turn depends on where the linker puts it.
+ */
+static void unpack(const uint8_t *restrict low, const uint8_t *restrict high, uint8_t *restrict points, size_t count)
+{
+    for (size_t i = 0; i < count; i++)
+        set_point(points, i, (uint16_t)(low[i] | high[i] << 8));
+    uint16_t point = 0;
+    size_t i = 0;
+    for (; i + 4 <= count; i += 4)
+        point = add_up(points, i, i + 4, point);
+    add_up(points, i, count, point);
+}
+
+uint8_t peer_points_pack(const uint8_t *points, size_t points_len, uint8_t *packed, size_t packed_len)
+{
+    if (!are_points(points_len, packed_len))
+        return PBM_POINTS;
+    pack(points, packed, packed + packed_len / 2, points_len / 2);
+    return PBM_DONE;
+}
+
+uint8_t peer_points_unpack(const uint8_t *packed, size_t packed_len, uint8_t *points, size_t points_len)
+{
+    if (!are_points(packed_len, points_len))
+        return PBM_POINTS;
+    unpack(packed, packed + packed_len / 2, points, points_len / 2);
+    return PBM_DONE;
+}

@@ -29,5 +29,7 @@ uint8_t peer_status(const uint8_t *record, size_t record_len, uint64_t *capacity
 uint8_t peer_locate(const uint8_t *record, size_t record_len, uint64_t block, uint64_t *stripe, uint64_t *disk);
 uint8_t peer_owner(const uint8_t *record, size_t record_len, uint64_t stripe, uint64_t disk, uint64_t *role,
                    uint64_t *block);
+uint8_t peer_points_pack(const uint8_t *points, size_t points_len, uint8_t *packed, size_t packed_len);
+uint8_t peer_points_unpack(const uint8_t *packed, size_t packed_len, uint8_t *points, size_t points_len);
 
 #endif

@@ -158,3 +158,16 @@ uint64_t owners(struct stage *s, const struct contestant *c, const uint32_t *ite
     }
     return since(start, refused, seen);
 }
+
+/* Packs or unpacks what stands on a place, whatever it is: every even length is points, and packed points. */
+uint64_t packs(struct stage *s, const struct contestant *c, const uint32_t *items, size_t count)
+{
+    size_t len = s->plan.block_len;
+    uint8_t refused = 0;
+    uint64_t seen = 0, start = now_ns();
+    for (size_t i = 0; i < count; i++) {
+        refused |= c->points(s->images + items[i] * len, len, s->into, len);
+        seen += s->into[0];
+    }
+    return since(start, refused, seen);
+}

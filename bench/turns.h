@@ -5,7 +5,7 @@
 #include "restripe.h"
 #include "series.h"
 
-turn reads, views, writes, rebuilds, growths, locates, owners;
+turn reads, views, writes, rebuilds, growths, locates, owners, packs;
 
 /* memcpy alone, from the same places; xor_check of every stripe; the conventional restripe. */
 turn copies, checks, restripes;

@@ -1,17 +1,19 @@
 /*
  * line_controller.c - a sawmill line on an array that grows while the line runs.
  *
- * The scanner writes each log's cutting solution to a numbered block, the saw reads it. Meanwhile three disks are added
- * to five; in the middle of that growth a disk is lost, and rebuilt a few stripes at a time while the line runs; halfway it
- * fails again, and is rebuilt from its first stripe on. New blocks are used as they come, with each zone that is finished. The
- * disks are of no round size: a tail is left behind the groups that move. Each block that the saw reads is compared with what
- * the scanner last wrote to it, which this program keeps in a plain array of its own.
+ * The scanner packs each log's outline, a row of points, and writes it to a numbered block; the saw reads and unpacks it.
+ * Meanwhile three disks are added to five; in the middle of that growth a disk is lost, and rebuilt a few stripes at a time
+ * while the line runs; halfway it fails again, and is rebuilt from its first stripe on. New blocks are used as they come, with
+ * each zone that is finished. The disks are of no round size: a tail is left behind the groups that move. Each block that the
+ * saw reads is compared, point by point, with what the scanner last wrote to it, which this program keeps in a plain array of
+ * its own.
  *
  *     line_controller [seed]
  *
- * Ends with status 0; with 1 at the first block that differs, and at the first call that is not answered as it must be.
+ * Ends with status 0; with 1 at the first point that differs, and at the first call that is not answered as it must be.
  */
 #include "pbm.h"
+#include "profile.h"
 
 #include <errno.h>
 #include <inttypes.h>
@@ -22,6 +24,8 @@
 enum {
     OLD = 5, NEW = 3, /* disks */
     BLOCK = 4096,
+    POINTS = BLOCK / 2,
+    ROUGH = 2, /* tenths of a millimetre */
     STRIPES = 417, /* ten groups, and a tail of 17 stripes */
     DISK = STRIPES * BLOCK,
     ZONE = OLD + NEW, /* stripes */
@@ -40,8 +44,8 @@ static uint8_t record[PBM_RECORD_LEN];
 static uint8_t *images;
 static size_t images_len;
 
-/* What each block was last given: zeroes at first. */
-static uint8_t given[BLOCKS_AFTER][BLOCK];
+/* The points that each block was last given: zeroes at first. */
+static uint16_t given[BLOCKS_AFTER][POINTS];
 
 /* Where each new block stood when it came. */
 struct place { uint64_t stripe, disk; };
@@ -55,7 +59,7 @@ struct calls { uint64_t all, degraded, early, in_done, in_others; };
 
 static struct {
     struct calls writes, reads;
-    uint64_t moves, refusals;
+    uint64_t points, moves, refusals;
 } count;
 
 /* ---- random numbers: the same seed gives the same run */
@@ -155,27 +159,55 @@ static void scribble(void)
     for (uint64_t stripe = now.rebuilt; stripe < STRIPES; stripe++) disk[stripe * BLOCK + at] ^= change;
 }
 
+/* ---- points: in bytes, and packed */
+
+/* By the example of pbm.h: a way there that the way back undoes could still be another one. */
+static void packing_is_known(void)
+{
+    static const uint8_t points[] = {100, 0, 103, 0, 101, 0}, wanted[] = {100, 3, 0xFE, 0, 0, 0xFF};
+    uint8_t packed[sizeof points];
+    must("points pack", pbm_points_pack(points, sizeof points, packed, sizeof packed));
+    for (size_t i = 0; i < sizeof packed; i++) must_be("a byte of packed points", packed[i], wanted[i]);
+    printf("points are packed: 100, 103, 101 as 100, 3, -2\n");
+    must_refuse("a pack of two points and a half", pbm_points_pack(points, 5, packed, 5), PBM_POINTS);
+}
+
+static void to_bytes(uint8_t *bytes, const uint16_t *points)
+{
+    for (size_t i = 0; i < POINTS; i++) bytes[2 * i] = (uint8_t)points[i], bytes[2 * i + 1] = (uint8_t)(points[i] >> 8);
+}
+
+static void must_be_as_given(uint64_t block, const uint8_t *bytes)
+{
+    for (size_t i = 0; i < POINTS; i++) {
+        if ((bytes[2 * i] | bytes[2 * i + 1] << 8) == given[block][i]) continue;
+        fprintf(stderr, "line_controller: point %zu of block %" PRIu64, i, block);
+        fprintf(stderr, " is not what was last written, after %" PRIu64 " moves\n", count.moves);
+        exit(1);
+    }
+    count.points += POINTS;
+}
+
 /* ---- the line: scanner and saw take turns */
 
 static void scanner_writes(uint64_t block)
 {
-    uint8_t *solution = given[block];
-    for (size_t i = 0; i < BLOCK; i++) solution[i] = (uint8_t)below(256);
+    uint8_t points[BLOCK], packed[BLOCK];
+    profile_scan(given[block], POINTS, ROUGH, below);
+    to_bytes(points, given[block]);
+    must("points pack", pbm_points_pack(points, BLOCK, packed, BLOCK));
     scribble();
-    must("write", pbm_write(record, sizeof record, images, images_len, block, solution, BLOCK));
+    must("write", pbm_write(record, sizeof record, images, images_len, block, packed, BLOCK));
     count_call(&count.writes, block);
 }
 
 static void saw_reads(uint64_t block)
 {
-    uint8_t solution[BLOCK];
+    uint8_t packed[BLOCK], points[BLOCK];
     scribble();
-    must("read", pbm_read(record, sizeof record, images, images_len, block, solution, BLOCK));
-    if (memcmp(solution, given[block], BLOCK) != 0) {
-        fprintf(stderr, "line_controller: block %" PRIu64 " is not what was last written, after %" PRIu64 " moves\n",
-                block, count.moves);
-        exit(1);
-    }
+    must("read", pbm_read(record, sizeof record, images, images_len, block, packed, BLOCK));
+    must("points unpack", pbm_points_unpack(packed, BLOCK, points, BLOCK));
+    must_be_as_given(block, points);
     count_call(&count.reads, block);
 }
 
@@ -186,7 +218,7 @@ static void saw_reads_all(void)
     printf("    all %" PRIu64 " blocks are as last written\n", capacity);
 }
 
-/* So many logs: each one's solution goes to some block; the saw reads that block, and some other. */
+/* So many logs: each one's outline goes to some block; the saw reads that block, and some other. */
 static void logs_pass(int logs)
 {
     uint64_t capacity = status().capacity;
@@ -198,7 +230,7 @@ static void logs_pass(int logs)
     }
 }
 
-/* A log whose solution goes to a block of this stripe: to one of before the growth, which stays in its stripe. */
+/* A log whose outline goes to a block of this stripe: to one of before the growth, which stays in its stripe. */
 static void log_passes_in(uint64_t stripe)
 {
     uint64_t block = stripe * (OLD - 1) + below(OLD - 1);
@@ -381,6 +413,7 @@ int main(int argc, char **argv)
     state = argc == 2 ? strtoull(argv[1], NULL, 10) : 1;
     printf("seed %" PRIu64 "\n", state);
 
+    packing_is_known();
     mount(pbm_images_len(OLD, BLOCK, STRIPES));
     must("format", pbm_format(record, sizeof record, images, images_len, OLD, BLOCK, STRIPES));
     printf("%d disks are formatted: %d blocks of %d bytes\n", OLD, BLOCKS_BEFORE, BLOCK);
@@ -428,6 +461,7 @@ int main(int argc, char **argv)
 
     print_calls("writes", count.writes);
     print_calls("reads", count.reads);
+    printf("points compared %" PRIu64 "\n", count.points);
     printf("moves %" PRIu64 ", refusals met %" PRIu64 "\n", count.moves, count.refusals);
     printf("every read gave what was last written\n");
     free(images);

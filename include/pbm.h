@@ -2,7 +2,7 @@
  * pbm.h - a RAID-5 array that grows by adding disks (parity-based migration), over memory that the caller lends.
  *
  * The library keeps nothing between calls. What it knows of an array is in a record of 20 bytes, what the array holds
- * is in the images of its disks; the caller keeps both and lends them to each call.
+ * is in the images of its disks; the caller keeps both and lends them to each call on the array.
  *
  * SIZES
  *   n   old disks, 3 to 16            m   new disks, 1 to 16; 0 before growth      N   all disks, n + m
@@ -77,10 +77,10 @@
  *      turns, with a lock of the caller's if scanner and saw are threads. pbm_read, pbm_status, pbm_locate and pbm_owner
  *      only read record and images: any number of these four may run at once on one array, each with an `into` and
  *      numbers of its own, while none of the other seven does (a readers-writer lock). Calls on different arrays need no
- *      lock: there is nothing else that two calls share.
- *   5. Each call is lent the record and the images as the last call left them. Between calls nothing else writes them,
- *      save the disk that is out and, of one that is being rebuilt, the stripes not yet done; and no older copy takes their
- *      place: an old record beside newer images is a good record, and a block read by it may be another block.
+ *      lock, nor do those of SCAN POINTS: there is nothing else that two calls share.
+ *   5. Each call on an array is lent the record and the images as the last one left them. Between calls nothing else writes
+ *      them, save the disk that is out and, of one that is being rebuilt, the stripes not yet done; and no older copy takes
+ *      their place: an old record beside newer images is a good record, and a block read by it may be another block.
  *   6. A call that has begun runs to its end. See below what a kill leaves.
  *   7. There are 16 KiB of stack left for a call. (Measured, not proved: less than 5 KiB in pbm_continue, less than 1 KiB in
  *      all others; some 3 KiB more where the dynamic linker looks up memcpy, memmove or memset, at their first use. Signal
@@ -105,9 +105,24 @@
  *   each write and advance, that it begins and with which numbers, and strikes that out behind it. If power is lost, memory
  *   and files may keep some writes and lose earlier ones, and none of this holds: power cuts are not covered yet.
  *
+ * SCAN POINTS
+ *   A scanner's block is often a row of 16-bit points, least byte first, whose neighbours differ little. pbm_points_pack
+ *   turns it into one as long in which that shows: each point is replaced by its difference from the one before, modulo
+ *   65536, the first from 0; all low bytes of the differences go first, then all high bytes. pbm_points_unpack is the way
+ *   back. Either behind the other gives the bytes that were there before, for every slice of even length, the empty one too.
+ *       points   100, 103, 101   = bytes 64 00 67 00 65 00
+ *       packed   100, 3, -2      = bytes 64 03 fe 00 00 ff
+ *   Packed, a block is no shorter. But differences are small, so most high bytes are 00 or ff, and a general compressor, on
+ *   the way to the archive or over a slow line, makes a fifth to a half less of it (gzip, on outlines of made-up logs:
+ *   docs/SPEED.md).
+ *   These two calls are on no array: they know no record and no images. Pack before pbm_write, unpack behind pbm_read, or
+ *   use neither. Each goes from one slice into another, not in place; for whole blocks B has to be even. A block that was
+ *   never written is zero, and zero points packed are zeroes too. If one is killed, what it fills may be half filled.
+ *
  * REFUSALS
- *   Each call returns 0, done, or the lowest number below whose condition holds. A refusal changes no byte of record,
- *   images or block, and sets every number beside it to 0.
+ *   Each call returns 0, done, or the lowest number below whose condition holds. A refusal changes no byte of a slice that
+ *   is lent, and sets every number beside it to 0. The two of SCAN POINTS have row 11 alone: "all" in another row is without
+ *   them.
  *
  *    1  record            not 20 bytes long: all calls; not good: all but format
  *    2  lost              health is lost: all but format, status, locate, owner
@@ -120,6 +135,7 @@
  *    9  block length      lent block not B bytes: read, write
  *   10  disk              not below N, or out already and not being rebuilt: out; not out, or being rebuilt already: begin;
  *                         no disk is being rebuilt: continue; not below N: owner
+ *   11  points            an odd length, or two lengths that differ: points pack, points unpack
  */
 #ifndef PBM_H
 #define PBM_H
@@ -159,7 +175,8 @@ enum {
     PBM_IMAGES = 7,
     PBM_PAST_THE_END = 8,
     PBM_BLOCK_LENGTH = 9,
-    PBM_DISK = 10
+    PBM_DISK = 10,
+    PBM_POINTS = 11
 };
 
 /* The word of a number that a call returned, for messages: "done", or the word under REFUSALS. */
@@ -177,6 +194,7 @@ static inline const char *pbm_word(uint8_t number)
     case PBM_PAST_THE_END: return "past the end";
     case PBM_BLOCK_LENGTH: return "block length";
     case PBM_DISK: return "disk";
+    case PBM_POINTS: return "points";
     default: return "no such number";
     }
 }
@@ -307,6 +325,20 @@ uint8_t pbm_locate(const uint8_t *record, size_t record_len, uint64_t block, uin
  */
 uint8_t pbm_owner(const uint8_t *record, size_t record_len, uint64_t stripe, uint64_t disk,
                   uint64_t *role, uint64_t *block);
+
+/*
+ * Fills `packed` with the points packed (SCAN POINTS).
+ * Lent: points, read; packed, written, with any bytes in it before. Both have the same even length, which may be 0.
+ * Refusals: 11 points.
+ */
+uint8_t pbm_points_pack(const uint8_t *points, size_t points_len, uint8_t *packed, size_t packed_len);
+
+/*
+ * Fills `points` with the points that were packed (SCAN POINTS).
+ * Lent: packed, read; points, written, with any bytes in it before. Both have the same even length, which may be 0.
+ * Refusals: 11 points.
+ */
+uint8_t pbm_points_unpack(const uint8_t *packed, size_t packed_len, uint8_t *points, size_t points_len);
 
 #ifdef __cplusplus
 }

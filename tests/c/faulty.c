@@ -9,7 +9,7 @@
 
 enum {
     NONE,
-    LOST_WRITE,   /* a write to a block that was moved is dropped: the next read gives the preceding log's solution */
+    LOST_WRITE,   /* a write to a block that was moved is dropped: the next read gives the preceding log's outline */
     OLD_RECORD,   /* reads go by the record of one move earlier, if the block was there then */
     OLD_PARITY,   /* a write leaves the parity as it was, which shows only when a disk is lost */
     PLACE_LEFT,   /* some moves leave the old bytes in the place left */
@@ -26,7 +26,11 @@ enum {
     ZONE_EARLY,   /* a zone is held as finished once its first move is done: status tells its new blocks too early */
     ZONE_LATE,    /* status tells no new block before the growth is over */
     NEW_SPOILED,  /* the first move of a zone zeroes the new blocks of the zone before, as if they were blanks still */
-    NEW_MOVED     /* the new blocks of a stripe are counted from the highest disk, and with the last move from the lowest */
+    NEW_MOVED,    /* the new blocks of a stripe are counted from the highest disk, and with the last move from the lowest */
+    NO_CARRY,     /* points unpack sums the low bytes and the high bytes each by themselves */
+    RUN_ON,       /* points unpack takes the first point from the last one of the call before, not from 0 */
+    TURNED,       /* points pack takes each point from the one before it, and points unpack undoes that */
+    HALF_POINT    /* points pack does not refuse an odd length */
 };
 
 uint8_t __real_pbm_read(const uint8_t *, size_t, const uint8_t *, size_t, uint64_t, uint8_t *, size_t);
@@ -35,6 +39,8 @@ uint8_t __real_pbm_advance(uint8_t *, size_t, uint8_t *, size_t, uint64_t, uint6
 uint8_t __real_pbm_out(uint8_t *, size_t, uint64_t);
 uint8_t __real_pbm_continue(uint8_t *, size_t, uint8_t *, size_t, uint64_t, uint64_t *);
 uint8_t __real_pbm_status(const uint8_t *, size_t, uint64_t *, uint64_t *, uint64_t *, uint64_t *, uint64_t *, uint64_t *);
+uint8_t __real_pbm_points_pack(const uint8_t *, size_t, uint8_t *, size_t);
+uint8_t __real_pbm_points_unpack(const uint8_t *, size_t, uint8_t *, size_t);
 
 /* A number of the record, least byte first. */
 static uint64_t number(const uint8_t *record, int at, int bytes)
@@ -187,5 +193,39 @@ uint8_t __wrap_pbm_status(const uint8_t *record, size_t record_len, uint64_t *ca
     uint8_t answer = __real_pbm_status(record, record_len, capacity, done, total, health, out_disk, stripes);
     if (FAULT == ZONE_EARLY && *done < *total && *done % zone_moves(record) > 0) *capacity += zone_blocks(record);
     if (FAULT == ZONE_LATE && *done < *total) *capacity = old_blocks(record);
+    return answer;
+}
+
+/* A difference of packed points. */
+static int difference(const uint8_t *packed, size_t len, size_t i) { return packed[i] | packed[len / 2 + i] << 8; }
+
+static void set_difference(uint8_t *packed, size_t len, size_t i, int to)
+{
+    packed[i] = (uint8_t)to, packed[len / 2 + i] = (uint8_t)(to >> 8);
+}
+
+static void turn(uint8_t *packed, size_t len)
+{
+    for (size_t i = 0; i < len / 2; i++) set_difference(packed, len, i, 0x10000 - difference(packed, len, i));
+}
+
+uint8_t __wrap_pbm_points_pack(const uint8_t *points, size_t points_len, uint8_t *packed, size_t packed_len)
+{
+    uint8_t answer = __real_pbm_points_pack(points, points_len, packed, packed_len);
+    if (FAULT == TURNED && answer == PBM_DONE) turn(packed, packed_len);
+    return FAULT == HALF_POINT ? PBM_DONE : answer;
+}
+
+uint8_t __wrap_pbm_points_unpack(const uint8_t *packed, size_t packed_len, uint8_t *points, size_t points_len)
+{
+    static int last;
+    uint8_t answer, *copy = copy_of(packed, packed_len);
+    if (FAULT == TURNED) turn(copy, packed_len);
+    if (FAULT == RUN_ON) set_difference(copy, packed_len, 0, last + difference(copy, packed_len, 0));
+    answer = __real_pbm_points_unpack(copy, packed_len, points, points_len);
+    if (points_len >= 2) last = (int)number(points, (int)points_len - 2, 2);
+    for (size_t i = 1; FAULT == NO_CARRY && i < points_len / 2; i++)
+        points[2 * i + 1] = (uint8_t)(points[2 * i - 1] + packed[packed_len / 2 + i]);
+    free(copy);
     return answer;
 }

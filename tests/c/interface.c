@@ -1,6 +1,6 @@
 /*
  * Every call, word and length of pbm.h from C: n = 3, m = 2, T = 15, B = 4; and the growth of n = 4, m = 1, T = 19, which grow
- * itself ends. Prints what each returns and leaves; tests/tests/c_interface.rs has the values.
+ * itself ends; and scan points. Prints what each returns and leaves; tests/tests/c_interface.rs has the values.
  */
 #include "pbm.h"
 
@@ -167,7 +167,7 @@ static void grow(void)
 static void show_words(void)
 {
     int number;
-    for (number = PBM_DONE; number <= PBM_DISK + 1; number++) printf("word %d: %s\n", number, pbm_word((uint8_t)number));
+    for (number = PBM_DONE; number <= PBM_POINTS + 1; number++) printf("word %d: %s\n", number, pbm_word((uint8_t)number));
     printf("word 255: %s\n", pbm_word(255));
 }
 
@@ -270,6 +270,40 @@ static void show_growth_at_once(void)
     show_record();
 }
 
+typedef uint8_t way(const uint8_t *from, size_t from_len, uint8_t *into, size_t into_len);
+
+/* One way of scan points into bytes without a value, which are shown if it has filled them. */
+static void show_way(const char *name, way *call, const uint8_t *from, size_t from_len, size_t into_len)
+{
+    uint8_t *source = take(from_len), *target = take(into_len);
+    int answer;
+    size_t i;
+    memcpy(source, from, from_len);
+    answer = call(source, from_len, target, into_len);
+    printf("%s, %d bytes into %d: %d,", name, (int)from_len, (int)into_len, answer);
+    if (answer == PBM_DONE) for (i = 0; i < into_len; i++) printf(" %d", target[i]);
+    printf("\n");
+    free(source);
+    free(target);
+}
+
+/* The points 100, 103 and 101; and 40 of them, each 700 above the one before. */
+static void show_points(void)
+{
+    static const uint8_t points[] = {100, 0, 103, 0, 101, 0}, packed[] = {100, 3, 254, 0, 0, 255};
+    static const size_t lengths[][2] = {{6, 6}, {0, 0}, {5, 5}, {6, 4}, {4, 6}};
+    static uint8_t rising[80], rising_packed[80];
+    int i;
+    for (i = 0; i < 5; i++) {
+        show_way("pack", pbm_points_pack, points, lengths[i][0], lengths[i][1]);
+        show_way("unpack", pbm_points_unpack, packed, lengths[i][0], lengths[i][1]);
+    }
+    for (i = 0; i < 40; i++) rising[2 * i] = (uint8_t)(700 * i), rising[2 * i + 1] = (uint8_t)(700 * i >> 8);
+    for (i = 1; i < 40; i++) rising_packed[i] = 700 & 255, rising_packed[40 + i] = 700 >> 8;
+    show_way("pack", pbm_points_pack, rising, 80, 80);
+    show_way("unpack", pbm_points_unpack, rising_packed, 80, 80);
+}
+
 int main(void)
 {
     record = take(PBM_RECORD_LEN);
@@ -330,6 +364,7 @@ int main(void)
     show_place(59);
 
     show_growth_at_once();
+    show_points();
     free(images);
     free(block);
     free(record);

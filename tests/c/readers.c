@@ -2,7 +2,7 @@
  * Calls that only read, many at once on one array (pbm.h, rule 4): four threads read every block and ask all that can be asked,
  * and compare with what was written and with what one thread was told before. Record and images are protected against writing,
  * a disk that is out, and one that is being rebuilt in the stripes not yet done, against all. Of 3 zones one is finished, so that 10
- * new blocks are among those read.
+ * new blocks are among those read. Scan points, which are lent to all threads, are packed and unpacked meanwhile.
  */
 #define _GNU_SOURCE
 #include "pbm.h"
@@ -17,7 +17,7 @@ enum { OLD = 3, NEW = 2, DISKS = OLD + NEW, STRIPES = 15, BLOCK = 4096, DISK = S
 enum { OLD_BLOCKS = STRIPES * (OLD - 1), BLOCKS = OLD_BLOCKS + 10 };
 enum { REBUILT = 7, THREADS = 4, TURNS = 20 };
 
-static uint8_t *record, *images;
+static uint8_t *record, *images, *points;
 
 static uint8_t *map(size_t len)
 {
@@ -57,7 +57,7 @@ static void *reader(void *from)
 {
     static const struct told none;
     struct told told;
-    uint8_t into[BLOCK], wanted[BLOCK];
+    uint8_t into[BLOCK], wanted[BLOCK], packed[BLOCK];
     for (int turn = 0; turn < TURNS; turn++) {
         told = none;
         ask(&told);
@@ -68,6 +68,9 @@ static void *reader(void *from)
             fill(wanted, b);
             must(memcmp(into, wanted, BLOCK) == 0, "a block is as it was written");
         }
+        done(pbm_points_pack(points, BLOCK, packed, BLOCK));
+        done(pbm_points_unpack(packed, BLOCK, into, BLOCK));
+        must(memcmp(into, points, BLOCK) == 0, "points are as they were packed");
     }
     return NULL;
 }
@@ -114,6 +117,8 @@ int main(void)
     uint64_t made;
     record = map(BLOCK);
     images = map(DISKS * DISK);
+    points = map(BLOCK);
+    fill(points, 0);
     done(pbm_format(record, PBM_RECORD_LEN, images, OLD * DISK, OLD, BLOCK, STRIPES));
     write_blocks(0, OLD_BLOCKS, OLD);
     done(pbm_grow(record, PBM_RECORD_LEN, images, DISKS * DISK, NEW));
@@ -121,6 +126,7 @@ int main(void)
     write_blocks(OLD_BLOCKS, BLOCKS, DISKS);
     allow(record, BLOCK, PROT_READ);
     allow(images, DISKS * DISK, PROT_READ);
+    allow(points, BLOCK, PROT_READ);
     readers("whole, in the middle of a growth");
 
     for (int d = 0; d < DISKS; d++) {

@@ -81,6 +81,10 @@ static void owner_new(void)
     if (numbers[2] != PBM_DATA || numbers[3] != NEWEST) exit(3);
 }
 
+/* 2047 points, zero, so that lanes of 16 have a rest. */
+static void points_pack(void) { answer = pbm_points_pack(images, BLOCK - 1, block, BLOCK - 1); }
+static void points_unpack(void) { answer = pbm_points_unpack(images, BLOCK - 1, block, BLOCK - 1); }
+
 /* The bytes of the stack that one run touches. */
 static int depth(void (*call)(void))
 {
@@ -144,5 +148,7 @@ int main(void)
     tell("write, a new block", write_new);
     tell("locate, a new block", locate_new);
     tell("owner, a new block", owner_new);
+    tell("points pack", points_pack);
+    tell("points unpack", points_unpack);
     return 0;
 }

@@ -1,4 +1,4 @@
-//! What the proved crates are held to when they are run: models written from document 01 and from requests (a), (b) and (d)
+//! What the proved crates are held to when they are run: models written from document 01 and from requests (a), (b), (d) and (e)
 //! of document 02, that share no code and no formula with them, and the little that the tests need to run a program, to lend memory
 //! and to draw random numbers.
 
@@ -19,6 +19,7 @@ pub mod moves;
 pub mod out;
 pub mod outage;
 pub mod pbm;
+pub mod points;
 pub mod program;
 pub mod random;
 pub mod reach;

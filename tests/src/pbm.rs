@@ -1,4 +1,4 @@
-//! The eleven calls of include/pbm.h, on memory that is lent to them.
+//! The eleven calls of include/pbm.h on an array, and its two on scan points, on memory that is lent to them.
 
 use crate::memory::{Guarded, Memory, Side};
 
@@ -41,7 +41,7 @@ pub enum Call {
     },
 }
 
-/// The calls in the order of include/pbm.h.
+/// The calls on an array in the order of include/pbm.h.
 pub const NAMES: [&str; 11] = [
     "format", "read", "write", "grow", "advance", "out", "begin", "continue", "status", "locate",
     "owner",
@@ -241,6 +241,35 @@ impl<M: Memory> Loan<M> {
     }
 }
 
+/// The two calls on scan points, which know no record and no images: each goes from one lent slice into another.
+#[derive(Clone, Copy, Debug, PartialEq, Eq)]
+pub enum Way {
+    Pack,
+    Unpack,
+}
+
+impl Way {
+    /// In the order of include/pbm.h.
+    pub const BOTH: [Way; 2] = [Way::Pack, Way::Unpack];
+
+    pub fn name(self) -> &'static str {
+        match self {
+            Way::Pack => "points_pack",
+            Way::Unpack => "points_unpack",
+        }
+    }
+
+    /// What the call returns; no number stands beside it.
+    pub fn call(self, from: &[u8], into: &mut [u8]) -> u8 {
+        let enter = match self {
+            Way::Pack => pbm_points_pack,
+            Way::Unpack => pbm_points_unpack,
+        };
+        // SAFETY: pointers and lengths are those of slices that are borrowed as the header asks, mutably where it writes.
+        unsafe { enter(from.as_ptr(), from.len(), into.as_mut_ptr(), into.len()) }
+    }
+}
+
 extern "C" {
     fn pbm_format(
         record: *mut u8,
@@ -324,5 +353,17 @@ extern "C" {
         disk: u64,
         role: *mut u64,
         block: *mut u64,
+    ) -> u8;
+    fn pbm_points_pack(
+        points: *const u8,
+        points_len: usize,
+        packed: *mut u8,
+        packed_len: usize,
+    ) -> u8;
+    fn pbm_points_unpack(
+        packed: *const u8,
+        packed_len: usize,
+        points: *mut u8,
+        points_len: usize,
     ) -> u8;
 }

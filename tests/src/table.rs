@@ -1,10 +1,10 @@
 //! Document 01's table of refusals, row by row, 1 and 6 as request (a) of document 02 leaves them, 8 with the capacity of
-//! request (b), and with the record, the health and the calls of request (d).
+//! request (b), with the record, the health and the calls of request (d), and with row 11 of request (e).
 
 use crate::pbm::Call::{self, *};
 use crate::record::{Health, Record, RECORD_LEN};
 
-/// Its highest number.
+/// The highest number that a call on an array can be given: row 11 is that of the calls on scan points.
 pub const LAST: u8 = 10;
 
 /// What the table reads of the slices that are lent; the length of one that a call does not take is not looked at.
@@ -17,7 +17,7 @@ pub struct Lent {
     pub block_len: usize,
 }
 
-/// The numbers that a call can answer, by its name.
+/// The numbers that a call on an array can answer, by its name.
 pub fn rows(name: &str) -> &'static [u8] {
     match name {
         "format" => &[1, 6, 7],
@@ -92,6 +92,16 @@ pub fn refusal(record: &Record, call: Call, lent: &Lent) -> u8 {
     (1..=LAST)
         .find(|&row| holds(row, record, call, lent))
         .unwrap_or(0)
+}
+
+/// The same for the calls on scan points, by the lengths of what they are lent: row 11 is the only one that names them.
+pub fn points_refusal(from_len: usize, into_len: usize) -> u8 {
+    let is_odd = |len: usize| len % 2 == 1;
+    if is_odd(from_len) || is_odd(into_len) || from_len != into_len {
+        11
+    } else {
+        0
+    }
 }
 
 /// Whether a length is not the product; factors may be any numbers.

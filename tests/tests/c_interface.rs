@@ -4,7 +4,8 @@
 use std::fs;
 use std::process::Command;
 use yuzkamide_tests::compile::{archive, interface, program, run, text};
-use yuzkamide_tests::pbm::NAMES;
+use yuzkamide_tests::pbm::{Way, NAMES};
+use yuzkamide_tests::points;
 use yuzkamide_tests::program::target;
 use yuzkamide_tests::record::{Health, Record, BENCH, GROWING};
 
@@ -32,6 +33,9 @@ fn printed() -> String {
         m: 1,
         ..Record::new(4, 4, 19)
     });
+    let rising: Vec<u16> = (0..40).map(|i| 700 * i).collect();
+    let rising = decimal(&points::bytes(&rising));
+    let rising_packed = format!("0{} 0{}", " 188".repeat(39), " 2".repeat(39));
     format!(
         "\
 word 0: done
@@ -45,7 +49,8 @@ word 7: images
 word 8: past the end
 word 9: block length
 word 10: disk
-word 11: no such number
+word 11: points
+word 12: no such number
 word 255: no such number
 the longest images: 128 GiB
 format, 179 and 181 bytes: 7, 7
@@ -176,13 +181,29 @@ locate 57: 0 (0, 4)
 locate 75: 0 (18, 4)
 owner (18, 4): 0 role 2, block 75
 record {at_once}
+pack, 6 bytes into 6: 0, 100 3 254 0 0 255
+unpack, 6 bytes into 6: 0, 100 0 103 0 101 0
+pack, 0 bytes into 0: 0,
+unpack, 0 bytes into 0: 0,
+pack, 5 bytes into 5: 11,
+unpack, 5 bytes into 5: 11,
+pack, 6 bytes into 4: 11,
+unpack, 6 bytes into 4: 11,
+pack, 4 bytes into 6: 11,
+unpack, 4 bytes into 6: 11,
+pack, 80 bytes into 80: 0, {rising_packed}
+unpack, 80 bytes into 80: 0, {rising}
 "
     )
 }
 
-/// The bytes in decimal.
 fn listed(record: Record) -> String {
-    record.bytes().map(|byte| byte.to_string()).join(" ")
+    decimal(&record.bytes())
+}
+
+fn decimal(bytes: &[u8]) -> String {
+    let numbers: Vec<String> = bytes.iter().map(u8::to_string).collect();
+    numbers.join(" ")
 }
 
 fn prints(name: &str, compiler: &[&str]) {
@@ -214,12 +235,12 @@ fn the_words_are_those_of_the_headers_table() {
         .filter_map(|(number, rest)| Some((number.parse::<u8>().ok()?, rest)))
         .map(|(number, rest)| format!("word {number}: {}\n", rest.split("  ").next().unwrap()))
         .collect();
-    assert_eq!(rows.len(), 10);
+    assert_eq!(rows.len(), 11);
     assert!(printed().contains(&rows.concat()), "{rows:?}");
 }
 
 #[test]
-fn the_archive_has_the_eleven_functions() {
+fn the_archive_has_the_thirteen_functions() {
     let output = run(Command::new("nm")
         .args(["--extern-only", "--defined-only"])
         .arg(archive()));
@@ -231,7 +252,8 @@ fn the_archive_has_the_eleven_functions() {
         .map(|words| words[1..].join(" "))
         .collect();
     found.sort_unstable();
-    let mut wanted = NAMES.map(|name| format!("T pbm_{name}"));
+    let names = NAMES.into_iter().chain(Way::BOTH.map(Way::name));
+    let mut wanted: Vec<String> = names.map(|name| format!("T pbm_{name}")).collect();
     wanted.sort_unstable();
     assert_eq!(found, wanted);
 }
@@ -260,7 +282,7 @@ fn the_stack_of_a_call() {
     let output = run(&mut Command::new(program("stack", C, &["tests/c/stack.c"])));
     let printed = text(&output.stdout);
     print!("{printed}");
-    assert_eq!(printed.lines().count(), 23);
+    assert_eq!(printed.lines().count(), 25);
     for line in printed.lines() {
         let (call, depths) = line.split_once(": ").unwrap();
         let (first, then) = depths.split_once(", then ").unwrap();

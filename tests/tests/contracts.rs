@@ -9,12 +9,12 @@ use yuzkamide_tests::contracts::{
 };
 use yuzkamide_tests::definitions::{of_proof_language, Kind};
 use yuzkamide_tests::files::texts;
-use yuzkamide_tests::pbm::{in_rattle, NAMES};
+use yuzkamide_tests::pbm::{in_rattle, Way, NAMES};
 use yuzkamide_tests::program::target;
 use yuzkamide_tests::statements::uses;
 
 /// The crates whose public functions are handed anything by anyone, and the program's function that is handed what was typed.
-const ENTRY_CRATES: &[&str] = &["array", "lent", "pbm"];
+const ENTRY_CRATES: &[&str] = &["array", "lent", "points", "pbm"];
 const ENTRY_POINT: &str = "answer_to";
 
 /// Functions inside a crate whose answer is left open where no caller looks at it, and limited there: the blanks below a disk
@@ -99,6 +99,10 @@ fn the_search_finds_the_functions() {
             exported("array", rattle) && exported("lent", rattle),
             "{name}"
         );
+        assert!(exported("pbm", &format!("pbm_{name}")), "pbm_{name}");
+    }
+    assert!(exported("points", "pack") && exported("points", "unpack"));
+    for name in Way::BOTH.map(Way::name) {
         assert!(exported("pbm", &format!("pbm_{name}")), "pbm_{name}");
     }
     assert!(exported("array", "view") && exported("lent", "view"));

@@ -1,6 +1,6 @@
 //! README.md and docs/: links and commands name what is there, the numbers of docs/LAYOUT.md are the library's and the replay's,
-//! and the ratios of docs/SPEED.md those of the report at its end; and what include/pbm.h says of a growth and of a rebuild is the
-//! library's too.
+//! and the ratios of docs/SPEED.md those of the report at its end; and what include/pbm.h says of a growth, of a rebuild and of
+//! scan points is the library's too.
 
 use std::fs;
 use std::ops::Range;
@@ -11,7 +11,7 @@ use yuzkamide_tests::compile::{run, text};
 use yuzkamide_tests::images::{part, place};
 use yuzkamide_tests::layout::{Layout, Owner};
 use yuzkamide_tests::moves::moves;
-use yuzkamide_tests::pbm::{Answer, Bytes, Call};
+use yuzkamide_tests::pbm::{Answer, Bytes, Call, Way};
 use yuzkamide_tests::program::target;
 use yuzkamide_tests::record::{Health, Record, RECORD_LEN};
 
@@ -62,6 +62,22 @@ fn links_lead_to_what_is_there() {
         }
     }
     assert!(seen > 30, "the search finds the links: {seen}");
+}
+
+/// CHANGES.md names each request's note, which has a title of just that request.
+#[test]
+fn requests_have_their_notes() {
+    let changes = fs::read_to_string(root().join("CHANGES.md")).unwrap();
+    let mut seen = 0;
+    for part in changes.split("\n## Request (").skip(1) {
+        let note = format!("docs/landings/{}.md", &part[..1]);
+        assert!(part.contains(&note), "CHANGES.md does not name {note}");
+        let text = fs::read_to_string(root().join(&note)).expect(&note);
+        let title = format!("# Request ({}): ", &part[..1]);
+        assert!(text.starts_with(&title), "{note} is not titled {title}");
+        seen += 1;
+    }
+    assert!(seen >= 5, "the search finds the requests: {seen}");
 }
 
 /// A word of a command that is a path: a file of the repository, or a program that is built from one.
@@ -360,6 +376,35 @@ fn check_count(array: &mut Array, disk: u64, done: u64) {
             assert_eq!(array.0.images[place(&record, stripe, disk)], data);
         }
     }
+}
+
+/// The points of the header in a block of an array, and a block that was never written.
+#[test]
+fn the_points_of_the_header() {
+    header_says("points 100, 103, 101 = bytes 64 00 67 00 65 00");
+    header_says("packed 100, 3, -2 = bytes 64 03 fe 00 00 ff");
+    header_says(
+        "Pack before pbm_write, unpack behind pbm_read, or use neither. Each goes from one slice into another, not in place; for \
+         whole blocks B has to be even. A block that was never written is zero, and zero points packed are zeroes too.",
+    );
+    header_says(
+        "11  points  an odd length, or two lengths that differ: points pack, points unpack",
+    );
+    let points = [0x64, 0x00, 0x67, 0x00, 0x65, 0x00];
+    let packed = [0x64, 0x03, 0xfe, 0x00, 0x00, 0xff];
+    let mut array = Array::format(3, 6, 4);
+    let mut block = [0x5a; 6];
+    assert_eq!(Way::Pack.call(&points, &mut block), 0);
+    assert_eq!(block, packed);
+    array.write(5, &block);
+    for (number, holds) in [(5, points), (6, [0; 6])] {
+        block.fill(0x5a);
+        assert_eq!(Way::Unpack.call(&array.read(number), &mut block), 0);
+        assert_eq!(block, holds);
+    }
+    block.fill(0x5a);
+    assert_eq!(Way::Pack.call(&[0; 6], &mut block), 0);
+    assert_eq!(block, [0; 6]);
 }
 
 // ---- docs/LAYOUT.md: 3 + 2 disks, 15 stripes, blocks of 4 bytes, after 9 moves; with 21 stripes; and 4 + 1 disks with 19
@@ -1088,5 +1133,5 @@ fn the_instructions_of_speed() {
             "{row:?}"
         );
     }
-    assert_eq!(rows.len(), 2 + 51);
+    assert_eq!(rows.len(), 2 + 55);
 }

@@ -16,32 +16,34 @@ use yuzkamide_tests::record::Record;
 /// What the line prints, and examples/run.
 const PRINTED: &str = "\
 seed 1
+points are packed: 100, 103, 101 as 100, 3, -2
+    a pack of two points and a half is refused: 11 points
 5 disks are formatted: 1668 blocks of 4096 bytes
     all 1668 blocks are as last written
 3 disks are added: 750 moves to make
     a read with the old disks alone is refused: 7 images
     a read of the next new block is refused: 8 past the end
-    200 of 750 moves, 1980 blocks, 2264 logs so far
-    400 of 750 moves, 2292 blocks, 2519 logs so far
+    200 of 750 moves, 1980 blocks, 2260 logs so far
+    400 of 750 moves, 2292 blocks, 2523 logs so far
     a read of the next new block is refused: 8 past the end
 disk 2 is lost
     advance is refused: 3 degraded
     all 2292 blocks are as last written
-    rebuilding disk 2: [..........] 0 of 417 stripes, 3519 logs so far
-    rebuilding disk 2: [##........] 100 of 417 stripes, 3585 logs so far
-    rebuilding disk 2: [#####.....] 250 of 417 stripes, 3690 logs so far
+    rebuilding disk 2: [..........] 0 of 417 stripes, 3523 logs so far
+    rebuilding disk 2: [##........] 100 of 417 stripes, 3589 logs so far
+    rebuilding disk 2: [#####.....] 250 of 417 stripes, 3688 logs so far
     advance is refused: 3 degraded
     all 2292 blocks are as last written
 disk 2 is lost, and with it the 250 stripes rebuilt
     all 2292 blocks are as last written
-    rebuilding disk 2: [..........] 0 of 417 stripes, 3690 logs so far
-    rebuilding disk 2: [###.......] 150 of 417 stripes, 3783 logs so far
-    rebuilding disk 2: [#######...] 300 of 417 stripes, 3885 logs so far
-    rebuilding disk 2: [##########] 417 of 417 stripes, 3974 logs so far
+    rebuilding disk 2: [..........] 0 of 417 stripes, 3688 logs so far
+    rebuilding disk 2: [###.......] 150 of 417 stripes, 3796 logs so far
+    rebuilding disk 2: [#######...] 300 of 417 stripes, 3910 logs so far
+    rebuilding disk 2: [##########] 417 of 417 stripes, 3987 logs so far
 disk 2 is rebuilt
     all 2292 blocks are as last written
-    600 of 750 moves, 2628 blocks, 4242 logs so far
-    750 of 750 moves, 2919 blocks, 4464 logs so far
+    600 of 750 moves, 2628 blocks, 4256 logs so far
+    750 of 750 moves, 2919 blocks, 4480 logs so far
     advance is refused: 5 nothing to move
 the growth is over: 2919 blocks
     all 1251 new blocks stand where they stood when they came
@@ -50,15 +52,16 @@ the growth is over: 2919 blocks
 disk 5 is lost
     all 2919 blocks are as last written
     all 51 new blocks of the tail are written and read
-    rebuilding disk 5: [..........] 0 of 417 stripes, 6566 logs so far
-    rebuilding disk 5: [##########] 417 of 417 stripes, 6841 logs so far
+    rebuilding disk 5: [..........] 0 of 417 stripes, 6582 logs so far
+    rebuilding disk 5: [##########] 417 of 417 stripes, 6848 logs so far
 disk 5 is rebuilt
     all 2919 blocks are as last written
-writes 6841, of these 222 of blocks on a lost disk, 1015 of new blocks in mid-growth
-    while a disk was rebuilt: 372 in stripes done, 354 in the others
-reads 32686, of these 1585 of blocks on a lost disk, 4523 of new blocks in mid-growth
-    while a disk was rebuilt: 2126 in stripes done, 1134 in the others
-moves 750, refusals met 6
+writes 6848, of these 211 of blocks on a lost disk, 1005 of new blocks in mid-growth
+    while a disk was rebuilt: 363 in stripes done, 363 in the others
+reads 32700, of these 1588 of blocks on a lost disk, 4466 of new blocks in mid-growth
+    while a disk was rebuilt: 2101 in stripes done, 1159 in the others
+points compared 66969600
+moves 750, refusals met 7
 every read gave what was last written
 ";
 
@@ -165,7 +168,7 @@ fn a_line_notices_faults() {
         ("PLACE_LEFT", stale),
         ("MADE_UP", "moves done"),
         ("NOT_MADE", stale),
-        ("MADE_MORE", "stripes made: 9; it must be 8"),
+        ("MADE_MORE", "stripes made: 4; it must be 3"),
         ("COUNT_KEPT", "health: 3; it must be 1"),
         ("LOST_AGAIN", "health: 2; it must be 1"),
         ("SKIPPED", stale),
@@ -180,6 +183,13 @@ fn a_line_notices_faults() {
         ("ZONE_LATE", "capacity: 1668; it must be 1692"),
         ("NEW_SPOILED", stale),
         ("NEW_MOVED", stale),
+        ("NO_CARRY", stale),
+        ("RUN_ON", stale),
+        ("TURNED", "a byte of packed points: 156; it must be 100"),
+        (
+            "HALF_POINT",
+            "a pack of two points and a half gives: 0 done; it must give: 11 points",
+        ),
     ];
     assert_eq!(
         text(&run(&mut Command::new(faulty("NONE"))).stdout),
@@ -199,7 +209,16 @@ fn a_line_notices_faults() {
 
 fn faulty(fault: &str) -> PathBuf {
     let define = format!("-DFAULT={fault}");
-    let wrapped = ["read", "write", "advance", "out", "continue", "status"];
+    let wrapped = [
+        "read",
+        "write",
+        "advance",
+        "out",
+        "continue",
+        "status",
+        "points_pack",
+        "points_unpack",
+    ];
     let wrap = wrapped.map(|call| format!("-Wl,--wrap=pbm_{call}"));
     let mut compiler = [GCC, &[&define]].concat();
     compiler.extend(wrap.iter().map(String::as_str));

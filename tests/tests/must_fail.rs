@@ -18,6 +18,18 @@ const COMPUTED: &[(&str, &str, &[&str])] = &[
         &["parity/old_parity_left_in", "parity/out_summed_in"],
     ),
     (
+        "/proofs/Cases/Points.antt:",
+        "`points`",
+        &[
+            "points/big_end_first",
+            "points/first_from_last",
+            "points/high_bytes_first",
+            "points/refused_target_touched",
+            "points/saturating_difference",
+            "points/sign_turned_both_ways",
+        ],
+    ),
+    (
         "/proofs/Cases/Paper.antt:",
         "`paper`",
         &[
@@ -83,6 +95,18 @@ const BY_LAW: &[(&str, &str, &[&str])] = &[
         "/proofs/Laws/Block.antt:",
         "`blockAt-store`",
         &["blocks/block_from_start"],
+    ),
+    // the bytes of a number give it back
+    (
+        "/proofs/Laws/Number.antt:",
+        "`two-back`",
+        &["blocks/big_end_first"],
+    ),
+    // a point call is refused 11 for what document 02 says, and nothing else
+    (
+        "/proofs/Laws/Answer.antt:",
+        "`not-refused`",
+        &["points/long_slice_refused"],
     ),
     // format is refused 6 for what document 01 says, and nothing else
     (
@@ -180,8 +204,9 @@ fn kind(words: &str) -> Option<Kind> {
         "computed as far as they go, the two types ",
         "as printed, the two types ",
         "expected type `",
-        // what `simp` leaves is an equation whose two sides are not the same
+        // what `simp` or `rw` leaves is an equation whose two sides are not the same
         "give a proof of that as the last argument, `simp L t`",
+        "give a proof of that as the last argument, `rw L t`",
     ]) {
         Some(Kind::Differ)
     } else {
@@ -362,6 +387,10 @@ fn kinds_of_error() {
         ),
         (
             "`returns-5`: give a proof of that as the last argument, `simp L t` (`simp L ?` shows it as a hole's goal), or add what is missing to the list",
+            Some(Kind::Differ),
+        ),
+        (
+            "`returns-2`: give a proof of that as the last argument, `rw L t` (`rw L ?` shows it as a hole's goal), or add what is missing to the list",
             Some(Kind::Differ),
         ),
         (

@@ -1,7 +1,8 @@
 //! Every row of document 01's table of refusals, 1 and 6 as request (a) of document 02 leaves them, 8 with the capacity of
 //! request (b), and with the record, the health and the calls of request (d), for every call that it names: alone, and with a
 //! lower row's condition holding as well, which then wins; and every call in every health. A refused call changes no byte and sets
-//! every number beside its answer to 0. What an accepted one answers and leaves is held to a model that goes by the bytes.
+//! every number beside its answer to 0. What an accepted one answers and leaves is held to a model that goes by the bytes. (Row 11 names
+//! no call on an array: points.rs has it.)
 
 use std::collections::HashSet;
 use yuzkamide_tests::bytewise::Bytewise;

@@ -1,5 +1,6 @@
 -- The laws of the definitions, from the bottom, and of the kinds of loops.
 pub mod Block
+pub mod Number
 pub mod Xor
 pub mod Rows
 pub mod Grid

@@ -1,8 +1,12 @@
 -- A block is a run of bytes. `store` keeps the length of what it stores into, whatever it is handed.
-use Prim.Native.Nat.{ℕ, zero, suc, _+_, _≤_}
+use Prim.Native.Nat.{ℕ, zero, suc, _+_, _≤_, _<_}
 use mathlib.Core.Logic.{_⊎_}
 use mathlib.Core.List.{List, [], _∷_}
-use lib.ListN.{take, drop, replicate}
+use lib.ListN.{getD, take, drop, replicate}
+
+-- each number of l is a byte
+abbrev pub AreBytes : List ℕ → Type 0
+AreBytes l = (i : ℕ) → getD l i 0 < 256
 
 -- the len bytes of l from offset at on
 abbrev pub blockAt : List ℕ → ℕ → ℕ → List ℕ

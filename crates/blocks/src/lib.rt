@@ -1,5 +1,7 @@
-// One block inside the images: zeroed, copied, moved and xored, and the places of a stripe. Bytes only; no layout and no record.
+// One block inside the images: zeroed, copied, moved and xored, and the places of a stripe; and bytes as a number. Bytes only; no layout
+// and no record.
 mod copy;
+mod number;
 mod place;
 mod stripe;
 mod sum;
@@ -9,6 +11,8 @@ pub use copy::copy_out;
 pub use copy::move_block;
 pub use copy::store_bytes;
 pub use copy::zero_block;
+pub use number::join_four;
+pub use number::join_two;
 pub use place::offset_of;
 pub use stripe::rebuild_place;
 pub use sum::xor_others;

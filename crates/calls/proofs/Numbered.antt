@@ -7,11 +7,12 @@ use mathlib.Core.List.{List, [], _∷_}
 use lib.Dec.{eqb}
 use lib.ListN.{length}
 use borrow.Author.Tests.{ne-eqb}
+use Rattle.blocks.specs.Block.{AreBytes}
 use Rattle.conditions.proofs.Tests.{equal}
 use Rattle.state.specs.declared.Health.the-variants.{Lost}
 use Rattle.state.specs.declared.Record.{Record}
 use Rattle.state.specs.Good.{geometry, good, GoodRecord}
-use Rattle.state.specs.Bytes.{recordLength, goodBytes, encode, AreBytes}
+use Rattle.state.specs.Bytes.{recordLength, goodBytes, encode}
 use Rattle.state.proofs.Laws.Good.{limits}
 use Rattle.state.proofs.Theorem.{good-is}
 use Rattle.calls.specs.Call.{Call, column, format, read, view, write, grow, advance, out, begin, continue}

@@ -1,3 +1,2 @@
--- The laws of lanes, and of the fold over the other disks.
-pub mod Lanes
+-- The laws of the fold over the other disks.
 pub mod Fold

@@ -1,4 +1,3 @@
--- What a fold leaves, what stands in each piece of it, and the bytes of a struct of them.
-pub mod Lanes
+-- What a fold leaves, and what stands in each piece of it.
 pub mod Fold
 pub mod Cases

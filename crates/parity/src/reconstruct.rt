@@ -9,20 +9,20 @@ ghost use lib.ListN.{length};
 ghost use Rattle.blocks.specs.Block.{blockAt};
 ghost use Rattle.blocks.specs.Xor.{xorB};
 ghost use Rattle.blocks.specs.Stripe.{PlaceInside};
-ghost use Rattle.parity.specs.Lanes.{laneBytes, quadBytes};
+ghost use Rattle.lanes.specs.Lanes.{laneBytes, quadBytes};
 ghost use Rattle.parity.specs.Fold.{foldedOthers, counted, gapped, GappedInside, FoldInside, partFolded};
 use crate::Gapped;
-use crate::Lane;
-use crate::Quad;
-use crate::lanes::LANE;
-use crate::lanes::QUAD;
-use crate::lanes::load_lane;
-use crate::lanes::load_quad;
-use crate::lanes::store_lane;
-use crate::lanes::store_quad;
-use crate::lanes::xor_lanes;
-use crate::lanes::xor_quads;
 use blocks::offset_of;
+use lanes::LANE;
+use lanes::Lane;
+use lanes::QUAD;
+use lanes::Quad;
+use lanes::load_lane;
+use lanes::load_quad;
+use lanes::store_lane;
+use lanes::store_quad;
+use lanes::xor_lanes;
+use lanes::xor_quads;
 
 // Whether disk d is neither of the two gaps.
 fn is_counted(g: Gapped, d: usize) -> bool

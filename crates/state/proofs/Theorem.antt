@@ -6,13 +6,14 @@ use mathlib.Core.Logic.{_↔_}
 use mathlib.Core.List.{List}
 use native.Mathlib.Omega.{arith}
 use lib.ListN.{length}
+use Rattle.blocks.specs.Block.{AreBytes}
 use Rattle.layout.specs.Moves.{total}
 use Rattle.layout.proofs.Laws.Bounds.{total-high}
 use Rattle.state.specs.declared.Health.the-variants.{Whole, Out, Lost, Rebuilding}
 use Rattle.state.specs.declared.Health.{Health}
 use Rattle.state.specs.declared.Record.{Record}
 use Rattle.state.specs.Good.{geometry, good, HealthWithin, GoodRecord}
-use Rattle.state.specs.Bytes.{recordLength, decode, plain, goodBytes, encode, AreBytes}
+use Rattle.state.specs.Bytes.{recordLength, decode, plain, goodBytes, encode}
 use Rattle.state.specs.Theorem.{RoundTrip, GoodIs, Updates}
 use Rattle.conditions.proofs.Tests.{both}
 use Rattle.state.proofs.Laws.Good.{limits, within-limits, out-lt, rebuilding-lt}

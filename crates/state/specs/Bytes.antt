@@ -2,11 +2,12 @@
 -- (0 whole, 1 one disk out, 2 lost); 3 the disk that is out, 0 unless health is 1; 4–5 B; 6–7 zero; 8–11 T; 12–15 t, the
 -- moves done." Document 02, (d): "Health gains Rebuilding (byte 2 is 3, byte 3 its disk, below N) with disk and stripes done; the record
 -- becomes 20 bytes, ..; 16–19 hold the count, below T, and 0 otherwise."
-use Prim.Native.Nat.{ℕ, _+_, _*_, _/_, _%_, _<_}
+use Prim.Native.Nat.{ℕ, _/_, _%_}
 use mathlib.Core.Bool.{Bool, cond, _&&_, _||_}
 use mathlib.Core.List.{List, [], _∷_}
 use lib.Dec.{leb, eqb}
 use lib.ListN.{getD}
+use Rattle.blocks.specs.Number.{two, four}
 use Rattle.state.specs.declared.Health.the-variants.{Whole, Out, Lost, Rebuilding}
 use Rattle.state.specs.declared.Health.{Health}
 use Rattle.state.specs.declared.Record.{Record}
@@ -17,13 +18,6 @@ abbrev pub recordLength : ℕ
 recordLength = 20
 
 -- ---- from bytes
-
--- "least byte first"
-abbrev pub two : ℕ → ℕ → ℕ
-two a b = a + 256 * b
-
-abbrev pub four : ℕ → ℕ → ℕ → ℕ → ℕ
-four a b c d = a + 256 * b + 65536 * c + 16777216 * d
 
 -- by the health byte, the disk's and the stripes done
 abbrev pub healthOf : ℕ → ℕ → ℕ → Health
@@ -87,8 +81,3 @@ encode r =
     ∷ stripesDone (r .health) % 256 ∷ stripesDone (r .health) / 256 % 256
     ∷ stripesDone (r .health) / 65536 % 256 ∷ stripesDone (r .health) / 16777216
     ∷ []
-
--- ---- a list of bytes
-
-abbrev pub AreBytes : List ℕ → Type 0
-AreBytes b = (i : ℕ) → getD b i 0 < 256

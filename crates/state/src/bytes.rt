@@ -1,27 +1,15 @@
 // The record's bytes, in and out. Reading tests nothing: `is_plain` and `is_good` are apart, so that no caller tests twice.
 ghost use mathlib.Core.Path.{_≡_};
 ghost use lib.ListN.{length};
-ghost use Rattle.state.specs.Bytes.{recordLength, two, four, doneFrom, healthOf, decode, healthPlain, plain};
+ghost use Rattle.state.specs.Bytes.{recordLength, doneFrom, healthOf, decode, healthPlain, plain};
 ghost use Rattle.state.specs.Bytes.{healthByte, diskByte, stripesDone, encode};
 use crate::Health;
 use crate::Record;
+use blocks::join_four;
+use blocks::join_two;
 
 // How many they are: `recordLength`.
 pub const RECORD_LENGTH: usize = 20;
-
-// Two bytes as a number, least byte first.
-fn join_two(a: u8, b: u8) -> u16
-    ensures { λ r. ⌜ r ≡ two a b ⌝ }
-{
-    (a as u16) + 256 * (b as u16)
-}
-
-// Four bytes as a number, least byte first.
-fn join_four(a: u8, b: u8, c: u8, d: u8) -> u32
-    ensures { λ r. ⌜ r ≡ four a b c d ⌝ }
-{
-    (a as u32) + 256 * (b as u32) + 65536 * (c as u32) + 16777216 * (d as u32)
-}
 
 // The stripes done that the bytes spell.
 fn done_from(bytes: &[u8]) -> u32

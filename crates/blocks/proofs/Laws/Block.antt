@@ -36,6 +36,15 @@ store-one (x ∷ l) zero v = rw (store-nil l zero)
 pub store-snoc : (l : List ℕ) (at : ℕ) (b : List ℕ) (v : ℕ) → store l at (b ++ (v ∷ [])) ≡ set (store l at b) (at + length b) v
 store-snoc l at b v = store-append l at b (v ∷ []) ∙ store-one (store l at b) (at + length b) v
 
+-- two stores, the first of them before the second, change places
+pub store-swap : (l : List ℕ) (at : ℕ) (b : List ℕ) (at′ : ℕ) (c : List ℕ) → at + length b ≤ at′ → store (store l at b) at′ c ≡ store (store l at′ c) at b
+store-swap [] at b at′ c h = refl
+store-swap (x ∷ l) (suc at) b zero c h = absurd (omega arith)
+store-swap (x ∷ l) (suc at) b (suc at′) c h = ap (λ (r : List ℕ). x ∷ r) (store-swap l at b at′ c (omega arith))
+store-swap (x ∷ l) zero [] at′ c h = sym (store-nil (store (x ∷ l) at′ c) zero)
+store-swap (x ∷ l) zero (y ∷ b) zero c h = absurd (omega arith)
+store-swap (x ∷ l) zero (y ∷ b) (suc at′) c h = ap (λ (r : List ℕ). y ∷ r) (store-swap l zero b at′ c (omega arith))
+
 -- behind a store all is as it was
 pub drop-store : (l : List ℕ) (at : ℕ) (b : List ℕ) (n : ℕ) → at + length b ≤ n → drop n (store l at b) ≡ drop n l
 drop-store [] at b n h = refl

@@ -37,7 +37,7 @@ filled-more {l₀} {at} {b} {n} {l} {i} {v} f h e =
     record { is = ap (λ (r : List ℕ). set r (at + i) v) (f .is) ∙ store-more l₀ at b i v (omega arith) e; size = length-set l (at + i) v ∙ f .size; long = f .long; within = omega arith }
 
 -- the same for a loop that writes a whole slice, whose index is i and not `0 + i`
-filled-more₀ : {l₀ : List ℕ} {b : List ℕ} {n : ℕ} {l : List ℕ} {i v : ℕ} → Filled l₀ 0 b n l i → i < n → v ≡ getD b i 0 → Filled l₀ 0 b n (set l i v) (i + 1)
+pub filled-more₀ : {l₀ : List ℕ} {b : List ℕ} {n : ℕ} {l : List ℕ} {i v : ℕ} → Filled l₀ 0 b n l i → i < n → v ≡ getD b i 0 → Filled l₀ 0 b n (set l i v) (i + 1)
 filled-more₀ {l₀} {b} {n} {l} {i} {v} f h e = subst (λ (k : ℕ). Filled l₀ 0 b n (set l k v) (i + 1)) (zero-add i) (filled-more f h e)
 
 pub filled-all : {l₀ : List ℕ} {at : ℕ} {b : List ℕ} {n : ℕ} {l : List ℕ} {i : ℕ} → Filled l₀ at b n l i → n ≤ i → l ≡ store l₀ at b
@@ -46,7 +46,7 @@ filled-all {l₀} {at} {b} {n} {l} {i} f h = f .is ∙ ap (store l₀ at) (take-
 pub filled-all₀ : {l₀ : List ℕ} {b : List ℕ} {n : ℕ} {l : List ℕ} {i : ℕ} → Filled l₀ 0 b n l i → n ≤ i → length l₀ ≡ n → l ≡ b
 filled-all₀ {l₀} {b} f h e = filled-all f h ∙ store-whole l₀ b (omega arith)
 
-filled-other : {l₀ : List ℕ} {at : ℕ} {b : List ℕ} {n : ℕ} {l : List ℕ} {i : ℕ} → Filled l₀ at b n l i → (j : ℕ) → (j < at) ⊎ (at + i ≤ j) → getD l j 0 ≡ getD l₀ j 0
+pub filled-other : {l₀ : List ℕ} {at : ℕ} {b : List ℕ} {n : ℕ} {l : List ℕ} {i : ℕ} → Filled l₀ at b n l i → (j : ℕ) → (j < at) ⊎ (at + i ≤ j) → getD l j 0 ≡ getD l₀ j 0
 filled-other {l₀} {at} {b} {n} {l} {i} f j h =
     ap (λ (r : List ℕ). getD r j 0) (f .is) ∙ getD-store-other l₀ at (take i b) j 0 (subst (λ (k : ℕ). (j < at) ⊎ (at + k ≤ j)) (sym (length-take-le i b (omega arith))) h)
 

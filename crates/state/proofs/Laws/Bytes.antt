@@ -8,20 +8,16 @@ use lib.ListN.{length, getD, drop}
 use lib.Seq.{drop-cons, drop-length}
 use lib.Dec.{eqb}
 use borrow.Author.Tests.{leb-true, eqb-true}
+use Rattle.blocks.specs.Block.{AreBytes}
+use Rattle.blocks.proofs.Laws.Number.{two-back, four-back, two-bytes, four-bytes}
 use Rattle.state.specs.declared.Health.the-variants.{Whole, Out, Lost, Rebuilding}
 use Rattle.state.specs.declared.Health.{Health}
 use Rattle.state.specs.declared.Record.{Record}
 use Rattle.state.specs.Good.{HealthWithin}
-use Rattle.state.specs.Bytes.{recordLength, two, four, doneFrom, healthOf, decode, healthPlain, plain, healthByte, diskByte, stripesDone, encode, AreBytes}
+use Rattle.state.specs.Bytes.{recordLength, doneFrom, healthOf, decode, healthPlain, plain, healthByte, diskByte, stripesDone, encode}
 use Rattle.conditions.proofs.Tests.{both}
 
 -- ---- from the record to its bytes and back
-
-two-back : (x : ℕ) → two (x % 256) (x / 256) ≡ x
-two-back x = omega arith
-
-four-back : (x : ℕ) → four (x % 256) (x / 256 % 256) (x / 65536 % 256) (x / 16777216) ≡ x
-four-back x = omega arith
 
 health-back : (h : Health) → healthOf (healthByte h) (diskByte h) (stripesDone h) ≡ h
 health-back Whole = refl
@@ -111,17 +107,6 @@ spell-drop (suc n) i b e = ap (λ t. getD b i 0 ∷ t) (spell-drop n (suc i) b (
 
 pub spelled : (b : List ℕ) → length b ≡ recordLength → spell 0 recordLength b ≡ b
 spelled b e = spell-drop recordLength 0 b e
-
-two-bytes : (a b : ℕ) → a < 256 → two a b % 256 ∷ two a b / 256 ∷ [] ≡ a ∷ b ∷ []
-two-bytes a b ha =
-    let e : (two a b % 256 ≡ a) × (two a b / 256 ≡ b) = (omega arith, omega arith) in
-    cc (e .0, e .1)
-
-four-bytes : (a b c d : ℕ) → a < 256 → b < 256 → c < 256
-    → four a b c d % 256 ∷ four a b c d / 256 % 256 ∷ four a b c d / 65536 % 256 ∷ four a b c d / 16777216 ∷ [] ≡ a ∷ b ∷ c ∷ d ∷ []
-four-bytes a b c d ha hb hc =
-    let e : (four a b c d % 256 ≡ a) × (four a b c d / 256 % 256 ≡ b) × (four a b c d / 65536 % 256 ≡ c) × (four a b c d / 16777216 ≡ d) = (omega arith, omega arith, omega arith, omega arith) in
-    cc (e .0, e .1, e .2, e .3)
 
 -- a health byte is one of four
 data Told (h : ℕ) : Type 0 where

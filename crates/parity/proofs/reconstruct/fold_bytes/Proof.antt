@@ -5,7 +5,7 @@ use native.Mathlib.Omega.{arith}
 use lib.ListN.{length}
 use Rattle.parity.specs.Fold.{startOf, partFolded}
 use Rattle.blocks.proofs.Laws.Block.{store-one}
-use Rattle.parity.proofs.Laws.Lanes.{block-one}
+use Rattle.lanes.proofs.Laws.Lanes.{block-one}
 use Rattle.parity.proofs.Laws.Fold.{place-inside, Replaced, replaced-none, replaced-more, still-inside}
 use Rattle.parity.proofs.reconstruct.fold_bytes.Statement.{statement}
 use Rattle.parity.proofs.reconstruct.fold_bytes.Tie as tie

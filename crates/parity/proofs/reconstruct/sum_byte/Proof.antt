@@ -5,7 +5,7 @@ use Prim.Native.Nat.{ℕ, _-_, _+_, _≤_}
 use mathlib.Core.Path.{sym, ap, _∙_}
 use mathlib.Core.Logic.{⊎-elim}
 use mathlib.Core.List.{[], _∷_}
-use Rattle.parity.proofs.Laws.Lanes.{xor-one}
+use Rattle.lanes.proofs.Laws.Lanes.{xor-one}
 use Rattle.parity.specs.Fold.{startOf}
 use lib.ListN.{length}
 use Rattle.parity.proofs.Laws.Fold.{place-inside, Gathered, gathered-none, gathered-in, gathered-over, gathered-all}

@@ -5,7 +5,7 @@ use Prim.Native.Nat.{ℕ, _-_, _+_, _≤_}
 use mathlib.Core.Path.{sym, ap, _∙_}
 use mathlib.Core.Logic.{⊎-elim}
 use Rattle.blocks.specs.Xor.{xorB}
-use Rattle.parity.specs.Lanes.{quadBytes}
+use Rattle.lanes.specs.Lanes.{quadBytes}
 use Rattle.parity.specs.Fold.{startOf}
 use lib.ListN.{length}
 use Rattle.parity.proofs.Laws.Fold.{place-inside, Gathered, gathered-none, gathered-in, gathered-over, gathered-all}

@@ -1,0 +1,2 @@
+-- Reads and stores side by side.
+pub mod Lanes

@@ -1,0 +1,2 @@
+-- The bytes of a lane, and of four.
+pub mod Lanes

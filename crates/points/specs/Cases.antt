@@ -1,0 +1,2 @@
+-- Computed cases.
+pub mod Points
