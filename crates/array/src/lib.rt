@@ -1,4 +1,4 @@
-// The twelve calls on a record by value and lent slices. None requires anything: each refuses as the table of document 01 says,
+// The twelve calls on a record by value and lent slices. None requires anything: each refuses as the table of documents 01 and 02 says,
 // and its contract sets answer, record and every lent slice at exit equal to what `called` of crate `calls` has, refused calls
 // included. What the enums say in document 01's numbers and values is specs/Answers.antt.
 mod advancing;

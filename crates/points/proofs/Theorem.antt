@@ -12,10 +12,10 @@ use Rattle.points.specs.Points.{pointsOf, differences, low, high, sideBy
 use Rattle.points.specs.Answer.{refused, answer, filled}
 use Rattle.points.specs.Part.{differencesOf}
 use Rattle.points.specs.Theorem.{BothWays, pointAt, differenceAt, Differences, Fills}
-use Rattle.points.proofs.Laws.Ways.{plus-minus, points-bytes, bytes-points, length-points, length-bytes, points-below, bytes-below, sums-differences, differences-sums, length-differences, length-sums, differences-below, sums-below, length-sides, from-sides, to-sides, length-from-sides, from-sides-below, sides-below}
+use Rattle.points.proofs.Laws.Ways.{plus-minus, points-bytes, bytes-points, length-points, length-bytes, points-below, bytes-below, sums-differences, differences-sums, length-sums, differences-below, sums-below, length-sides, from-sides, to-sides, length-from-sides, from-sides-below, sides-below}
 use Rattle.points.proofs.Laws.Elements.{getD-points, getD-differences, getD-first, getD-second}
 use Rattle.points.proofs.Laws.Answer.{refused-odd, refused-unlike, not-refused}
-use Rattle.points.proofs.Laws.Pack.{first-is}
+use Rattle.points.proofs.Laws.Pack.{first-is, length-differencesOf}
 
 back : (l : List ℕ) → AreBytes l → Even l → unpacked (packed l) ≡ l
 back l h e =
@@ -30,7 +30,7 @@ there l h e =
     ∙ to-sides l h e
 
 packed-length : (l : List ℕ) → Even l → length (packed l) ≡ length l
-packed-length l e = length-sides (differences (pointsOf l)) ∙ omega (arith, length-differences 0 (pointsOf l), length-points l)
+packed-length l e = length-sides (differencesOf l) ∙ omega (arith, length-differencesOf l)
 
 unpacked-length : (l : List ℕ) → Even l → length (unpacked l) ≡ length l
 unpacked-length l e = length-bytes (sums (fromSides l)) ∙ omega (arith, length-sums 0 (fromSides l), length-from-sides l e)
@@ -50,7 +50,7 @@ both-ways =
 
 module _ (l : List ℕ) (n : ℕ) (e : length l ≡ n + n) where
   count : length (differencesOf l) ≡ n
-  count = length-differences 0 (pointsOf l) ∙ omega (arith, length-points l)
+  count = length-differencesOf l ∙ omega arith
 
   point-is : (i : ℕ) → i < n → getD (pointsOf l) i 0 ≡ pointAt l i
   point-is i h = getD-points l i (omega arith)

@@ -45,7 +45,7 @@ byte-is l i s e f = f ∙ ap (side s) e ∙ sym (getD-sides s (differencesOf l) 
 
 -- ---- pieces
 
-length-differencesOf : (l : List ℕ) → length (differencesOf l) ≡ half l
+pub length-differencesOf : (l : List ℕ) → length (differencesOf l) ≡ half l
 length-differencesOf l = length-differences 0 (pointsOf l) ∙ length-points l
 
 pub length-side : (s : Side) (l : List ℕ) → length (sides s l) ≡ half l
