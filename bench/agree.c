@@ -57,7 +57,7 @@ static void run_ours(struct world *w, const struct call *c)
     case BEGIN: w->answer = pbm_begin(r, rl, i, il, c->x); break;
     case CONTINUE: w->answer = pbm_continue(r, rl, i, il, c->x, &x[0]); break;
     case STATUS: w->answer = pbm_status(r, rl, &x[0], &x[1], &x[2], &x[3], &x[4], &x[5]); break;
-    case LOCATE: w->answer = pbm_locate(r, rl, c->x, &x[0], &x[1]); break;
+    case LOCATE: w->answer = pbm_locate(r, rl, c->x, &x[0], &x[1], &x[2], &x[3]); break;
     default: w->answer = pbm_owner(r, rl, c->x, c->y, &x[0], &x[1]);
     }
 }
@@ -88,7 +88,7 @@ static void run_peer(struct world *w, const struct call *c)
     case BEGIN: w->answer = peer_begin(r, rl, i, il, c->x); break;
     case CONTINUE: w->answer = peer_continue(r, rl, i, il, c->x, &x[0]); break;
     case STATUS: w->answer = peer_status(r, rl, &x[0], &x[1], &x[2], &x[3], &x[4], &x[5]); break;
-    case LOCATE: w->answer = peer_locate(r, rl, c->x, &x[0], &x[1]); break;
+    case LOCATE: w->answer = peer_locate(r, rl, c->x, &x[0], &x[1], &x[2], &x[3]); break;
     default: w->answer = peer_owner(r, rl, c->x, c->y, &x[0], &x[1]);
     }
 }
@@ -297,10 +297,11 @@ static bool histories(struct random *r, struct shape h, runner *peer)
 
 static bool same_blocks(struct shape h, const uint8_t *record)
 {
-    uint64_t x[2], y[2];
+    uint64_t x[4], y[4];
     for (uint64_t b = 0; b <= (uint64_t)h.stripes * (h.n + h.m - 1); b++)
-        if (pbm_locate(record, PBM_RECORD_LEN, b, &x[0], &x[1]) != peer_locate(record, PBM_RECORD_LEN, b, &y[0], &y[1]) ||
-            x[0] != y[0] || x[1] != y[1])
+        if (pbm_locate(record, PBM_RECORD_LEN, b, &x[0], &x[1], &x[2], &x[3]) !=
+                peer_locate(record, PBM_RECORD_LEN, b, &y[0], &y[1], &y[2], &y[3]) ||
+            memcmp(x, y, sizeof x) != 0)
             return false;
     return true;
 }

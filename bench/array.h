@@ -29,7 +29,8 @@ struct stripe {
 
 struct place {
     struct stripe stripe;
-    uint32_t disk;
+    uint32_t disk, parity;
+    bool moved;
 };
 
 static inline uint32_t min(uint32_t x, uint32_t y) { return x < y ? x : y; }
@@ -161,10 +162,16 @@ static inline bool is_moved(const struct array *a, struct stripe x, uint32_t lag
     return (nth < a->m) & ((x.zone * a->m + nth) * a->n + lag < a->moves); /* in the tail no index is below the total */
 }
 
-static inline uint32_t disk_now(const struct array *a, struct stripe x, uint32_t disk)
+/* Where what stood on this disk stands, by its lag and if it is moved. */
+static inline uint32_t disk_now(struct stripe x, uint32_t disk, uint32_t lag, bool moved)
 {
-    uint32_t lag = behind(a, x, disk);
-    return disk + only_if(is_moved(a, x, lag), x.within + lag - disk);
+    return disk + only_if(moved, x.within + lag - disk);
+}
+
+/* Of the parity, whose lag is 0. */
+static inline uint32_t parity_now(const struct array *a, struct stripe x)
+{
+    return disk_now(x, x.parity, 0, is_moved(a, x, 0));
 }
 
 /*
@@ -209,7 +216,9 @@ static inline struct place old_place(const struct array *a, uint32_t block)
 {
     struct stripe x = stripe_at(a, block / (a->n - 1));
     uint32_t up = a->n - 1 - block % (a->n - 1);
-    return (struct place){x, disk_now(a, x, up - (x.parity >= up))};
+    uint32_t disk = up - (x.parity >= up), lag = behind(a, x, disk);
+    bool moved = is_moved(a, x, lag);
+    return (struct place){x, disk_now(x, disk, lag, moved), parity_now(a, x), moved};
 }
 
 /* Where new block k stands, unless it is past the end: its own stripe tells, and no capacity is worked out. */
@@ -220,7 +229,7 @@ static inline uint8_t locate_new(const struct array *a, uint64_t k, struct place
     struct stripe x = stripe_at(a, (uint32_t)k / a->m);
     if (!is_open(a, x))
         return PBM_PAST_THE_END;
-    *q = (struct place){x, nth_blank(a, x, (uint32_t)k % a->m)};
+    *q = (struct place){x, nth_blank(a, x, (uint32_t)k % a->m), parity_now(a, x), false};
     return PBM_DONE;
 }
 

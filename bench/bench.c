@@ -45,8 +45,8 @@ static const char notes[] =
     "  and those of the tail mix. A tail is less than a group: of an array out of cache it is a small part, and not measured.\n"
     "- *points pack* and *points unpack* go from the places of the blocks into one buffer, as read does, and are lent nothing\n"
     "  else. The bytes are random: the time does not depend on them.\n"
-    "- Targets are set for B = 4096, for points in cache alone, and at B = 64 for a write whose disk is out and a rebuild by\n"
-    "  64. locate and owner read the record alone.\n"
+    "- Targets are set for B = 4096, for points in cache alone, and at B = 64 for read, write, locate, a write whose disk is\n"
+    "  out and a rebuild by 64. locate and owner read the record alone.\n"
     "- view returns a reference and is not exported to C. A read of a block of 32 bytes makes the same tests and finds the\n"
     "  same place; it also copies 32 bytes, which view does not. It is given against C's read of the same and C's view.\n";
 

@@ -52,10 +52,11 @@ static void writes(struct stage *s, const struct set *c, struct lent l, size_t t
 static void locates(struct stage *s, const struct set *c, struct lent l, size_t times)
 {
     (void)s;
-    uint64_t stripe, disk;
+    uint64_t stripe, disk, parity, moved;
     for (size_t i = 0; i < times; i++) {
-        must(c->locate(l.record, PBM_RECORD_LEN, l.blocks.items[i % l.blocks.count], &stripe, &disk) == 0, "locate");
-        sink += stripe + disk;
+        uint32_t block = l.blocks.items[i % l.blocks.count];
+        must(c->locate(l.record, PBM_RECORD_LEN, block, &stripe, &disk, &parity, &moved) == 0, "locate");
+        sink += stripe + disk + parity + moved;
     }
 }
 

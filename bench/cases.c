@@ -81,7 +81,7 @@ static struct contestant copier(struct list places)
 static void reading_from(struct stage *s, struct settings set, struct report *report, const char *name,
                          const uint8_t record[PBM_RECORD_LEN], struct list l, struct list places)
 {
-    struct series x = {name, {reader("library", pbm_read, l), held(reader("C", peer_read, l), 0.95, 0.6),
+    struct series x = {name, {reader("library", pbm_read, l), held_short(held(reader("C", peer_read, l), 0.95, 0.6), 0.95),
                               copier(places)}, places.count > 0 ? 3 : 2, 1};
     lend(s, record);
     series_run(&x, s, set, report);
@@ -169,7 +169,7 @@ static void reading_not_rebuilt(struct stage *s, struct settings set, struct rep
 static void writing_to(struct stage *s, struct settings set, struct report *report, const char *name,
                        const uint8_t record[PBM_RECORD_LEN], struct list l, bool at_will_too)
 {
-    struct series x = {name, {writer("library", pbm_write, l), held(writer("C", peer_write, l), 0.92, 0.9),
+    struct series x = {name, {writer("library", pbm_write, l), held_short(held(writer("C", peer_write, l), 0.92, 0.9), 0.95),
                               writer("C, at will", peer_write_at_will, l)}, at_will_too ? 3 : 2, 1};
     lend(s, record);
     series_run(&x, s, set, report);
@@ -317,7 +317,8 @@ static void locating(struct stage *s, struct settings set, struct report *report
 {
     struct list l = list_some_blocks(s, first, end);
     double target = record == s->grown && first == 0 ? 0 : 1;
-    struct series x = {name, {locator("library", pbm_locate, l), held(locator("C", peer_locate, l), target, target)}, 2, 1};
+    struct series x = {name, {locator("library", pbm_locate, l),
+                              held_short(held(locator("C", peer_locate, l), target, target), target)}, 2, 1};
     lend(s, record);
     series_run(&x, s, set, report);
     free(l.items);

@@ -58,16 +58,15 @@ typedef void summing(uint8_t *restrict into, const uint8_t *const *sources, unsi
 typedef void replacing(uint8_t *restrict old, uint8_t *restrict parity, const uint8_t *restrict data, size_t len);
 
 /* The parity with the data's disk out needs neither its old value nor the old block: it is the data and all the rest. */
-static void write_around(const struct array *a, uint8_t *images, struct place q, uint32_t parity, const uint8_t *data,
-                         summing *sum_up)
+static void write_around(const struct array *a, uint8_t *images, struct place q, const uint8_t *data, summing *sum_up)
 {
     const uint8_t *sources[MAX_DISKS];
     unsigned count = 0;
     sources[count++] = data;
     for (uint32_t d = 0; d < a->disks; d++)
-        if (d != q.disk && d != parity)
+        if (d != q.disk && d != q.parity)
             sources[count++] = images + offset_of(a, q.stripe.number, d);
-    sum_up(images + offset_of(a, q.stripe.number, parity), sources, count, a->block_len);
+    sum_up(images + offset_of(a, q.stripe.number, q.parity), sources, count, a->block_len);
 }
 
 /* The parity, then the block. */
@@ -97,16 +96,15 @@ __attribute__((always_inline)) static inline uint8_t write_with(summing *sum_up,
     uint8_t refused = array_reach(&a, record, record_len, images_len, block, data_len, &q);
     if (refused)
         return refused;
-    uint32_t parity = disk_now(&a, q.stripe, q.stripe.parity);
     if (is_absent(&a, q.stripe.number, q.disk)) {
-        write_around(&a, images, q, parity, data, sum_up);
+        write_around(&a, images, q, data, sum_up);
         return PBM_DONE;
     }
     uint8_t *old = images + offset_of(&a, q.stripe.number, q.disk);
-    if (is_absent(&a, q.stripe.number, parity))
+    if (is_absent(&a, q.stripe.number, q.parity))
         memcpy(old, data, a.block_len);
     else
-        put(old, images + offset_of(&a, q.stripe.number, parity), data, a.block_len);
+        put(old, images + offset_of(&a, q.stripe.number, q.parity), data, a.block_len);
     return PBM_DONE;
 }
 
@@ -237,11 +235,12 @@ uint8_t peer_status(const uint8_t *record, size_t record_len, uint64_t *capacity
     return PBM_DONE;
 }
 
-uint8_t peer_locate(const uint8_t *record, size_t record_len, uint64_t block, uint64_t *stripe, uint64_t *disk)
+uint8_t peer_locate(const uint8_t *record, size_t record_len, uint64_t block, uint64_t *stripe, uint64_t *disk,
+                    uint64_t *parity_disk, uint64_t *moved)
 {
     struct array a;
     struct place q;
-    *stripe = *disk = 0;
+    *stripe = *disk = *parity_disk = *moved = 0;
     uint8_t refused = array_open(&a, record, record_len);
     if (refused)
         return refused;
@@ -250,6 +249,8 @@ uint8_t peer_locate(const uint8_t *record, size_t record_len, uint64_t block, ui
         return refused;
     *stripe = q.stripe.number;
     *disk = q.disk;
+    *parity_disk = q.parity;
+    *moved = q.moved;
     return PBM_DONE;
 }
 

@@ -26,7 +26,8 @@ uint8_t peer_continue(uint8_t *record, size_t record_len, uint8_t *images, size_
                       uint64_t *made);
 uint8_t peer_status(const uint8_t *record, size_t record_len, uint64_t *capacity_now, uint64_t *moves, uint64_t *total,
                     uint64_t *health, uint64_t *out_disk, uint64_t *rebuilt);
-uint8_t peer_locate(const uint8_t *record, size_t record_len, uint64_t block, uint64_t *stripe, uint64_t *disk);
+uint8_t peer_locate(const uint8_t *record, size_t record_len, uint64_t block, uint64_t *stripe, uint64_t *disk,
+                    uint64_t *parity_disk, uint64_t *moved);
 uint8_t peer_owner(const uint8_t *record, size_t record_len, uint64_t stripe, uint64_t disk, uint64_t *role,
                    uint64_t *block);
 uint8_t peer_points_pack(const uint8_t *points, size_t points_len, uint8_t *packed, size_t packed_len);

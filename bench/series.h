@@ -18,7 +18,7 @@ typedef uint8_t write_call(const uint8_t *, size_t, uint8_t *, size_t, uint64_t,
 typedef uint8_t grow_call(uint8_t *, size_t, uint8_t *, size_t, uint64_t);
 typedef uint8_t begin_call(uint8_t *, size_t, const uint8_t *, size_t, uint64_t);
 typedef uint8_t step_call(uint8_t *, size_t, uint8_t *, size_t, uint64_t, uint64_t *);
-typedef uint8_t locate_call(const uint8_t *, size_t, uint64_t, uint64_t *, uint64_t *);
+typedef uint8_t locate_call(const uint8_t *, size_t, uint64_t, uint64_t *, uint64_t *, uint64_t *, uint64_t *);
 typedef uint8_t owner_call(const uint8_t *, size_t, uint64_t, uint64_t, uint64_t *, uint64_t *);
 typedef uint8_t points_call(const uint8_t *, size_t, uint8_t *, size_t);
 

@@ -103,8 +103,8 @@ typedef bool choosing(const struct stage *s, uint32_t block);
 
 static bool block_on_disk_out(const struct stage *s, uint32_t block)
 {
-    uint64_t stripe, disk;
-    must(pbm_locate(s->half, PBM_RECORD_LEN, block, &stripe, &disk) == 0, "locate");
+    uint64_t stripe, disk, parity, moved;
+    must(pbm_locate(s->half, PBM_RECORD_LEN, block, &stripe, &disk, &parity, &moved) == 0, "locate");
     return disk == OUT_DISK;
 }
 
@@ -251,8 +251,8 @@ struct list list_place_numbers(const struct stage *s, struct list blocks)
 {
     struct list l = list_of(blocks.count);
     for (; l.count < blocks.count; l.count++) {
-        uint64_t stripe, disk;
-        must(pbm_locate(s->half, PBM_RECORD_LEN, blocks.items[l.count], &stripe, &disk) == 0, "locate");
+        uint64_t stripe, disk, parity, moved;
+        must(pbm_locate(s->half, PBM_RECORD_LEN, blocks.items[l.count], &stripe, &disk, &parity, &moved) == 0, "locate");
         l.items[l.count] = (uint32_t)(disk * s->stripes + stripe);
     }
     return l;

@@ -140,9 +140,9 @@ uint64_t locates(struct stage *s, const struct contestant *c, const uint32_t *it
     uint8_t refused = 0;
     uint64_t seen = 0, start = now_ns();
     for (size_t i = 0; i < count; i++) {
-        uint64_t stripe, disk;
-        refused |= c->locate(s->record, PBM_RECORD_LEN, items[i], &stripe, &disk);
-        seen += stripe + disk;
+        uint64_t stripe, disk, parity, moved;
+        refused |= c->locate(s->record, PBM_RECORD_LEN, items[i], &stripe, &disk, &parity, &moved);
+        seen += stripe + disk + parity + moved;
     }
     return since(start, refused, seen);
 }

@@ -1,13 +1,17 @@
 /*
  * layout_svg.c - draws, as SVG on standard output, what stands where after t moves of a growth from n to n + m disks.
  *
- *     layout_svg n m t [T [first [last]]] > picture.svg
+ *     layout_svg n m t [T [first [last]]] [--block b] > picture.svg
  *
  * T is the number of stripes, 1 to 1048576: without it one group, n * (n + m). Drawn are the stripes from `first` to `last`,
  * both of them included; without `last`, from `first` (without it, from 0) as many as a group has, or as there are. Each zone
  * has a frame, and so has the tail, the stripes behind the last whole group. With m = 0 it is an array before its growth. What
  * stands on a place is asked of pbm_owner, by a record that is written here as pbm.h describes it. A bad argument is named in
  * one line on standard error, and the exit status is 1.
+ *
+ * With --block, which comes last, the drawers of block b and of its parity are lit, as pbm_locate tells them: the one place has a
+ * red frame, the other a blue one, and two more rows of the legend name their disks. Without `first` the picture begins with the
+ * block's group then, or with the tail if the block stands there; with it, the block must be in one of the stripes drawn.
  */
 #include "pbm.h"
 
@@ -24,9 +28,71 @@ enum { OLD_MIN = 3, DISKS_MAX = 16, STRIPES_MAX = 1048576, DRAWN_MAX = 1024 };
 static unsigned n, m, T, t, first, last;
 static uint8_t now[PBM_RECORD_LEN], before[PBM_RECORD_LEN];
 
+/* The block to light, if one is: where it stands, on which disk of that stripe its parity does, and if the block was moved. */
+static struct light { int is_asked; unsigned block, stripe, disk, parity_disk, moved; } lit;
+
 static unsigned group(void) { return n * (n + m); }
 static unsigned total(void) { return T / group() * n * n * m; }
 static unsigned lesser(unsigned a, unsigned b) { return a < b ? a : b; }
+
+/* ---- what stands where */
+
+/* Least byte first. */
+static void put(uint8_t *bytes, int count, unsigned value)
+{
+    for (int i = 0; i < count; i++) bytes[i] = (uint8_t)(value >> (8 * i));
+}
+
+/* All other bytes are 0. The block length, 1 here, has no part in the layout. */
+static void set_record(uint8_t *record, unsigned new_disks, unsigned moves)
+{
+    put(record + PBM_AT_N, 1, n);
+    put(record + PBM_AT_M, 1, new_disks);
+    put(record + PBM_AT_BLOCK_LEN, 2, 1);
+    put(record + PBM_AT_STRIPES, 4, T);
+    put(record + PBM_AT_MOVES, 4, moves);
+}
+
+/* A call that is not refused, for these arguments. */
+static void must(const char *call, uint8_t number)
+{
+    if (number == PBM_DONE) return;
+    fprintf(stderr, "layout_svg: %s is refused: %u %s\n", call, number, pbm_word(number));
+    exit(1);
+}
+
+static unsigned capacity(void)
+{
+    uint64_t blocks, moves, all, health, out_disk, rebuilt;
+    must("status", pbm_status(now, PBM_RECORD_LEN, &blocks, &moves, &all, &health, &out_disk, &rebuilt));
+    return (unsigned)blocks;
+}
+
+struct owner { uint64_t role, block; };
+
+static struct owner owner_by(const uint8_t *record, unsigned stripe, unsigned disk)
+{
+    struct owner owner;
+    must("owner", pbm_owner(record, PBM_RECORD_LEN, stripe, disk, &owner.role, &owner.block));
+    return owner;
+}
+
+/* What stands on a disk of a stripe, and the disk on which that stood before the growth: n if on none. */
+struct place { unsigned role, block, disk, home; };
+
+static struct place place_at(unsigned stripe, unsigned disk)
+{
+    struct owner owner = owner_by(now, stripe, disk);
+    unsigned home = 0; /* a move stays in its stripe: look there */
+    for (; home < n; home++) {
+        struct owner old = owner_by(before, stripe, home);
+        if (old.role == owner.role && old.block == owner.block) break;
+    }
+    return (struct place){(unsigned)owner.role, (unsigned)owner.block, disk, home};
+}
+
+static int is_new(struct place p) { return p.role == PBM_DATA && p.home == n; }
+static int is_moved(struct place p) { return p.home < n && p.home != p.disk; }
 
 /* ---- the arguments */
 
@@ -49,69 +115,50 @@ static unsigned argument(const char *name, const char *text, unsigned from, unsi
     return (unsigned)value;
 }
 
-static void take(int argc, char **argv)
+static void take_growth(int argc, char **argv)
 {
-    if (argc < 4 || argc > 7) {
-        fprintf(stderr, "usage: layout_svg n m t [T [first [last]]] > picture.svg\n");
-        exit(1);
-    }
     n = argument("n", argv[1], OLD_MIN, DISKS_MAX, "");
     m = argument("m", argv[2], 0, DISKS_MAX, "");
     T = argc > 4 ? argument("T", argv[4], 1, STRIPES_MAX, "") : group();
     t = argument("t", argv[3], 0, total(), ", n * n * m for each whole group of n * (n + m) stripes");
-    first = argc > 5 ? argument("first", argv[5], 0, T - 1, ", which is T - 1") : 0;
+    set_record(now, m, t);
+    set_record(before, 0, 0);
+}
+
+static void take_block(const char *text)
+{
+    unsigned block = argument("block", text, 0, capacity() - 1, ": below the capacity");
+    uint64_t stripe, disk, parity_disk, moved;
+    must("locate", pbm_locate(now, PBM_RECORD_LEN, block, &stripe, &disk, &parity_disk, &moved));
+    lit = (struct light){1, block, (unsigned)stripe, (unsigned)disk, (unsigned)parity_disk, (unsigned)moved};
+}
+
+static void take_stripes(int argc, char **argv)
+{
+    unsigned begin = lit.stripe / group() * group(); /* 0 if no block is lit */
+    first = argc > 5 ? argument("first", argv[5], 0, T - 1, ", which is T - 1") : begin;
     last = argc > 6 ? argument("last", argv[6], first, lesser(T - 1, first + DRAWN_MAX - 1),
                                ": below T, and at most 1024 stripes in a picture")
                     : lesser(T - 1, first + group() - 1);
-}
-
-/* ---- what stands where */
-
-/* Least byte first. */
-static void put(uint8_t *bytes, int count, unsigned value)
-{
-    for (int i = 0; i < count; i++) bytes[i] = (uint8_t)(value >> (8 * i));
-}
-
-/* All other bytes are 0. The block length, 1 here, has no part in the layout. */
-static void set_record(uint8_t *record, unsigned new_disks, unsigned moves)
-{
-    put(record + PBM_AT_N, 1, n);
-    put(record + PBM_AT_M, 1, new_disks);
-    put(record + PBM_AT_BLOCK_LEN, 2, 1);
-    put(record + PBM_AT_STRIPES, 4, T);
-    put(record + PBM_AT_MOVES, 4, moves);
-}
-
-struct owner { uint64_t role, block; };
-
-static struct owner owner_by(const uint8_t *record, unsigned stripe, unsigned disk)
-{
-    struct owner owner;
-    uint8_t number = pbm_owner(record, PBM_RECORD_LEN, stripe, disk, &owner.role, &owner.block);
-    if (number != PBM_DONE) { /* not for these arguments */
-        fprintf(stderr, "layout_svg: owner is refused: %u %s\n", number, pbm_word(number));
+    if (lit.is_asked && (lit.stripe < first || lit.stripe > last)) {
+        fprintf(stderr, "layout_svg: block is '%u': it stands in stripe %u, and drawn are stripes %u to %u\n", lit.block,
+                lit.stripe, first, last);
         exit(1);
     }
-    return owner;
 }
 
-/* What stands on a disk of a stripe, and the disk on which that stood before the growth: n if on none. */
-struct place { unsigned role, block, disk, home; };
-
-static struct place place_at(unsigned stripe, unsigned disk)
+static void take(int argc, char **argv)
 {
-    struct owner owner = owner_by(now, stripe, disk);
-    unsigned home = 0; /* a move stays in its stripe: look there */
-    for (; home < n; home++) {
-        struct owner old = owner_by(before, stripe, home);
-        if (old.role == owner.role && old.block == owner.block) break;
+    const char *block = argc > 2 && strcmp(argv[argc - 2], "--block") == 0 ? argv[argc - 1] : NULL;
+    if (block != NULL) argc -= 2;
+    if (argc < 4 || argc > 7) {
+        fprintf(stderr, "usage: layout_svg n m t [T [first [last]]] [--block b] > picture.svg\n");
+        exit(1);
     }
-    return (struct place){(unsigned)owner.role, (unsigned)owner.block, disk, home};
+    take_growth(argc, argv);
+    if (block != NULL) take_block(block);
+    take_stripes(argc, argv);
 }
-
-static int is_new(struct place p) { return p.role == PBM_DATA && p.home == n; }
-static int is_moved(struct place p) { return p.home < n && p.home != p.disk; }
 
 /* ---- the picture: disks across, stripes down */
 
@@ -136,9 +183,17 @@ static unsigned y_of(unsigned stripe)
     return TOP + (stripe - first) * (HIGH + GAP) + (frame_of(stripe) - frame_of(first)) * BETWEEN;
 }
 
-#define NOTE "<text x=\"%u\" y=\"17\" font-size=\"10\" text-anchor=\"end\">"
+/* The colour of the frame in a place whose drawer is lit, the block's or its parity's; no other has one. */
+static const char *light_at(unsigned stripe, unsigned disk)
+{
+    if (!lit.is_asked || stripe != lit.stripe) return NULL;
+    return disk == lit.disk ? "#d1001f" : disk == lit.parity_disk ? "#0063b2" : NULL;
+}
 
-static void draw(unsigned x, unsigned y, struct place p, const char *title)
+#define NOTE "<text x=\"%u\" y=\"17\" font-size=\"10\" text-anchor=\"end\">"
+#define LIGHT "<rect x=\"3.5\" y=\"3.5\" width=\"%u\" height=\"%d\" rx=\"1\" fill=\"none\" stroke=\"%s\" stroke-width=\"4\"/>"
+
+static void draw(unsigned x, unsigned y, struct place p, const char *light, const char *title)
 {
     const char *fill = p.role == PBM_BLANK ? "none" : p.role == PBM_PARITY ? "#e9b44c" : is_new(p) ? "#cfe7f7" : "#fff";
     const char *edge = p.role == PBM_BLANK ? " stroke-dasharray=\"3 4\"" : is_moved(p) ? " stroke-width=\"3\"" : "";
@@ -148,6 +203,7 @@ static void draw(unsigned x, unsigned y, struct place p, const char *title)
     if (p.role == PBM_DATA) printf("<text x=\"9\" y=\"18\">%u</text>", p.block);
     if (is_new(p)) printf(NOTE "new</text>", wide() - 7);
     if (is_moved(p)) printf(NOTE "from %u</text>", wide() - 7, p.home);
+    if (light != NULL) printf(LIGHT, wide() - 7, HIGH - 7, light);
     printf("</g>\n");
 }
 
@@ -160,7 +216,7 @@ static void draw_place(unsigned stripe, unsigned disk)
     if (p.role == PBM_PARITY) len += sprintf(title + len, "parity");
     if (p.role == PBM_DATA) len += sprintf(title + len, is_new(p) ? "new block %u" : "block %u", p.block);
     if (is_moved(p)) sprintf(title + len, ", from disk %u", p.home);
-    draw(x_of(disk), y_of(stripe), p, title);
+    draw(x_of(disk), y_of(stripe), p, light_at(stripe, disk), title);
 }
 
 /* The name of a zone or of the tail, upright beside its rows: as much of it as has room there, and "tail" always has. */
@@ -203,6 +259,13 @@ static void draw_heads(void)
     }
 }
 
+static void draw_row(unsigned x, unsigned row, struct place sample, const char *light, const char *words)
+{
+    unsigned y = TOP + row * (HIGH + GAP);
+    draw(x, y, sample, light, "legend");
+    printf("<text x=\"%u\" y=\"%u\">%s</text>\n", x + wide() + 10, y + 18, words);
+}
+
 static void draw_legend(unsigned x)
 {
     struct { struct place sample; const char *words; } rows[LEGEND_ROWS] = {
@@ -213,21 +276,26 @@ static void draw_legend(unsigned x)
         {{PBM_DATA, 30, 3, n}, "a new block"},
         {{PBM_BLANK, 0, 3, n}, "blank: zeroes"},
     };
-    for (unsigned i = 0; i < LEGEND_ROWS; i++) {
-        unsigned y = TOP + i * (HIGH + GAP);
-        draw(x, y, rows[i].sample, "legend");
-        printf("<text x=\"%u\" y=\"%u\">%s</text>\n", x + wide() + 10, y + 18, rows[i].words);
-    }
+    for (unsigned i = 0; i < LEGEND_ROWS; i++) draw_row(x, i, rows[i].sample, NULL, rows[i].words);
+}
+
+/* What is lit, as it is drawn, in two rows below the legend. */
+static void draw_lit(unsigned x)
+{
+    unsigned stripe = lit.stripe, disk = lit.disk, parity_disk = lit.parity_disk;
+    char words[64];
+    sprintf(words, lit.moved ? "block %u, moved to disk %u" : "block %u, on disk %u", lit.block, disk);
+    draw_row(x, LEGEND_ROWS, place_at(stripe, disk), light_at(stripe, disk), words);
+    sprintf(words, "its parity, on disk %u", parity_disk);
+    draw_row(x, LEGEND_ROWS + 1, place_at(stripe, parity_disk), light_at(stripe, parity_disk), words);
 }
 
 int main(int argc, char **argv)
 {
     take(argc, argv);
-    set_record(now, m, t);
-    set_record(before, 0, 0);
 
-    unsigned legend = x_of(n + m) + 6 * GAP, width = legend + wide() + LEGEND;
-    unsigned bottom = y_of(last), least = TOP + (LEGEND_ROWS - 1) * (HIGH + GAP);
+    unsigned legend = x_of(n + m) + 6 * GAP, width = legend + wide() + LEGEND, rows = LEGEND_ROWS + (lit.is_asked ? 2 : 0);
+    unsigned bottom = y_of(last), least = TOP + (rows - 1) * (HIGH + GAP);
     unsigned height = (bottom > least ? bottom : least) + HIGH + 20;
     printf("<svg xmlns=\"http://www.w3.org/2000/svg\" version=\"1.1\" width=\"%u\" height=\"%u\" viewBox=\"0 0 %u %u\" "
            "font-family=\"sans-serif\" font-size=\"14\">\n", width, height, width, height);
@@ -235,6 +303,7 @@ int main(int argc, char **argv)
     draw_heads();
     for (unsigned number = frame_of(first); number <= frame_of(last); number++) draw_frame(number);
     draw_legend(legend);
+    if (lit.is_asked) draw_lit(legend);
     printf("</svg>\n");
     if (fflush(stdout) != 0 || ferror(stdout)) {
         fprintf(stderr, "layout_svg: the picture cannot be written\n");

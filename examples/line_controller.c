@@ -6,7 +6,7 @@
  * while the line runs; halfway it fails again, and is rebuilt from its first stripe on. New blocks are used as they come, with
  * each zone that is finished. The disks are of no round size: a tail is left behind the groups that move. Each block that the
  * saw reads is compared, point by point, with what the scanner last wrote to it, which this program keeps in a plain array of
- * its own.
+ * its own. When a disk is lost, service is told for every block which drawer it is in, and in which its parity is.
  *
  *     line_controller [seed]
  *
@@ -47,9 +47,11 @@ static size_t images_len;
 /* The points that each block was last given: zeroes at first. */
 static uint16_t given[BLOCKS_AFTER][POINTS];
 
-/* Where each new block stood when it came. */
-struct place { uint64_t stripe, disk; };
-static struct place came[BLOCKS_AFTER - BLOCKS_BEFORE];
+/* Where a block stands, on which disk of that stripe its parity does, and if a move carried the block itself. */
+struct place { uint64_t stripe, disk, parity_disk, moved; };
+
+/* Where each block stood when it came, with the format or with a zone. */
+static struct place came[BLOCKS_AFTER];
 
 /*
  * Calls for a block: all; those for one on a lost disk, and for a new one in mid-growth; while a disk is rebuilt, those in the
@@ -115,8 +117,17 @@ static struct status status(void)
 static struct place place_of(uint64_t block)
 {
     struct place p;
-    must("locate", pbm_locate(record, sizeof record, block, &p.stripe, &p.disk));
+    must("locate", pbm_locate(record, sizeof record, block, &p.stripe, &p.disk, &p.parity_disk, &p.moved));
     return p;
+}
+
+struct owner { uint64_t role, block; };
+
+static struct owner owner_of(uint64_t stripe, uint64_t disk)
+{
+    struct owner o;
+    must("owner", pbm_owner(record, sizeof record, stripe, disk, &o.role, &o.block));
+    return o;
 }
 
 static void count_call(struct calls *calls, uint64_t block)
@@ -238,13 +249,18 @@ static void log_passes_in(uint64_t stripe)
     saw_reads(block);
 }
 
+static void blocks_come(uint64_t first, uint64_t end)
+{
+    for (uint64_t block = first; block < end; block++) came[block] = place_of(block);
+}
+
 /* New blocks hold zeroes until they are written: every other one is, the rest wait for a log. */
 static void new_blocks_come(uint64_t first, uint64_t end)
 {
+    blocks_come(first, end);
     for (uint64_t block = first; block < end; block++) {
         uint64_t k = block - BLOCKS_BEFORE;
-        came[k] = place_of(block);
-        must_be("stripe of a new block", came[k].stripe, k / NEW);
+        must_be("stripe of a new block", came[block].stripe, k / NEW);
         saw_reads(block);
         if (k % 2 == 0) scanner_writes(block);
     }
@@ -254,8 +270,11 @@ static void new_blocks_stay(void)
 {
     uint64_t capacity = status().capacity;
     for (uint64_t block = BLOCKS_BEFORE; block < capacity; block++) {
-        must_be("stripe of a new block", place_of(block).stripe, came[block - BLOCKS_BEFORE].stripe);
-        must_be("disk of a new block", place_of(block).disk, came[block - BLOCKS_BEFORE].disk);
+        struct place p = place_of(block);
+        must_be("stripe of a new block", p.stripe, came[block].stripe);
+        must_be("disk of a new block", p.disk, came[block].disk);
+        must_be("disk of a new block's parity", p.parity_disk, came[block].parity_disk);
+        must_be("a new block is moved", p.moved, 0);
     }
     printf("    all %" PRIu64 " new blocks stand where they stood when they came\n", capacity - BLOCKS_BEFORE);
 }
@@ -333,6 +352,22 @@ static void must_tell(uint64_t health, uint64_t disk, uint64_t rebuilt)
 }
 
 /*
+ * For each block service can light its drawer and that of its parity, also where one of them is lost. The block was moved if it
+ * stands on another disk than it came to, whatever its parity did.
+ */
+static void drawers_are_told(void)
+{
+    uint64_t capacity = status().capacity;
+    for (uint64_t block = 0; block < capacity; block++) {
+        struct place p = place_of(block);
+        must_be("what the drawer of a block holds", owner_of(p.stripe, p.disk).role, PBM_DATA);
+        must_be("the block in a drawer", owner_of(p.stripe, p.disk).block, block);
+        must_be("what the drawer of a parity holds", owner_of(p.stripe, p.parity_disk).role, PBM_PARITY);
+        must_be("a block is moved", p.moved, p.disk != came[block].disk);
+    }
+}
+
+/*
  * What a lost disk holds is of no matter: here, 0xEE in every byte at first. It may be the one that is being rebuilt: what was
  * done of it is gone.
  */
@@ -345,6 +380,7 @@ static void lose(uint64_t disk)
     printf("disk %" PRIu64 " is lost", disk);
     if (rebuilt > 0) printf(", and with it the %" PRIu64 " stripes rebuilt", rebuilt);
     printf("\n");
+    drawers_are_told();
 }
 
 /* A bar of ten: a # for each tenth that is done. */
@@ -417,6 +453,7 @@ int main(int argc, char **argv)
     mount(pbm_images_len(OLD, BLOCK, STRIPES));
     must("format", pbm_format(record, sizeof record, images, images_len, OLD, BLOCK, STRIPES));
     printf("%d disks are formatted: %d blocks of %d bytes\n", OLD, BLOCKS_BEFORE, BLOCK);
+    blocks_come(0, BLOCKS_BEFORE);
     logs_pass(2000);
     saw_reads_all();
 

@@ -50,7 +50,7 @@
  *     tells the capacity, which never falls in a growth. A new block that has not come is refused, 8.
  *   - A new block may be used at once, while other zones move. It is zero until it is written; then it holds what it was
  *     last given, as all others do, with a disk out, while it is rebuilt and behind that too.
- *   - It never moves: what pbm_locate tells of it stays so.
+ *   - It never moves: what pbm_locate tells of it stays so, its parity's disk too.
  *
  * A DISK THAT IS OUT
  *   may hold any bytes. Only pbm_format and pbm_continue touch it, which write it; no other call reads or writes a byte of
@@ -311,11 +311,15 @@ uint8_t pbm_status(const uint8_t *record, size_t record_len, uint64_t *capacity,
                    uint64_t *total, uint64_t *health, uint64_t *out_disk, uint64_t *rebuilt);
 
 /*
- * Tells the stripe and the disk on which block `block` now stands, whether that disk is out or not.
- * Lent: record, read; the two numbers, written.
+ * Tells where block `block` now stands, whether disks are out or not: its stripe and its disk, the disk on which the parity
+ * of that stripe stands, and if a move now done has carried the block itself (1; else 0: the block stands where it stood
+ * before the growth, or is new, even if the parity was carried). So a fitter can light the drawer of a block and that of its
+ * parity.
+ * Lent: record, read; the four numbers, written.
  * Refusals: 1 record, 8 past the end.
  */
-uint8_t pbm_locate(const uint8_t *record, size_t record_len, uint64_t block, uint64_t *stripe, uint64_t *disk);
+uint8_t pbm_locate(const uint8_t *record, size_t record_len, uint64_t block, uint64_t *stripe, uint64_t *disk,
+                   uint64_t *parity_disk, uint64_t *moved);
 
 /*
  * Tells what now stands on disk `disk` of stripe `stripe`: its role (PBM_BLANK, PBM_PARITY or PBM_DATA) and the number

@@ -27,6 +27,9 @@ enum {
     ZONE_LATE,    /* status tells no new block before the growth is over */
     NEW_SPOILED,  /* the first move of a zone zeroes the new blocks of the zone before, as if they were blanks still */
     NEW_MOVED,    /* the new blocks of a stripe are counted from the highest disk, and with the last move from the lowest */
+    OLD_LIGHT,    /* locate tells the disk on which the parity stood before the growth */
+    NOT_TOLD,     /* locate tells of no block that it was moved */
+    BY_PARITY,    /* locate tells that a block was moved if its parity alone was */
     NO_CARRY,     /* points unpack sums the low bytes and the high bytes each by themselves */
     RUN_ON,       /* points unpack takes the first point from the last one of the call before, not from 0 */
     TURNED,       /* points pack takes each point from the one before it, and points unpack undoes that */
@@ -39,6 +42,7 @@ uint8_t __real_pbm_advance(uint8_t *, size_t, uint8_t *, size_t, uint64_t, uint6
 uint8_t __real_pbm_out(uint8_t *, size_t, uint64_t);
 uint8_t __real_pbm_continue(uint8_t *, size_t, uint8_t *, size_t, uint64_t, uint64_t *);
 uint8_t __real_pbm_status(const uint8_t *, size_t, uint64_t *, uint64_t *, uint64_t *, uint64_t *, uint64_t *, uint64_t *);
+uint8_t __real_pbm_locate(const uint8_t *, size_t, uint64_t, uint64_t *, uint64_t *, uint64_t *, uint64_t *);
 uint8_t __real_pbm_points_pack(const uint8_t *, size_t, uint8_t *, size_t);
 uint8_t __real_pbm_points_unpack(const uint8_t *, size_t, uint8_t *, size_t);
 
@@ -70,6 +74,14 @@ static struct figures figures(const uint8_t *record)
     uint64_t done, health, out_disk, stripes;
     __real_pbm_status(record, PBM_RECORD_LEN, &f.capacity, &done, &f.total, &health, &out_disk, &stripes);
     return f;
+}
+
+/* Where a block stands, without a fault. */
+struct place { uint64_t stripe, disk, parity_disk, moved; };
+
+static uint8_t locate(const uint8_t *record, uint64_t block, struct place *p)
+{
+    return __real_pbm_locate(record, PBM_RECORD_LEN, block, &p->stripe, &p->disk, &p->parity_disk, &p->moved);
 }
 
 /* The block that this number stands for. */
@@ -107,15 +119,15 @@ static uint8_t *copy_of(const uint8_t *bytes, size_t len)
 uint8_t __wrap_pbm_read(const uint8_t *record, size_t record_len, const uint8_t *images, size_t images_len, uint64_t block,
                         uint8_t *into, size_t into_len)
 {
-    uint64_t stripe, disk;
+    struct place p;
     uint8_t old[PBM_RECORD_LEN];
-    pbm_locate(record, record_len, block, &stripe, &disk);
-    meant_record(old, record, stripe, 0, FAULT == READ_AHEAD);
+    locate(record, block, &p);
+    meant_record(old, record, p.stripe, 0, FAULT == READ_AHEAD);
     if (FAULT == READ_REFUSED && moves(record) >= 300) return PBM_PAST_THE_END;
     if (FAULT == OLD_RECORD && moves(record) > 0) {
         int i = PBM_AT_MOVES;
         while (old[i]-- == 0) i++;
-        if (pbm_locate(old, record_len, block, &stripe, &disk) != PBM_DONE) memcpy(old, record, sizeof old);
+        if (locate(old, block, &p) != PBM_DONE) memcpy(old, record, sizeof old);
     }
     return __real_pbm_read(old, record_len, images, images_len, meant(record, block), into, into_len);
 }
@@ -123,15 +135,14 @@ uint8_t __wrap_pbm_read(const uint8_t *record, size_t record_len, const uint8_t 
 uint8_t __wrap_pbm_write(const uint8_t *record, size_t record_len, uint8_t *images, size_t images_len, uint64_t block,
                          const uint8_t *data, size_t data_len)
 {
-    uint64_t stripe, disk, role = PBM_BLANK, none;
+    struct place p;
     uint8_t answer, *parity, *copy, by[PBM_RECORD_LEN];
     block = meant(record, block);
-    pbm_locate(record, record_len, block, &stripe, &disk);
-    if (FAULT == LOST_WRITE && disk >= record[PBM_AT_N] && block < old_blocks(record)) return PBM_DONE;
-    for (disk = 0; role != PBM_PARITY; disk++) pbm_owner(record, record_len, stripe, disk, &role, &none);
-    parity = images + (disk - 1) * disk_len(record) + stripe * block_len(record);
+    locate(record, block, &p);
+    if (FAULT == LOST_WRITE && p.moved) return PBM_DONE;
+    parity = images + p.parity_disk * disk_len(record) + p.stripe * block_len(record);
     copy = copy_of(parity, block_len(record));
-    meant_record(by, record, stripe, FAULT == SKIPPED, FAULT == COUNTED_ON);
+    meant_record(by, record, p.stripe, FAULT == SKIPPED, FAULT == COUNTED_ON);
     answer = __real_pbm_write(by, record_len, images, images_len, block, data, data_len);
     if (FAULT == OLD_PARITY) memcpy(parity, copy, block_len(record));
     free(copy);
@@ -193,6 +204,16 @@ uint8_t __wrap_pbm_status(const uint8_t *record, size_t record_len, uint64_t *ca
     uint8_t answer = __real_pbm_status(record, record_len, capacity, done, total, health, out_disk, stripes);
     if (FAULT == ZONE_EARLY && *done < *total && *done % zone_moves(record) > 0) *capacity += zone_blocks(record);
     if (FAULT == ZONE_LATE && *done < *total) *capacity = old_blocks(record);
+    return answer;
+}
+
+uint8_t __wrap_pbm_locate(const uint8_t *record, size_t record_len, uint64_t block, uint64_t *stripe, uint64_t *disk,
+                          uint64_t *parity_disk, uint64_t *moved)
+{
+    uint8_t answer = __real_pbm_locate(record, record_len, block, stripe, disk, parity_disk, moved);
+    if (FAULT == OLD_LIGHT) *parity_disk = *stripe % record[PBM_AT_N];
+    if (FAULT == NOT_TOLD) *moved = 0;
+    if (FAULT == BY_PARITY) *moved |= *parity_disk >= record[PBM_AT_N];
     return answer;
 }
 

@@ -39,9 +39,10 @@ static void show_status(void)
 
 static void show_place(uint64_t number)
 {
-    uint64_t stripe = 9, disk = 9;
-    int answer = pbm_locate(record, PBM_RECORD_LEN, number, &stripe, &disk);
-    printf("locate %d: %d (%d, %d)\n", (int)number, answer, (int)stripe, (int)disk);
+    uint64_t stripe = 9, disk = 9, parity_disk = 9, moved = 9;
+    int answer = pbm_locate(record, PBM_RECORD_LEN, number, &stripe, &disk, &parity_disk, &moved);
+    printf("locate %d: %d (%d, %d), parity on %d, moved %d\n", (int)number, answer, (int)stripe, (int)disk, (int)parity_disk,
+           (int)moved);
 }
 
 static void show_owner(uint64_t stripe, uint64_t disk)
@@ -204,6 +205,7 @@ static void show_finished_zone(void)
     uint64_t number;
     show_advance(3);
     show_status();
+    show_place(6);
     show_place(30);
     show_write(30, "past");
     show_owner(2, 1);
@@ -333,6 +335,7 @@ int main(void)
     show_owner(15, 0);
     show_owner(0, 5);
     show_place(4);
+    show_place(6);
     show_place(30);
 
     lose(3);

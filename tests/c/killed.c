@@ -148,11 +148,9 @@ static void kill_writes(void)
     uint64_t blocks = STRIPES * (OLD - 1) + 10; /* after 9 moves */
     for (number = 0; number < blocks; number++)
         for (int at_data = 0; at_data < 2; at_data++, kills++) {
-            uint64_t stripe, disk, parity, role = PBM_BLANK, none;
+            uint64_t stripe, disk, parity, moved;
             prepare(9);
-            done(pbm_locate(record, PBM_RECORD_LEN, number, &stripe, &disk));
-            for (parity = 0; role != PBM_PARITY; parity++) done(pbm_owner(record, PBM_RECORD_LEN, stripe, parity, &role, &none));
-            parity--;
+            done(pbm_locate(record, PBM_RECORD_LEN, number, &stripe, &disk, &parity, &moved));
             fill(number + 100);
             stop_at(place(stripe, at_data ? disk : parity), PROT_READ, write_block);
             for (int p = 0; p < PLACES; p++)

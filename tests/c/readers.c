@@ -41,13 +41,16 @@ static void fill(uint8_t *block, uint64_t number)
 }
 
 /* All that status, locate and owner tell. */
-struct told { uint64_t status[6], places[BLOCKS][2], owners[STRIPES][DISKS][2]; } first;
+struct told { uint64_t status[6], places[BLOCKS][4], owners[STRIPES][DISKS][2]; } first;
 
 static void ask(struct told *told)
 {
     uint64_t *s = told->status;
     done(pbm_status(record, PBM_RECORD_LEN, s, s + 1, s + 2, s + 3, s + 4, s + 5));
-    for (int b = 0; b < BLOCKS; b++) done(pbm_locate(record, PBM_RECORD_LEN, b, &told->places[b][0], &told->places[b][1]));
+    for (int b = 0; b < BLOCKS; b++) {
+        uint64_t *p = told->places[b];
+        done(pbm_locate(record, PBM_RECORD_LEN, b, p, p + 1, p + 2, p + 3));
+    }
     for (int i = 0; i < STRIPES; i++)
         for (int d = 0; d < DISKS; d++)
             done(pbm_owner(record, PBM_RECORD_LEN, i, d, &told->owners[i][d][0], &told->owners[i][d][1]));

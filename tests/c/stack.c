@@ -65,7 +65,12 @@ static void status(void)
     set(OLD, NEW, 0, 0);
     answer = pbm_status(record, sizeof record, x, x + 1, x + 2, x + 3, x + 4, x + 5);
 }
-static void locate(void) { set(OLD, NEW, 0, 0); answer = pbm_locate(record, sizeof record, 7, numbers, numbers + 1); }
+static void locate(void)
+{
+    uint64_t *x = numbers;
+    set(OLD, NEW, 0, 0);
+    answer = pbm_locate(record, sizeof record, 7, x, x + 1, x + 2, x + 3);
+}
 static void owner(void) { set(OLD, NEW, 0, 0); answer = pbm_owner(record, sizeof record, 7, 3, numbers, numbers + 1); }
 
 /* 256 moves: zone 0 is finished. Its last new block, and the place of it. */
@@ -73,7 +78,12 @@ enum { NEWEST = STRIPES * (OLD - 1) + (OLD + NEW) * NEW - 1 };
 static void set_zone(void) { set(OLD, NEW, 0, 0); record[PBM_AT_MOVES + 1] = 1; }
 static void read_new(void) { set_zone(); answer = pbm_read(record, sizeof record, images, images_len, NEWEST, block, BLOCK); }
 static void write_new(void) { set_zone(); answer = pbm_write(record, sizeof record, images, images_len, NEWEST, block, BLOCK); }
-static void locate_new(void) { set_zone(); answer = pbm_locate(record, sizeof record, NEWEST, numbers, numbers + 1); }
+static void locate_new(void)
+{
+    uint64_t *x = numbers;
+    set_zone();
+    answer = pbm_locate(record, sizeof record, NEWEST, x, x + 1, x + 2, x + 3);
+}
 static void owner_new(void)
 {
     locate_new();

@@ -1,7 +1,7 @@
-//! What an accepted call answers and leaves, byte for byte as "Calls" of document 01 and request (d) of document 02 say it, on any
-//! bytes: here nothing rests on stripes that are sound.
+//! What an accepted call answers and leaves, byte for byte as "Calls" of document 01 and requests (d) and (f) of document 02 say it,
+//! on any bytes: here nothing rests on stripes that are sound.
 
-use crate::flat::owned;
+use crate::flat::{located, owned};
 use crate::images::{disk, place, xor};
 use crate::layout::Layout;
 use crate::moves::of_growth;
@@ -64,10 +64,7 @@ impl Bytewise {
                 answer = Answer::done(&[made]);
             }
             Call::Status => answer = status(&record),
-            Call::Locate { block } => {
-                let (stripe, disk) = self.layout(&record).place(block);
-                answer = Answer::done(&[stripe, disk]);
-            }
+            Call::Locate { block } => answer = located(self.layout(&record), block),
             Call::Owner { stripe, disk } => {
                 answer = owned(self.layout(&record).owner(stripe, disk));
             }

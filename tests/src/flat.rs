@@ -80,10 +80,7 @@ impl Flat {
             Call::Begin { disk } => numbers.health = Health::Rebuilding { disk, done: 0 },
             Call::Continue { k } => return self.rebuild(k),
             Call::Status => return self.status(),
-            Call::Locate { block } => {
-                let (stripe, disk) = self.layout.place(block);
-                return Answer::done(&[stripe, disk]);
-            }
+            Call::Locate { block } => return located(&self.layout, block),
             Call::Owner { stripe, disk } => return owned(self.layout.owner(stripe, disk)),
         }
         Answer::done(&[])
@@ -129,6 +126,14 @@ impl Flat {
         let (capacity, total) = (self.capacity(), self.layout.total());
         Answer::done(&[capacity, self.numbers.moves, total, health, out, rebuilt])
     }
+}
+
+/// The answer of locate: "block place, parity place and whether a move now done, of any growth, carried the block itself". The two
+/// places are in one stripe, which is given once.
+pub fn located(layout: &Layout, block: u64) -> Answer {
+    let (stripe, disk) = layout.place(block);
+    let moved = layout.is_moved(block);
+    Answer::done(&[stripe, disk, layout.parity(stripe), moved.into()])
 }
 
 /// The answer of owner.

@@ -25,6 +25,8 @@ pub struct Layout {
     parity: Vec<u64>,
     /// Stripe and disk of each block.
     blocks: Vec<(u64, u64)>,
+    /// Of each block, whether a move took it from its disk.
+    moved: Vec<bool>,
 }
 
 impl Layout {
@@ -41,6 +43,7 @@ impl Layout {
             owners: vec![Owner::Blank; (n * stripes) as usize],
             parity: Vec::new(),
             blocks: Vec::new(),
+            moved: Vec::new(),
         };
         for stripe in 0..stripes {
             let parity = stripe % n;
@@ -83,6 +86,11 @@ impl Layout {
     /// Stripe and disk.
     pub fn place(&self, block: u64) -> (u64, u64) {
         self.blocks[block as usize]
+    }
+
+    /// "whether a move now done, of any growth, carried the block itself"
+    pub fn is_moved(&self, block: u64) -> bool {
+        self.moved[block as usize]
     }
 
     /// The moves of the growth, none before it.
@@ -142,7 +150,10 @@ impl Layout {
         );
         match moved {
             Owner::Parity => self.parity[stripe as usize] = to,
-            Owner::Data(block) => self.blocks[block as usize] = (stripe, to),
+            Owner::Data(block) => {
+                self.blocks[block as usize] = (stripe, to);
+                self.moved[block as usize] = true;
+            }
             Owner::Blank => panic!("the rule moves no blanks"),
         }
         self.put(stripe, to, moved);
@@ -164,6 +175,7 @@ impl Layout {
     fn add(&mut self, stripe: u64, disk: u64) {
         self.put(stripe, disk, Owner::Data(self.capacity()));
         self.blocks.push((stripe, disk));
+        self.moved.push(false);
     }
 
     fn put(&mut self, stripe: u64, disk: u64, owner: Owner) {

@@ -227,7 +227,8 @@ impl<M: Memory> Loan<M> {
                 }
                 Call::Locate { block } => {
                     let record = record.shared();
-                    (pbm_locate(record.as_ptr(), record.len(), block, a, b), 2)
+                    let (r, len) = (record.as_ptr(), record.len());
+                    (pbm_locate(r, len, block, a, b, c, d), 4)
                 }
                 Call::Owner { stripe, disk } => {
                     let record = record.shared();
@@ -345,6 +346,8 @@ extern "C" {
         block: u64,
         stripe: *mut u64,
         disk: *mut u64,
+        parity_disk: *mut u64,
+        moved: *mut u64,
     ) -> u8;
     fn pbm_owner(
         record: *const u8,

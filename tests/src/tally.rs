@@ -73,6 +73,15 @@ const SIGHTS: &[&str] = &[
     "grow: whole groups and a zone",
     "grow: whole groups and a zone but for 1 stripe",
     "grow: whole groups and n stripes",
+    "locate: a block not moved, its parity moved",
+    "locate: a block not moved, its parity not moved",
+    "locate: a block of the disk out",
+    "locate: a moved block, its parity moved",
+    "locate: a moved block, its parity not moved",
+    "locate: a new block, its parity moved",
+    "locate: a new block, its parity not moved",
+    "locate: a parity of the disk out",
+    "locate: the array is lost",
     "out: another disk than the one being rebuilt",
     "out: another disk than the one out",
     "out: refused 10, it is out already",
@@ -186,6 +195,7 @@ impl Tally {
                 self.note_block(call, block, flat);
                 self.note_rebuilding(call, block, flat);
             }
+            Call::Locate { block } => self.note_located(call, block, flat),
             _ => {}
         }
     }
@@ -311,7 +321,7 @@ impl Tally {
                     is_early && numbers.moves % (numbers.n * numbers.m) != 0,
                     "a new block between two moves of a later zone",
                 ),
-                (!is_new && disk >= numbers.n, "a moved block"),
+                (flat.layout.is_moved(block), "a moved block"),
                 (out(disk), "a block of the disk out"),
                 (is_new && out(disk), "a new block of the disk out"),
                 (
@@ -375,6 +385,33 @@ impl Tally {
             let words = format!("{what} of the disk being rebuilt, {side}{more}");
             self.sights(call, &[(seen, &words)]);
         }
+    }
+
+    /// By a block that is located: which of it and its parity a move has carried, and what is out.
+    fn note_located(&mut self, call: Call, block: u64, flat: &Flat) {
+        let Record { n, health, .. } = flat.numbers;
+        let (stripe, disk) = flat.layout.place(block);
+        let parity = flat.layout.parity(stripe);
+        let what = if block >= flat.numbers.old_capacity() {
+            "a new block"
+        } else if flat.layout.is_moved(block) {
+            "a moved block"
+        } else {
+            "a block not moved"
+        };
+        let beside = match parity >= n {
+            true => "its parity moved",
+            false => "its parity not moved",
+        };
+        self.sights(
+            call,
+            &[
+                (true, &format!("{what}, {beside}")),
+                (health == Health::Out(disk), "a block of the disk out"),
+                (health == Health::Out(parity), "a parity of the disk out"),
+                (health == Health::Lost, "the array is lost"),
+            ],
+        );
     }
 
     /// Counts what is seen of a call.

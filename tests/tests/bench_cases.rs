@@ -1,16 +1,18 @@
-//! "Drawers on the bench" of document 01, with what requests (a) and (b) of document 02 make of them, through the exported calls;
-//! and the first of them with other stripes, and with a disk that is rebuilt as request (d) has it, by hand. The cases of the
+//! "Drawers on the bench" of document 01, with what requests (a), (b) and (f) of document 02 make of them, through the exported
+//! calls; and the first of them with other stripes, and with a disk that is rebuilt as request (d) has it, by hand. The cases of the
 //! program are in zone_moves.rs.
 
 use yuzkamide_tests::array::Array;
 use yuzkamide_tests::pbm::{Answer, Call};
+use yuzkamide_tests::record::Health;
 
 const PAST_THE_END: Answer = Answer::refused(8);
 const BLANK: [u64; 2] = [0, 0];
 const PARITY: [u64; 2] = [1, 0];
 
-fn at(stripe: u64, disk: u64) -> Answer {
-    Answer::done(&[stripe, disk])
+/// The block's stripe and disk, the disk of its parity, and 1 if a move carried the block itself.
+fn at(stripe: u64, disk: u64, parity_disk: u64, moved: u64) -> Answer {
+    Answer::done(&[stripe, disk, parity_disk, moved])
 }
 
 fn data(block: u64) -> [u64; 2] {
@@ -59,7 +61,7 @@ fn total_18_capacity_30_then_40_50_and_60() {
 #[test]
 fn block_5_before_growth() {
     let mut array = Array::format(3, 4, 15);
-    assert_eq!(array.locate(5), at(2, 0));
+    assert_eq!(array.locate(5), at(2, 0, 2, 0));
     assert_eq!(owners(&mut array, 2), [data(5), data(4), PARITY]);
 }
 
@@ -73,14 +75,14 @@ fn move_0_takes_the_parity_of_stripe_3_from_disk_0_to_3() {
 
 #[test]
 fn move_1_takes_block_4_from_disk_1_to_3() {
-    assert_eq!(three_and_two(1).locate(4), at(2, 1));
-    assert_eq!(three_and_two(2).locate(4), at(2, 3));
+    assert_eq!(three_and_two(1).locate(4), at(2, 1, 2, 0));
+    assert_eq!(three_and_two(2).locate(4), at(2, 3, 2, 1));
 }
 
 #[test]
 fn move_2_takes_block_2_of_stripe_1_from_disk_2_to_3() {
-    assert_eq!(three_and_two(2).locate(2), at(1, 2));
-    assert_eq!(three_and_two(3).locate(2), at(1, 3));
+    assert_eq!(three_and_two(2).locate(2), at(1, 2, 1, 0));
+    assert_eq!(three_and_two(3).locate(2), at(1, 3, 1, 1));
 }
 
 /// A move copies the block and zeroes the place it left; the parity moves as a block does.
@@ -129,15 +131,142 @@ fn every_block_keeps_its_bytes() {
     }
 }
 
+/// Its parity moves first, with move 0, and the block itself with move 4.
 #[test]
 fn block_6_ends_on_disk_4() {
-    assert_eq!(three_and_two(18).locate(6), at(3, 4));
+    for moves in 0..=18 {
+        let place = match moves {
+            0 => at(3, 2, 0, 0),
+            1..=4 => at(3, 2, 3, 0),
+            _ => at(3, 4, 3, 1),
+        };
+        assert_eq!(three_and_two(moves).locate(6), place, "{moves} moves");
+    }
 }
 
 #[test]
 fn block_0_never_moves() {
     for moves in 0..=18 {
-        assert_eq!(three_and_two(moves).locate(0), at(0, 2));
+        assert_eq!(three_and_two(moves).locate(0), at(0, 2, 0, 0));
+    }
+}
+
+/// Blocks 7, 8 and 9 stay where they are, though the parity of block 7 moves with move 0, and that of the other two with move 3.
+#[test]
+fn a_parity_moves_alone() {
+    for moves in 0..=18 {
+        let mut array = three_and_two(moves);
+        let parity_of_7 = if moves < 1 { 0 } else { 3 };
+        let parity_of_8 = if moves < 4 { 1 } else { 4 };
+        assert_eq!(array.locate(7), at(3, 1, parity_of_7, 0), "{moves} moves");
+        assert_eq!(array.locate(8), at(4, 2, parity_of_8, 0), "{moves} moves");
+        assert_eq!(array.locate(9), at(4, 0, parity_of_8, 0), "{moves} moves");
+    }
+}
+
+/// Move, block, and the disk that it goes to.
+const BLOCKS_CARRIED: [(u64, u64, u64); 12] = [
+    (1, 4, 3),
+    (2, 2, 3),
+    (4, 6, 4),
+    (5, 5, 4),
+    (7, 15, 3),
+    (8, 13, 3),
+    (10, 16, 4),
+    (11, 14, 4),
+    (13, 24, 3),
+    (14, 23, 3),
+    (16, 27, 4),
+    (17, 25, 4),
+];
+
+/// Move, stripe of the parity, and the disk that it goes to.
+const PARITIES_CARRIED: [(u64, u64, u64); 6] = [
+    (0, 3, 3),
+    (3, 4, 4),
+    (6, 8, 3),
+    (9, 9, 4),
+    (12, 13, 3),
+    (15, 14, 4),
+];
+
+/// The disk that such a list has for this block or stripe, if the move is among the first ones.
+fn carried_to(list: &[(u64, u64, u64)], which: u64, moves: u64) -> Option<u64> {
+    let is_it = |&&(number, carried, _): &&(u64, u64, u64)| carried == which && number < moves;
+    list.iter().find(is_it).map(|&(_, _, to)| to)
+}
+
+/// Request (f) at every block and after every move. Before the growth the two blocks of a stripe stand on the two disks that are not
+/// the parity's, the first one on the higher.
+#[test]
+fn every_block_after_every_move() {
+    for moves in 0..=18 {
+        let mut array = three_and_two(moves);
+        for block in 0..30 {
+            let stripe = block / 2;
+            let home = [[2, 1], [2, 0], [1, 0]][stripe as usize % 3][block as usize % 2];
+            let to = carried_to(&BLOCKS_CARRIED, block, moves);
+            let parity = carried_to(&PARITIES_CARRIED, stripe, moves).unwrap_or(stripe % 3);
+            let (disk, moved) = to.map_or((home, 0), |to| (to, 1));
+            let place = at(stripe, disk, parity, moved);
+            assert_eq!(array.locate(block), place, "{block}, {moves} moves");
+        }
+    }
+}
+
+/// The disks of the two new blocks of each stripe, and of its parity.
+const NEW: [([u64; 2], u64); 15] = [
+    ([3, 4], 0),
+    ([2, 4], 1),
+    ([0, 1], 2),
+    ([0, 2], 3),
+    ([1, 3], 4),
+    ([3, 4], 2),
+    ([1, 4], 0),
+    ([0, 2], 1),
+    ([1, 2], 3),
+    ([0, 3], 4),
+    ([3, 4], 1),
+    ([0, 4], 2),
+    ([1, 2], 0),
+    ([0, 1], 3),
+    ([2, 3], 4),
+];
+
+/// A new block has moved 0 also when all moves are made, and stands beside the parity as it came.
+#[test]
+fn no_new_block_is_moved() {
+    for moves in 0..=18 {
+        let mut array = three_and_two(moves);
+        let finished = moves / 6 * 5; // stripes
+        for (stripe, (disks, parity)) in (0..finished).zip(NEW) {
+            for (block, disk) in (30 + 2 * stripe..).zip(disks) {
+                let place = at(stripe, disk, parity, 0);
+                assert_eq!(array.locate(block), place, "{block}, {moves} moves");
+            }
+        }
+        is_past_the_end(&mut array, 30 + 2 * finished);
+    }
+}
+
+/// Locate reads the record alone: it answers alike with a disk out, while one is rebuilt, and when two are out.
+#[test]
+fn both_drawers_are_told_in_every_health() {
+    for disk in 0..5 {
+        let another = (disk + 1) % 5;
+        let mut array = three_and_two(9);
+        for call in [
+            Call::Out { disk },
+            Call::Begin { disk },
+            Call::Continue { k: 4 },
+            Call::Out { disk: another },
+        ] {
+            assert_eq!(array.call(call).number, 0, "{call:?}");
+            assert_eq!(array.locate(6), at(3, 4, 3, 1), "{call:?}");
+            assert_eq!(array.locate(7), at(3, 1, 3, 0), "{call:?}");
+            assert_eq!(array.locate(39), at(4, 3, 4, 0), "{call:?}");
+        }
+        assert_eq!(array.record().health, Health::Lost);
     }
 }
 
@@ -156,11 +285,11 @@ fn is_past_the_end(array: &mut Array, block: u64) {
 fn after_17_moves_two_zones_are_done() {
     let mut array = three_and_two(17);
     for (block, place) in [
-        (30, at(0, 3)),
-        (32, at(1, 2)),
-        (39, at(4, 3)),
-        (40, at(5, 3)),
-        (49, at(9, 3)),
+        (30, at(0, 3, 0, 0)),
+        (32, at(1, 2, 1, 0)),
+        (39, at(4, 3, 4, 0)),
+        (40, at(5, 3, 2, 0)),
+        (49, at(9, 3, 4, 0)),
     ] {
         assert_eq!(array.locate(block), place);
         assert_eq!(array.read(block), [0; 4]);
@@ -168,10 +297,10 @@ fn after_17_moves_two_zones_are_done() {
     is_past_the_end(&mut array, 50);
     assert_eq!(array.advance(100), Answer::done(&[1]));
     assert_eq!(array.advance(100), Answer::refused(5));
-    assert_eq!(array.locate(30), at(0, 3));
-    assert_eq!(array.locate(32), at(1, 2));
-    assert_eq!(array.locate(50), at(10, 3));
-    assert_eq!(array.locate(59), at(14, 3));
+    assert_eq!(array.locate(30), at(0, 3, 0, 0));
+    assert_eq!(array.locate(32), at(1, 2, 1, 0));
+    assert_eq!(array.locate(50), at(10, 3, 1, 0));
+    assert_eq!(array.locate(59), at(14, 3, 4, 0));
     is_past_the_end(&mut array, 60);
     assert_eq!(array.read(30), [0; 4]);
     array.write(59, b"last");
@@ -199,7 +328,7 @@ fn the_sixth_move_finishes_zone_0() {
         [data(11), data(10), PARITY, BLANK, BLANK]
     );
     for moves in 6..=18 {
-        assert_eq!(three_and_two(moves).locate(34), at(2, 0));
+        assert_eq!(three_and_two(moves).locate(34), at(2, 0, 2, 0));
     }
     for moves in [6, 7, 11] {
         is_past_the_end(&mut three_and_two(moves), 40);
@@ -348,8 +477,9 @@ fn four_and_one_of_19_stripes() {
     }
     assert_eq!(array.grow(1), Answer::refused(4));
     for block in 57..76 {
-        assert_eq!(array.locate(block), at(block - 57, 4));
-        assert_eq!(array.owner(block - 57, 4), Answer::done(&[2, block]));
+        let stripe = block - 57;
+        assert_eq!(array.locate(block), at(stripe, 4, stripe % 4, 0));
+        assert_eq!(array.owner(stripe, 4), Answer::done(&[2, block]));
         assert_eq!(array.read(block), [0; 3]);
         array.write(block, &data(block));
     }
@@ -408,11 +538,15 @@ fn three_and_two_of_two_stripes_more() {
         [data(33), PARITY, data(32), data(66), data(67)]
     );
     for (block, place) in [
-        (34, at(0, 3)),
-        (36, at(1, 2)),
-        (63, at(14, 3)),
-        (64, at(15, 3)),
-        (67, at(16, 4)),
+        (25, at(12, 4, 0, 1)),
+        (27, at(13, 4, 3, 1)),
+        (30, at(15, 2, 0, 0)),
+        (33, at(16, 0, 1, 0)),
+        (34, at(0, 3, 0, 0)),
+        (36, at(1, 2, 1, 0)),
+        (63, at(14, 3, 4, 0)),
+        (64, at(15, 3, 0, 0)),
+        (67, at(16, 4, 1, 0)),
     ] {
         assert_eq!(array.locate(block), place);
     }
@@ -434,7 +568,8 @@ fn three_and_two_of_a_stripe_less() {
         owners(&mut array, 13),
         [data(27), PARITY, data(26), data(54), data(55)]
     );
-    assert_eq!(array.locate(55), at(13, 4));
+    assert_eq!(array.locate(6), at(3, 2, 0, 0));
+    assert_eq!(array.locate(55), at(13, 4, 1, 0));
     assert_eq!(array.locate(56), PAST_THE_END);
 }
 

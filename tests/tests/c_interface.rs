@@ -65,7 +65,7 @@ formatted: images of 180 bytes, grown by 2 disks 300
 181 bytes: read 7, write 7, advance 5, begin 7, continue 7
 301 bytes: grow 7
 180 bytes: read 0
-locate 5: 0 (2, 0)
+locate 5: 0 (2, 0), parity on 2, moved 0
 write 4: 0
 write 5: 0
 write 30: 8
@@ -91,8 +91,9 @@ owner (3, 3): 0 role 1, block 0
 owner (2, 3): 0 role 2, block 4
 owner (15, 0): 8 role 0, block 0
 owner (0, 5): 10 role 0, block 0
-locate 4: 0 (2, 3)
-locate 30: 8 (0, 0)
+locate 4: 0 (2, 3), parity on 2, moved 1
+locate 6: 0 (3, 2), parity on 3, moved 0
+locate 30: 8 (0, 0), parity on 0, moved 0
 out 3: 0
 read 4: 0 four
 write 4: 0
@@ -124,14 +125,15 @@ read 4: 0 FOUR
 record {moved}
 advance 3: 0 made 3
 status 0: capacity 30, moves 5 of 18, health 0, out 0, rebuilt 0
-locate 30: 8 (0, 0)
+locate 6: 0 (3, 4), parity on 3, moved 1
+locate 30: 8 (0, 0), parity on 0, moved 0
 write 30: 8
 owner (2, 1): 0 role 0, block 0
 advance 1: 0 made 1
 status 0: capacity 40, moves 6 of 18, health 0, out 0, rebuilt 0
-locate 30: 0 (0, 3)
-locate 39: 0 (4, 3)
-locate 40: 8 (0, 0)
+locate 30: 0 (0, 3), parity on 0, moved 0
+locate 39: 0 (4, 3), parity on 4, moved 0
+locate 40: 8 (0, 0), parity on 0, moved 0
 owner (2, 1): 0 role 2, block 35
 owner (5, 3): 0 role 0, block 0
 write 35: 0
@@ -146,12 +148,12 @@ begin 1: 0
 continue 15: 0 made 15
 advance 1: 0 made 1
 read 35: 0 new!
-locate 35: 0 (2, 1)
+locate 35: 0 (2, 1), parity on 2, moved 0
 record {finished}
 advance 100: 0 made 10
 advance 100: 5 made 0
 status 0: capacity 60, moves 18 of 18, health 0, out 0, rebuilt 0
-locate 30: 0 (0, 3)
+locate 30: 0 (0, 3), parity on 0, moved 0
 read 35: 0 new!
 owner (1, 2): 0 role 2, block 32
 write 59: 0
@@ -164,7 +166,7 @@ out 1: 0
 read 59: 2 FIVE
 continue 1: 2 made 0
 status 0: capacity 60, moves 18 of 18, health 2, out 0, rebuilt 0
-locate 59: 0 (14, 3)
+locate 59: 0 (14, 3), parity on 4, moved 0
 format, 4 disks of 19 blocks: 0
 write 56: 0
 read 57: 8 FIVE
@@ -177,8 +179,8 @@ write 76: 8
 read 57: 0 5757
 read 75: 0 7575
 read 56: 0 old!
-locate 57: 0 (0, 4)
-locate 75: 0 (18, 4)
+locate 57: 0 (0, 4), parity on 0, moved 0
+locate 75: 0 (18, 4), parity on 2, moved 0
 owner (18, 4): 0 role 2, block 75
 record {at_once}
 pack, 6 bytes into 6: 0, 100 3 254 0 0 255

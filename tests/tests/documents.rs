@@ -1,19 +1,21 @@
 //! README.md and docs/: links and commands name what is there, the numbers of docs/LAYOUT.md are the library's and the replay's,
-//! and the ratios of docs/SPEED.md those of the report at its end; and what include/pbm.h says of a growth, of a rebuild and of
-//! scan points is the library's too.
+//! and the ratios of docs/SPEED.md those of the report at its end; and what include/pbm.h says of a growth, of a block's
+//! drawers, of a rebuild and of scan points is the library's too.
 
+use std::collections::BTreeSet;
 use std::fs;
 use std::ops::Range;
 use std::path::{Path, PathBuf};
 use std::process::Command;
 use yuzkamide_tests::array::Array;
 use yuzkamide_tests::compile::{run, text};
+use yuzkamide_tests::flat::located;
 use yuzkamide_tests::images::{part, place};
 use yuzkamide_tests::layout::{Layout, Owner};
-use yuzkamide_tests::moves::moves;
+use yuzkamide_tests::moves::{moves, Move};
 use yuzkamide_tests::pbm::{Answer, Bytes, Call, Way};
 use yuzkamide_tests::program::target;
-use yuzkamide_tests::record::{Health, Record, RECORD_LEN};
+use yuzkamide_tests::record::{Health, Record, GROWING, RECORD_LEN};
 
 fn root() -> PathBuf {
     target().join("..")
@@ -141,7 +143,7 @@ fn grown(n: u64, m: u64, stripes: u64, moves: u64) -> Layout {
     })
 }
 
-/// The same array, made by the library: it answers what the replay has.
+/// The same array, made by the library: it answers what the replay has, of every place and of every block.
 fn made(n: u64, m: u64, stripes: u64, moves: u64) -> Array {
     let mut array = Array::format(n, 1, stripes);
     assert_eq!(array.grow(m), Answer::done(&[]));
@@ -158,6 +160,9 @@ fn made(n: u64, m: u64, stripes: u64, moves: u64) -> Array {
             Owner::Data(block) => [2, block],
         };
         assert_eq!(array.owner(stripe, disk), Answer::done(&owned));
+    }
+    for block in 0..layout.capacity() {
+        assert_eq!(array.locate(block), located(&layout, block));
     }
     array
 }
@@ -232,7 +237,7 @@ fn the_new_blocks_of_the_header() {
         "A new block may be used at once, while other zones move. It is zero until it is written; then it holds what it was last \
          given, as all others do, with a disk out, while it is rebuilt and behind that too.",
     );
-    header_says("It never moves: what pbm_locate tells of it stays so.");
+    header_says("It never moves: what pbm_locate tells of it stays so, its parity's disk too.");
     header_says(
         "8  past the end  block number at or above the capacity now: read, write, locate; S not below T: owner",
     );
@@ -298,6 +303,35 @@ fn check_new_blocks(n: u64, m: u64, stripes: u64, k: u64) {
         }
     }
     assert_eq!(capacity, stripes * (n + m - 1));
+}
+
+/// What locate tells, after every move: against owner, and against the places before the growth.
+#[test]
+fn the_drawers_of_the_header() {
+    header_says(
+        "its stripe and its disk, the disk on which the parity of that stripe stands, and if a move now done has carried the block \
+         itself (1; else 0: the block stands where it stood before the growth, or is new, even if the parity was carried).",
+    );
+    for (n, m, stripes) in [(3, 2, 17), (5, 3, 40)] {
+        let home = Layout::home(n, stripes);
+        let mut seen = BTreeSet::new();
+        for t in 0..=grown(n, m, stripes, 0).total() {
+            let mut array = made(n, m, stripes, t);
+            for block in 0..status(&mut array)[0] {
+                let answer = array.locate(block);
+                let [stripe, disk, parity_disk, moved, ..] = answer.beside;
+                assert_eq!(answer.number, 0);
+                assert_eq!(array.owner(stripe, disk), Answer::done(&[2, block]));
+                assert_eq!(array.owner(stripe, parity_disk), Answer::done(&[1, 0]));
+                let is_new = block >= home.capacity();
+                let stands_as_before = is_new || home.place(block) == (stripe, disk);
+                assert_eq!(moved, u64::from(!stands_as_before));
+                seen.insert((is_new, moved, parity_disk != home.parity(stripe)));
+            }
+        }
+        // all but new blocks that were carried, with the parity carried and not
+        assert_eq!(seen.len(), 6, "{n} + {m}: {seen:?}");
+    }
 }
 
 /// n = 3, m = 2, B = 4, T = 15, t = 9, with disk 1 out.
@@ -454,7 +488,8 @@ fn the_moves_of_the_layout() {
     layout_says("After 9 moves zone 0 is finished, zone 1 is half done, and zone 2 has not begun.");
 }
 
-/// The words of each picture go by the name of its file: n, m and t; and T, the first stripe and the last, if it is not one group.
+/// The words of each picture go by the name of its file: n, m and t; T, the first stripe and the last, if it is not one group; and
+/// the block that is lit.
 #[test]
 fn the_pictures_of_the_layout() {
     let text = fs::read_to_string(root().join("docs/LAYOUT.md")).unwrap();
@@ -462,7 +497,11 @@ fn the_pictures_of_the_layout() {
     for picture in text.split("![").skip(1) {
         let (words, rest) = picture.split_once("](pictures/").unwrap();
         let (name, _) = rest.split_once(".svg)").unwrap();
-        let numbers: Vec<u64> = name.split('-').map(|word| word.parse().unwrap()).collect();
+        let (numbers, lit) = match name.split_once("-block-") {
+            Some((numbers, block)) => (numbers, format!(", block {block} and its parity lit")),
+            None => (name, String::new()),
+        };
+        let numbers: Vec<u64> = numbers.split('-').map(|w| w.parse().unwrap()).collect();
         let [n, m, t] = numbers[..3].try_into().unwrap();
         let stripes = *numbers.get(3).unwrap_or(&(n * (n + m)));
         let total = grown(n, m, stripes, t).total();
@@ -480,7 +519,7 @@ fn the_pictures_of_the_layout() {
             }
             _ => panic!("{name}"),
         };
-        assert_eq!(words, wanted);
+        assert_eq!(words, wanted + &lit);
         seen += 1;
     }
     let files = fs::read_dir(root().join("docs/pictures")).unwrap();
@@ -849,7 +888,6 @@ fn the_tail_of_the_layout() {
     layout_says(&format!("| the parity of stripe 18 | {says}"));
 
     let (stripe, disk) = end.place(77);
-    assert_eq!(array.locate(77), Answer::done(&[stripe, disk]));
     let blanks = blanks(&grown(n, m, stripes, 17), before, stripe, n + m);
     let k = 77 - before;
     assert_eq!((k / m, blanks[(k % m) as usize]), (stripe, disk));
@@ -876,10 +914,6 @@ fn drawers_smaller_than_one_group() {
         let (stripe, disk) = end.place(block);
         format!("stripe {stripe} on disk {disk}")
     };
-    for block in 0..blocks {
-        let (stripe, disk) = end.place(block);
-        assert_eq!(array.locate(block), Answer::done(&[stripe, disk]));
-    }
     assert_eq!(array.locate(blocks), Answer::refused(8));
     layout_says(&format!(
         "A group of a growth from {n} to {} disks has {} stripes; with {stripes} there is nothing to move. There are {before} blocks, \
@@ -894,6 +928,115 @@ fn drawers_smaller_than_one_group() {
         record.moves
     ));
     assert_eq!((before, blocks, total), (57, 76, 0));
+}
+
+/// The call that tells both, with the record of 9 moves.
+#[test]
+fn the_drawers_of_block_6_are_told() {
+    let record = Record {
+        moves: 9,
+        ..GROWING
+    };
+    let mut loan = Bytes {
+        record: record.bytes().to_vec(),
+        images: Vec::new(),
+        block: Vec::new(),
+    };
+    let told = loan.call(Call::Locate { block: 6 });
+    assert_eq!(told, Answer::done(&[3, 4, 3, 1]));
+    let [stripe, disk, parity_disk, moved, ..] = told.beside;
+    layout_says(&format!(
+        "uint8_t record[] = {{{}}}; uint64_t stripe, disk, parity_disk, moved; \
+         uint8_t number = pbm_locate(record, PBM_RECORD_LEN, 6, &stripe, &disk, &parity_disk, &moved); \
+         /* number is {} (done), stripe is {stripe}, disk is {disk}, parity_disk is {parity_disk}, moved is {moved} */",
+        record.bytes().map(|byte| byte.to_string()).join(", "),
+        told.number
+    ));
+    layout_says("build/layout_svg 3 2 9 --block 6 > picture.svg");
+}
+
+/// Block 6 by hand: the places before the growth, and the two moves.
+#[test]
+fn the_drawers_of_block_6_by_hand() {
+    let (n, m, home) = (3, 2, Layout::home(3, 15));
+    assert_eq!((home.place(6), home.place(7)), ((3, 2), (3, 1)));
+    assert_eq!(home.parity(3), 0);
+    layout_says(
+        "before the growth it is in stripe 6 div 2 = 3, whose parity is on disk 3 mod 3 = 0; left are disk 2 (\"0\") and disk 1 \
+         (\"1\"); 6 mod 2 = 0, so it is on disk 2.",
+    );
+    // of what stands in stripe 3, which is of zone 0
+    let its_move = |disk: u64| {
+        let i = (3 + n - disk) % n;
+        let p = 3 + i;
+        let number = (p - n) * n + i;
+        let made = &moves(3, 2, 0)[number as usize];
+        assert_eq!([made.within, made.from], [3, disk as i64]);
+        format!(
+            "i = (3 + {n} − {disk}) mod {n} = {i} and p = 3 + {i} = {p}: number (0 × {m} + {}) × {n} + {i} = {number}",
+            p - n
+        )
+    };
+    layout_says(&format!(
+        "Its move has {}. That of its parity has {}. So move 0 lights another drawer for the parity, and move 4 another one for the \
+         block:",
+        its_move(2),
+        its_move(0)
+    ));
+}
+
+/// The table of block 6: a row for each run of moves with the same answer.
+#[test]
+fn the_drawers_of_block_6_after_every_move() {
+    let mut runs: Vec<(u64, u64, Answer)> = Vec::new();
+    for t in 0..=18 {
+        let answer = made(3, 2, 15, t).locate(6);
+        match runs.last_mut() {
+            Some((_, last, same)) if *same == answer => *last = t,
+            _ => runs.push((t, t, answer)),
+        }
+    }
+    let begins: Vec<u64> = runs.iter().map(|run| run.0).collect();
+    assert_eq!(begins, [0, 1, 5]);
+    layout_says("| moves done | the drawer of block 6 | the drawer of its parity | moved |");
+    for (first, last, answer) in &runs {
+        let [_, disk, parity_disk, moved, ..] = answer.beside;
+        let done = match first == last {
+            true => format!("{first}"),
+            false => format!("{first} to {last}"),
+        };
+        layout_says(&format!(
+            "| {done} | disk {disk} | disk {parity_disk} | {moved} |"
+        ));
+    }
+}
+
+/// Where `moved` is 0: block 7, whose parity alone is carried, and new block 36, both in the stripe of block 6.
+#[test]
+fn the_drawers_of_blocks_that_are_not_moved() {
+    layout_says(
+        "**moved** is 1 if a move that is done took the block itself from its disk. It is 0 for a block that no move has carried, \
+         for a new block, and for one whose parity alone was carried.",
+    );
+    layout_says(
+        "Block 7, of the same stripe, has no move (i = 2 and p = 5, which is no disk here): it stays on disk 1, with moved 0, while \
+         its parity is on disk 3 from the first move on. New block 36 is in that stripe too, from the sixth move on: on disk 0, its \
+         parity on disk 3, moved 0. A block that has not come lights nothing: after 9 moves block 40 is refused, 8, and all four \
+         numbers are 0.",
+    );
+    let takes_block_7 = |x: &Move| (x.zone, x.within, x.from) == (0, 3, 1);
+    assert!(!moves(3, 2, 2).iter().any(takes_block_7));
+    for t in 0..=18 {
+        let mut array = made(3, 2, 15, t);
+        let parity_disk = if t < 1 { 0 } else { 3 };
+        assert_eq!(array.locate(7), Answer::done(&[3, 1, parity_disk, 0]));
+        let new = match t < 6 {
+            true => Answer::refused(8),
+            false => Answer::done(&[3, 0, 3, 0]),
+        };
+        assert_eq!(array.locate(36), new);
+    }
+    assert_eq!(made(3, 2, 15, 9).locate(40), Answer::refused(8));
 }
 
 fn call(loan: &mut Bytes, call: Call) {

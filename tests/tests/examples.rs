@@ -183,6 +183,12 @@ fn a_line_notices_faults() {
         ("ZONE_LATE", "capacity: 1668; it must be 1692"),
         ("NEW_SPOILED", stale),
         ("NEW_MOVED", stale),
+        (
+            "OLD_LIGHT",
+            "what the drawer of a parity holds: 2; it must be 1",
+        ),
+        ("NOT_TOLD", "a block is moved: 0; it must be 1"),
+        ("BY_PARITY", "a block is moved: 1; it must be 0"),
         ("NO_CARRY", stale),
         ("RUN_ON", stale),
         ("TURNED", "a byte of packed points: 156; it must be 100"),
@@ -216,6 +222,7 @@ fn faulty(fault: &str) -> PathBuf {
         "out",
         "continue",
         "status",
+        "locate",
         "points_pack",
         "points_unpack",
     ];
@@ -228,10 +235,31 @@ fn faulty(fault: &str) -> PathBuf {
 
 // ---- the pictures
 
-fn picture(arguments: &[u64]) -> String {
-    let words = arguments.iter().map(u64::to_string);
+fn picture_by(words: &[String]) -> String {
     let output = run(Command::new(&*DRAW).args(words));
     text(&output.stdout).to_string()
+}
+
+fn picture(arguments: &[u64]) -> String {
+    picture_by(&words(arguments, None))
+}
+
+/// The arguments, and behind them the block that is to be lit.
+fn words(arguments: &[u64], block: Option<u64>) -> Vec<String> {
+    let mut words: Vec<String> = arguments.iter().map(u64::to_string).collect();
+    words.extend(
+        block
+            .into_iter()
+            .flat_map(|b| ["--block".to_string(), b.to_string()]),
+    );
+    words
+}
+
+/// Whose drawer it is that is lit.
+#[derive(Clone, Copy, Debug, PartialEq)]
+enum Light {
+    Block,
+    Parity,
 }
 
 /// A place as it is drawn.
@@ -242,20 +270,37 @@ struct Drawn {
     is_thick: bool,
     is_dashed: bool,
     is_filled: bool,
+    light: Option<Light>,
+}
+
+fn between(line: &str, from: &str, to: &str) -> Vec<String> {
+    line.split(from)
+        .skip(1)
+        .map(|rest| rest.split(to).next().unwrap().to_string())
+        .collect()
+}
+
+/// What is drawn in a line, and the frame that lights it.
+fn parted(line: &str) -> (&str, Option<Light>) {
+    let Some((place, frame)) = line.split_once("<rect x=\"3.5\" y=\"3.5\" ") else {
+        return (line, None);
+    };
+    assert!(frame.ends_with(" stroke-width=\"4\"/></g>"), "{frame}");
+    let light = match between(frame, "stroke=\"", "\"")[0].as_str() {
+        "#d1001f" => Light::Block,
+        "#0063b2" => Light::Parity,
+        colour => panic!("{colour}"),
+    };
+    (place, Some(light))
 }
 
 /// The places of a picture, with where they are drawn.
 fn drawn(picture: &str) -> Vec<((u64, u64), Drawn)> {
-    let between = |line: &str, from: &str, to: &str| -> Vec<String> {
-        line.split(from)
-            .skip(1)
-            .map(|rest| rest.split(to).next().unwrap().to_string())
-            .collect()
-    };
     picture
         .lines()
         .filter(|line| line.contains("<title>stripe "))
         .map(|line| {
+            let (line, light) = parted(line);
             let at = &between(line, "translate(", ")")[0];
             let (x, y) = at.split_once(',').unwrap();
             let labels = between(line, "<text ", "</text>");
@@ -268,13 +313,36 @@ fn drawn(picture: &str) -> Vec<((u64, u64), Drawn)> {
                 is_thick: line.contains("stroke-width=\"3\""),
                 is_dashed: line.contains("stroke-dasharray"),
                 is_filled: !line.contains("fill=\"none\"") && !line.contains("fill=\"#fff\""),
+                light,
             };
             ((x.parse().unwrap(), y.parse().unwrap()), place)
         })
         .collect()
 }
 
-/// The place as it is to be drawn, by the moves made one by one on the layout before the growth.
+/// The words of the legend, and how the place beside them is lit.
+fn legend(picture: &str) -> Vec<(String, Option<Light>)> {
+    let mut lines = picture.lines();
+    let mut rows = Vec::new();
+    while let Some(line) = lines.find(|line| line.contains("<title>legend</title>")) {
+        let (_, words) = lines.next().unwrap().split_once('>').unwrap();
+        let words = words.strip_suffix("</text>").unwrap().to_string();
+        rows.push((words, parted(line).1));
+    }
+    rows
+}
+
+/// Of every picture. Two more rows are there if a block is lit.
+const LEGEND: [&str; 6] = [
+    "a block, not moved",
+    "parity, not moved",
+    "a block, moved from disk 1",
+    "parity, moved from disk 0",
+    "a new block",
+    "blank: zeroes",
+];
+
+/// The place as it is to be drawn, by the moves made one by one on the layout before the growth, and not lit.
 fn wanted(first: &Layout, now: &Layout, stripe: u64, disk: u64) -> Drawn {
     let owner = now.owner(stripe, disk);
     let came_from = match owner {
@@ -301,14 +369,16 @@ fn wanted(first: &Layout, now: &Layout, stripe: u64, disk: u64) -> Drawn {
         is_thick: came_from.is_some(),
         is_dashed: owner == Owner::Blank,
         is_filled: is_new || owner == Owner::Parity,
+        light: None,
     }
 }
 
-/// An array before its growth and after so many moves of it.
+/// An array before its growth and after so many moves of it, and the block that is lit.
 struct Shown {
     record: Record,
     first: Layout,
     now: Layout,
+    lit: Option<u64>,
 }
 
 impl Shown {
@@ -322,6 +392,45 @@ impl Shown {
             record,
             first: Layout::home(n, stripes),
             now: Layout::of(&record),
+            lit: None,
+        }
+    }
+
+    /// How a place is lit, by the replay.
+    fn light(&self, stripe: u64, disk: u64) -> Option<Light> {
+        let (its_stripe, its_disk) = self.now.place(self.lit?);
+        match stripe == its_stripe {
+            true if disk == its_disk => Some(Light::Block),
+            true if disk == self.now.parity(stripe) => Some(Light::Parity),
+            _ => None,
+        }
+    }
+
+    fn legend(&self) -> Vec<(String, Option<Light>)> {
+        let mut rows = Vec::from(LEGEND.map(|words| (words.to_string(), None)));
+        if let Some(block) = self.lit {
+            let (stripe, disk) = self.now.place(block);
+            let block = match self.now.is_moved(block) {
+                true => format!("block {block}, moved to disk {disk}"),
+                false => format!("block {block}, on disk {disk}"),
+            };
+            let parity = format!("its parity, on disk {}", self.now.parity(stripe));
+            rows.push((block, Some(Light::Block)));
+            rows.push((parity, Some(Light::Parity)));
+        }
+        rows
+    }
+
+    /// The same with each of these blocks lit: the picture of it is of these stripes.
+    fn check_lit(
+        mut self,
+        arguments: &[u64],
+        range: RangeInclusive<u64>,
+        blocks: impl IntoIterator<Item = u64>,
+    ) {
+        for block in blocks {
+            self.lit = Some(block);
+            self.check(arguments, range.clone());
         }
     }
 
@@ -334,7 +443,7 @@ impl Shown {
             moves,
             ..
         } = self.record;
-        let text = picture(arguments);
+        let text = picture_by(&words(arguments, self.lit));
         let total = self.now.total();
         assert!(text.contains(&format!(">{n} + {m} disks: {moves} of {total} moves done<")));
         let (first, last) = (*range.start(), *range.end());
@@ -348,8 +457,9 @@ impl Shown {
         let (mut columns, mut rows) = (BTreeMap::new(), BTreeMap::new());
         let every = range.flat_map(|s| (0..n + m).map(move |d| (s, d)));
         for ((stripe, disk), ((x, y), place)) in every.zip(places) {
-            let wanted = wanted(&self.first, &self.now, stripe, disk);
-            assert_eq!(place, wanted, "{arguments:?}");
+            let mut wanted = wanted(&self.first, &self.now, stripe, disk);
+            wanted.light = self.light(stripe, disk);
+            assert_eq!(place, wanted, "{arguments:?}, lit {:?}", self.lit);
             // one column for each disk, one row for each stripe
             assert_eq!(*columns.entry(disk).or_insert(x), x);
             assert_eq!(*rows.entry(stripe).or_insert(y), y);
@@ -358,7 +468,9 @@ impl Shown {
         assert!(rows.values().is_sorted_by(|a, b| a < b), "stripes down");
         // from the top, below the heads, to just above the lower edge, or to the legend's end
         assert_eq!(rows[&first], 118);
-        let high = rows[&last].max(118 + 5 * 32) + 46;
+        assert_eq!(legend(&text), self.legend());
+        let legend_rows = self.legend().len() as u64;
+        let high = rows[&last].max(118 + (legend_rows - 1) * 32) + 46;
         assert!(
             text.contains(&format!(" height=\"{high}\" viewBox=")),
             "{high}"
@@ -568,15 +680,157 @@ fn pictures_of_the_largest_array() {
     }
 }
 
+/// After every move each block, whether a move carried it, its parity, both or neither, and new ones; and with a tail.
+#[test]
+fn both_drawers_of_a_block_are_lit() {
+    for (n, m, stripes) in [(3, 2, 15), (4, 1, 23)] {
+        let total = Shown::of(n, m, stripes, 0).now.total();
+        for moves in 0..=total {
+            let shown = Shown::of(n, m, stripes, moves);
+            let blocks = 0..shown.now.capacity();
+            let arguments = [n, m, moves, stripes, 0, stripes - 1];
+            shown.check_lit(&arguments, 0..=stripes - 1, blocks);
+        }
+    }
+}
+
+/// The places that are lit by these arguments, by their titles, and the two rows of the legend.
+fn lights(arguments: &[u64], block: u64) -> Vec<(String, Light)> {
+    let picture = picture_by(&words(arguments, Some(block)));
+    let places = drawn(&picture)
+        .into_iter()
+        .map(|(_, place)| (place.title, place.light));
+    places
+        .chain(legend(&picture))
+        .filter_map(|(words, light)| Some((words, light?)))
+        .collect()
+}
+
+/// By hand, the bench's block 6: before the growth, with its parity moved, with both moved; and a new block.
+#[test]
+fn the_drawers_of_block_6() {
+    let cases = [
+        (
+            0,
+            6,
+            [
+                ("stripe 3, disk 0: parity", Light::Parity),
+                ("stripe 3, disk 2: block 6", Light::Block),
+                ("block 6, on disk 2", Light::Block),
+                ("its parity, on disk 0", Light::Parity),
+            ],
+        ),
+        (
+            4,
+            6,
+            [
+                ("stripe 3, disk 2: block 6", Light::Block),
+                ("stripe 3, disk 3: parity, from disk 0", Light::Parity),
+                ("block 6, on disk 2", Light::Block),
+                ("its parity, on disk 3", Light::Parity),
+            ],
+        ),
+        (
+            9,
+            6,
+            [
+                ("stripe 3, disk 3: parity, from disk 0", Light::Parity),
+                ("stripe 3, disk 4: block 6, from disk 2", Light::Block),
+                ("block 6, moved to disk 4", Light::Block),
+                ("its parity, on disk 3", Light::Parity),
+            ],
+        ),
+        (
+            9,
+            32,
+            [
+                ("stripe 1, disk 1: parity", Light::Parity),
+                ("stripe 1, disk 2: new block 32", Light::Block),
+                ("block 32, on disk 2", Light::Block),
+                ("its parity, on disk 1", Light::Parity),
+            ],
+        ),
+    ];
+    for (moves, block, wanted) in cases {
+        let wanted = wanted.map(|(words, light)| (words.to_string(), light));
+        assert_eq!(lights(&[3, 2, moves], block), wanted, "{moves} moves");
+    }
+}
+
+/// But for the frames, and for the two rows of the legend and their words, it is the picture of the same stripes.
+#[test]
+fn a_lit_picture_is_else_the_same() {
+    let lit = picture_by(&words(&[3, 2, 9], Some(6)));
+    let mut left = String::new();
+    let mut lines = lit.lines();
+    while let Some(line) = lines.next() {
+        match parted(line) {
+            (_, Some(_)) if line.contains("<title>legend</title>") => drop(lines.next()),
+            (place, Some(_)) => left.push_str(&format!("{place}</g>\n")),
+            (line, None) => left.push_str(&format!("{line}\n")),
+        }
+    }
+    assert!(left == picture(&[3, 2, 9]) && lit.len() > left.len());
+}
+
+/// Without a first stripe the block's group is drawn, or the tail if it stands there; with one, as without a block.
+#[test]
+fn the_stripes_around_a_block() {
+    let of = |moves| Shown::of(3, 2, 36, moves);
+    for moves in [0, 20, 35] {
+        of(moves).check_lit(&[3, 2, moves, 36], 0..=14, [0, 29]);
+        of(moves).check_lit(&[3, 2, moves, 36], 15..=29, [30, 59]);
+        of(moves).check_lit(&[3, 2, moves, 36], 30..=35, [60, 71]);
+    }
+    // new blocks, the last of them in the tail
+    of(20).check_lit(&[3, 2, 20, 36], 0..=14, [72, 101]);
+    of(36).check_lit(&[3, 2, 36, 36], 15..=29, [102, 131]);
+    of(36).check_lit(&[3, 2, 36, 36], 30..=35, [132, 143]);
+    // the last stripe of a group, and most of the next one
+    of(20).check_lit(&[3, 2, 20, 36, 14], 14..=28, [28, 57]);
+    of(20).check_lit(&[3, 2, 20, 36, 14, 14], 14..=14, [28, 29, 100, 101]);
+    of(20).check_lit(&[3, 2, 20, 36, 0, 35], 0..=35, [0, 71]);
+    // without a growth as many stripes
+    Shown::of(3, 0, 100, 0).check_lit(&[3, 0, 0, 100], 90..=98, [180, 197]);
+    Shown::of(3, 0, 100, 0).check_lit(&[3, 0, 0, 100], 99..=99, [198, 199]);
+    let (stripes, last) = (1_048_576, 32_505_855);
+    let shown = Shown::of(16, 16, stripes, 8_388_608);
+    let arguments = [16, 16, 8_388_608, stripes];
+    shown.check_lit(&arguments, stripes - 512..=stripes - 1, [last]);
+}
+
+/// A block that is to be lit in other stripes than those drawn.
+#[test]
+fn a_block_that_is_not_drawn() {
+    for (arguments, block, stripe, first, last) in [
+        (&[3, 2, 9, 15, 0, 2][..], 6, 3, 0, 2),
+        (&[3, 2, 9, 15, 4], 6, 3, 4, 14),
+        (&[3, 2, 9, 15, 4, 4], 37, 3, 4, 4),
+        (&[3, 2, 9, 30, 0], 30, 15, 0, 14),
+        (&[3, 0, 0, 100, 50], 0, 0, 50, 58),
+    ] {
+        let words = words(arguments, Some(block));
+        let words: Vec<&str> = words.iter().map(String::as_str).collect();
+        let line = format!(
+            "layout_svg: block is '{block}': it stands in stripe {stripe}, and drawn are stripes {first} to {last}"
+        );
+        is_refused(&DRAW, &words, &line);
+    }
+}
+
 /// Each bad argument is named, with its value and its limits.
 #[test]
 fn bad_arguments_are_named() {
-    let usage = "usage: layout_svg n m t [T [first [last]]] > picture.svg";
+    let usage = "usage: layout_svg n m t [T [first [last]]] [--block b] > picture.svg";
     for arguments in [
         &[][..],
         &["3"],
         &["3", "2"],
         &["3", "2", "9", "15", "0", "1", "2"],
+        &["--block", "6"],
+        &["3", "2", "--block", "6"],
+        &["3", "2", "9", "15", "0", "14", "2", "--block", "6"],
+        &["3", "2", "9", "15", "0", "14", "--block"],
     ] {
         is_refused(&DRAW, arguments, usage);
     }
@@ -663,10 +917,44 @@ fn bad_arguments_are_named() {
             "1031",
             "7 to 1030: below T, and at most 1024 stripes in a picture",
         ),
+        // it comes last, with its number, once
+        (&["3", "2", "9", "--block"], "T", "--block", "1 to 1048576"),
+        (&["--block", "6", "3", "2", "9"], "n", "--block", "3 to 16"),
+        (
+            &["3", "2", "9", "--block", "6", "--block", "7"],
+            "T",
+            "--block",
+            "1 to 1048576",
+        ),
+        (&["3", "2", "19", "--block", "60"], "t", "19", &moves(18)),
     ];
     for (arguments, name, value, limits) in refused {
         let line = format!("layout_svg: {name} is '{value}': it must be a number from {limits}");
         is_refused(&DRAW, arguments, &line);
+    }
+    // the capacity as t has it
+    for (arguments, block, last) in [
+        (&["3", "2", "5"][..], "30", 29),
+        (&["3", "2", "6"], "40", 39),
+        (&["3", "2", "9"], "40", 39),
+        (&["3", "2", "9"], "59", 39),
+        (&["3", "2", "18"], "60", 59),
+        (&["3", "2", "9"], "", 39),
+        (&["3", "2", "9"], "six", 39),
+        (&["3", "2", "9"], "-6", 39),
+        (&["3", "2", "9"], "6 ", 39),
+        (&["3", "2", "9"], "0x6", 39),
+        (&["3", "2", "9"], "4294967302", 39),
+        (&["3", "2", "9"], "18446744073709551622", 39),
+        (&["3", "2", "17", "17", "0", "16"], "54", 53),
+        (&["3", "2", "18", "17", "0", "16"], "68", 67),
+        (&["4", "1", "0", "19"], "76", 75),
+        (&["3", "0", "0", "1048576"], "2097152", 2_097_151),
+    ] {
+        let arguments = [arguments, &["--block", block]].concat();
+        let limits = format!("it must be a number from 0 to {last}: below the capacity");
+        let line = format!("layout_svg: block is '{block}': {limits}");
+        is_refused(&DRAW, &arguments, &line);
     }
     // at the limits
     for arguments in [
@@ -702,7 +990,7 @@ fn a_full_disk_is_told() {
     );
 }
 
-/// docs/pictures/n-m-t.svg, and n-m-t-T-first-last.svg
+/// docs/pictures/n-m-t.svg, n-m-t-T-first-last.svg, and either with -block-b behind it
 #[test]
 fn the_pictures_of_the_documents_are_those_drawn_today() {
     let mut seen = 0;
@@ -710,15 +998,18 @@ fn the_pictures_of_the_documents_are_those_drawn_today() {
         let path = entry.unwrap().path();
         let name = path.file_name().unwrap().to_str().unwrap().to_string();
         let name = name.strip_suffix(".svg").expect("only pictures");
-        let numbers: Vec<u64> = name.split('-').map(|word| word.parse().unwrap()).collect();
-        let drawn = picture(&numbers);
+        let word = |word: &str| match word {
+            "block" => "--block".to_string(),
+            number => number.to_string(),
+        };
+        let drawn = picture_by(&name.split('-').map(word).collect::<Vec<_>>());
         assert!(
             fs::read_to_string(&path).unwrap() == drawn,
             "{name}: draw it anew (examples/draw)"
         );
         seen += 1;
     }
-    assert!(seen >= 7);
+    assert!(seen >= 8);
 }
 
 // ---- drawers that are files
@@ -915,8 +1206,13 @@ fn nothing_is_run_that_is_not_proved() {
 fn pictures_are_drawn_anew() {
     let tree = Tree::new("draw");
     let right = pictures(&root());
-    assert!(right.len() >= 7 && tree.pictures() == right);
-    for name in ["3-2-9.svg", "4-1-16.svg", "3-2-18-21-10-20.svg"] {
+    assert!(right.len() >= 8 && tree.pictures() == right);
+    for name in [
+        "3-2-9.svg",
+        "4-1-16.svg",
+        "3-2-18-21-10-20.svg",
+        "3-2-9-block-6.svg",
+    ] {
         tree.put(&format!("docs/pictures/{name}"), "an old picture");
     }
     assert!(tree.pictures() != right);

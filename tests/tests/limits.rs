@@ -1,6 +1,7 @@
 //! Arrays at the limits, through all calls: the record's numbers need all of their bytes there, and images are large.
 
 use yuzkamide_tests::array::Array;
+use yuzkamide_tests::flat::located;
 use yuzkamide_tests::images::{part, place, xor};
 use yuzkamide_tests::layout::Layout;
 use yuzkamide_tests::memory::{Guarded, Memory, Side};
@@ -102,7 +103,8 @@ fn the_most_stripes() {
     assert_eq!(array.0.record, Record::new(3, 1, 1_048_576).bytes());
     write_all(&mut array, 0..2_097_152);
     read_all(&mut array);
-    assert_eq!(array.locate(2_097_151), Answer::done(&[1_048_575, 1]));
+    let last_at = Answer::done(&[1_048_575, 1, 0, 0]);
+    assert_eq!(array.locate(2_097_151), last_at);
     assert_eq!(array.locate(2_097_152), Answer::refused(8));
 }
 
@@ -150,7 +152,7 @@ fn places_beyond_32_bits() {
     let newest = record.capacity() - 1;
     assert_eq!((last, newest), (2_097_151, 3_145_715));
     let newest_at = loan.call(Call::Locate { block: newest });
-    assert_eq!(newest_at.beside[0], 1_048_563);
+    assert_eq!(newest_at, Answer::done(&[1_048_563, 0, 3, 0]));
     let blocks: Vec<u64> = (0..12)
         .map(|i| last - 2 * i)
         .chain([0, last / 2, newest])
@@ -164,6 +166,8 @@ fn places_beyond_32_bits() {
         layout.advance(made);
         assert_eq!(loan.call(Call::Locate { block: newest }), newest_at);
         for &block in &blocks {
+            let answer = loan.call(Call::Locate { block });
+            assert_eq!(answer, located(&layout, block));
             let data = data(block, 4096);
             let (stripe, disk) = layout.place(block);
             let images = loan.images.bytes();
@@ -178,7 +182,7 @@ fn places_beyond_32_bits() {
     // the last new block is on the last place of all, in the stripe of the last old one
     let (new, stripe) = (3 * 1_048_576 - 1, 1_048_575);
     let answer = loan.call(Call::Locate { block: new });
-    assert_eq!(answer, Answer::done(&[stripe, 3]));
+    assert_eq!(answer, Answer::done(&[stripe, 3, 0, 0]));
     loan.block.hold(&data(new, 4096));
     assert_eq!(loan.call(Call::Write { block: new }), Answer::done(&[]));
     let mut parity = data(last, 4096);

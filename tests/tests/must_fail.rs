@@ -49,6 +49,16 @@ const COMPUTED: &[(&str, &str, &[&str])] = &[
         &["layout/capacity_by_moves", "layout/zone_opened_early"],
     ),
     (
+        "/proofs/Cases/Lit.antt:",
+        "`lit`",
+        &[
+            "layout/moved_too_early",
+            "layout/moved_with_its_parity",
+            "layout/new_block_moved",
+            "layout/parity_on_old_disk",
+        ],
+    ),
+    (
         "/proofs/Cases/Bench.antt:",
         "`unmarked`",
         &["calls/tail_moves"],

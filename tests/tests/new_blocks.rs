@@ -176,23 +176,30 @@ fn a_new_block_keeps_its_place() {
     }
 }
 
-/// A stripe has its parity, its n − 1 old blocks, and m new blocks, rising with their disks, or m blanks.
+/// A stripe has its parity, its n − 1 old blocks, and m new blocks, rising with their disks, or m blanks. Locate tells of each block
+/// where it stands, with that parity; moved are the old ones on new disks.
 fn check_stripe(growth: &Growth, array: &mut Array, stripe: u64, is_numbered: bool) {
-    let (mut parities, mut blanks, mut old, mut new) = (0, 0, Vec::new(), Vec::new());
+    let (mut parities, mut blanks, mut blocks) = (Vec::new(), 0, Vec::new());
     for disk in 0..growth.n + growth.m {
         let answer = array.owner(stripe, disk);
         assert_eq!(answer.number, 0);
         match answer.beside[..2] {
             [0, 0] => blanks += 1,
-            [1, 0] => parities += 1,
-            [2, block] if block < growth.old() => old.push(block),
-            [2, block] => {
-                assert_eq!(array.locate(block), Answer::done(&[stripe, disk]));
-                new.push(block);
-            }
+            [1, 0] => parities.push(disk),
+            [2, block] => blocks.push((block, disk)),
             _ => panic!("{answer:?}"),
         }
     }
+    assert_eq!(parities.len(), 1);
+    for &(block, disk) in &blocks {
+        let moved = block < growth.old() && disk >= growth.n;
+        let place = Answer::done(&[stripe, disk, parities[0], moved.into()]);
+        assert_eq!(array.locate(block), place, "block {block}");
+    }
+    let (mut old, new): (Vec<u64>, Vec<u64>) = blocks
+        .into_iter()
+        .map(|(block, _)| block)
+        .partition(|&block| block < growth.old());
     old.sort_unstable();
     let first = stripe * (growth.n - 1);
     assert_eq!(old, Vec::from_iter(first..first + growth.n - 1));
@@ -201,7 +208,7 @@ fn check_stripe(growth: &Growth, array: &mut Array, stripe: u64, is_numbered: bo
         true => (Vec::from_iter(first..first + growth.m), 0),
         false => (Vec::new(), growth.m),
     };
-    assert_eq!((parities, blanks, new), (1, left, wanted));
+    assert_eq!((blanks, new), (left, wanted));
 }
 
 /// An array of blocks of 3 bytes, and what each of them was last given.

@@ -1,7 +1,7 @@
-//! Locate and owner at every block and every place, against the moves made one by one; they read the record alone, so the
-//! largest arrays need no images.
+//! Locate, all four numbers of it, and owner at every block and every place, against the moves made one by one; they read the record
+//! alone, so the largest arrays need no images.
 
-use yuzkamide_tests::flat::owned;
+use yuzkamide_tests::flat::{located, owned};
 use yuzkamide_tests::layout::{Layout, Owner};
 use yuzkamide_tests::pbm::{Answer, Bytes, Call};
 use yuzkamide_tests::random::Random;
@@ -36,6 +36,7 @@ impl Growth {
         self.check_end();
         self.check_places(self.places(0));
         self.check_tail();
+        self.check_moved();
     }
 
     /// All from this stripe on.
@@ -78,6 +79,26 @@ impl Growth {
         }
     }
 
+    /// The replay itself: a block of before the growth has moved if it stands on another disk than then, and a new one never has. Of
+    /// each n moves in a row the first is a parity's.
+    fn check_moved(&self) {
+        let Record {
+            n, stripes, moves, ..
+        } = self.record;
+        let (home, now) = (Layout::home(n, stripes), &self.layout);
+        let is_elsewhere = |block| block < home.capacity() && home.place(block) != now.place(block);
+        let mut count = 0;
+        for block in 0..now.capacity() {
+            let is_moved = now.is_moved(block);
+            assert_eq!(is_moved, is_elsewhere(block), "{block} {:?}", self.record);
+            count += u64::from(is_moved);
+        }
+        assert_eq!(count, moves - moves.div_ceil(n), "{:?}", self.record);
+        let is_carried = |&stripe: &u64| home.parity(stripe) != now.parity(stripe);
+        let parities = (0..stripes).filter(is_carried).count() as u64;
+        assert_eq!(parities, moves.div_ceil(n), "{:?}", self.record);
+    }
+
     fn loan(&self) -> Bytes {
         Bytes {
             record: self.record.bytes().to_vec(),
@@ -97,33 +118,34 @@ impl Growth {
         let answer = loan.call(Call::Locate { block: capacity });
         assert_eq!(answer, Answer::refused(8), "{record:?}");
         let old = self.record.old_capacity();
+        let further = |block| match block < old {
+            true => block + stripes * (n - 1),
+            false => block + stripes * (n + m - 1),
+        };
         for (stripe, disk) in self.places(0) {
             let owner = match self.layout.owner(stripe, disk) {
-                Owner::Data(b) if b < old => Owner::Data(b + stripes * (n - 1)),
-                Owner::Data(b) => Owner::Data(b + stripes * (n + m - 1)),
+                Owner::Data(block) => Owner::Data(further(block)),
                 owner => owner,
             };
             let stripe = stripe + stripes;
             let answer = loan.call(Call::Owner { stripe, disk });
             assert_eq!(answer, owned(owner), "{stripe} {disk} {record:?}");
-            if let Owner::Data(block) = owner {
-                let answer = loan.call(Call::Locate { block });
-                assert_eq!(answer, Answer::done(&[stripe, disk]), "{record:?}");
-            }
+        }
+        for block in 0..self.layout.capacity() {
+            let mut wanted = located(&self.layout, block);
+            wanted.beside[0] += stripes;
+            let block = further(block);
+            let answer = loan.call(Call::Locate { block });
+            assert_eq!(answer, wanted, "{block} {record:?}");
         }
     }
 
     fn check_blocks(&self, blocks: impl Iterator<Item = u64>) {
         let mut loan = self.loan();
         for block in blocks {
-            let (stripe, disk) = self.layout.place(block);
             let answer = loan.call(Call::Locate { block });
-            assert_eq!(
-                answer,
-                Answer::done(&[stripe, disk]),
-                "{block} {:?}",
-                self.record
-            );
+            let wanted = located(&self.layout, block);
+            assert_eq!(answer, wanted, "{block} {:?}", self.record);
         }
     }
 
@@ -228,6 +250,7 @@ fn the_largest_arrays() {
             growth.advance(step);
             growth.check_status();
             growth.check_tail();
+            growth.check_moved();
             growth.check_end();
             let (capacity, disks) = (growth.layout.capacity(), growth.record.disks());
             let blocks: Vec<_> = (0..200_000).map(|_| random.below(capacity)).collect();

@@ -44,7 +44,7 @@ reportAnswer (report.Figures c t total h) = figures c t total h
 
 abbrev pub locatedAnswer : Located → Answer
 locatedAnswer (located.Refused k) = refused k
-locatedAnswer (located.At q) = placed q
+locatedAnswer (located.At x) = placed x
 
 abbrev pub ownedAnswer : Owned → Answer
 ownedAnswer (owning.Refused k) = refused k

@@ -42,9 +42,9 @@ fn make_moves(r: Record, images: &mut [u8], count: u32)
     requires { ⌜ GoodRecord r × (idle (geometry r) ≡ false) × (r .moves + count ≤ totalOf (geometry r)) × (length (now images) ≡ size r) ⌝ }
     ensures images { λ _. ⌜ now (images .exit) ≡ storedIn r (advanceStores count r (now (images .entry))) (now (images .entry)) ⌝ }
 {
-    let n = r.old as u64;
-    let m = r.new as u64;
-    let mut at = cursor_of(n, m, r.moves as u64);
+    let n = r.old as u32;
+    let m = r.new as u32;
+    let mut at = cursor_of(n, m, r.moves);
     let mut made = 0;
     while made < count {
         make_move(with_moves(r, r.moves + made), at, images);
@@ -62,7 +62,7 @@ pub fn advance(r: Record, images: &mut [u8], k: u64) -> Counted
     if refused != 0 {
         return Counted::Refused(refused);
     }
-    let left = (total_of(geometry_of(r)) - r.moves as u64) as u32;
+    let left = total_of(geometry_of(r)) - r.moves;
     let count = due(k, left);
     make_moves(r, images, count);
     Counted::Made {

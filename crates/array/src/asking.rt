@@ -1,5 +1,6 @@
 // Document 01: "**Status**: capacity, t, total, health.", "**Locate** (b): the stripe and disk of block b. **Owner** (S, d): the block
-// number there, or parity, or blank. Both read the record only."
+// number there, or parity, or blank. Both read the record only." Document 02, (f): locate also answers the parity's place and "whether a
+// move now done, of any growth, carried the block itself".
 ghost use mathlib.Core.Path.{_≡_};
 ghost use mathlib.Core.List.{[]};
 ghost use Rattle.array.specs.Answers.{reportAnswer, locatedAnswer, ownedAnswer};
@@ -14,6 +15,7 @@ use crate::refusal::of_status;
 use layout::capacity_of;
 use layout::owner_of;
 use layout::place_of;
+use layout::slot_of;
 use layout::total_of;
 use state::Record;
 use state::geometry_of;
@@ -28,9 +30,9 @@ pub fn status(r: Record) -> Report
     let g = geometry_of(r);
     let health = r.health;
     Report::Figures {
-        capacity: capacity_of(g),
-        moves: g.moves,
-        total: total_of(g),
+        capacity: capacity_of(g) as u64,
+        moves: g.moves as u64,
+        total: total_of(g) as u64,
         health: health,
     }
 }
@@ -42,7 +44,8 @@ pub fn locate(r: Record, b: u64) -> Located
     if k != 0 {
         return Located::Refused(k);
     }
-    Located::At(place_of(geometry_of(r), b))
+    let g = geometry_of(r);
+    Located::At(place_of(g, b, slot_of(g, b)))
 }
 
 pub fn owner(r: Record, s: u64, d: u64) -> Owned
@@ -52,5 +55,5 @@ pub fn owner(r: Record, s: u64, d: u64) -> Owned
     if k != 0 {
         return Owned::Refused(k);
     }
-    Owned::By(owner_of(geometry_of(r), s, d))
+    Owned::By(owner_of(geometry_of(r), s as u32, d as u32))
 }

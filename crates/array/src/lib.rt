@@ -22,8 +22,8 @@ pub use asking::status;
 pub use failing::out;
 pub use formatting::format;
 pub use growing::grow;
-use layout::Place;
 use layout::Role;
+use layout::Standing;
 pub use reading::read;
 pub use rebuilding::begin_rebuild;
 pub use rebuilding::continue_rebuild;
@@ -59,7 +59,7 @@ pub enum Report {
 // Of locate.
 pub enum Located {
     Refused(u8),
-    At(Place),
+    At(Standing),
 }
 
 // Of owner.

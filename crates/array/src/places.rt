@@ -11,7 +11,7 @@ use blocks::xor_others;
 use state::Record;
 
 // The byte at which place (s, d) begins.
-pub(crate) fn place_at(r: Record, s: u64, d: u64) -> usize
+pub(crate) fn place_at(r: Record, s: u32, d: u32) -> usize
     requires { ⌜ GoodRecord r × (s < r .stripes) × (d < disksOf r) ⌝ }
     ensures start { λ x. ⌜ x ≡ offset (r .block) (r .stripes) s d ⌝ }
 {
@@ -19,7 +19,7 @@ pub(crate) fn place_at(r: Record, s: u64, d: u64) -> usize
 }
 
 // Sets block to the xor of the other places of its stripe.
-pub(crate) fn sum_others(r: Record, images: &[u8], s: u64, d: u64, block: &mut [u8])
+pub(crate) fn sum_others(r: Record, images: &[u8], s: u32, d: u32, block: &mut [u8])
     requires { ⌜ GoodRecord r × (s < r .stripes) × (length (now images) ≡ size r) × (length (now block) ≡ r .block) ⌝ }
     ensures block { λ _. ⌜ now (block .exit) ≡ othersIn r (now (images .entry)) s d ⌝ }
 {

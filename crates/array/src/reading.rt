@@ -7,9 +7,11 @@ ghost use Rattle.calls.specs.Effect.{blockOf, called};
 use crate::health::is_absent;
 use crate::places::place_at;
 use crate::places::sum_others;
+use crate::refusal::of_lent;
 use crate::refusal::of_reach;
 use blocks::copy_out;
 use layout::place_of;
+use layout::slot_of;
 use state::Record;
 use state::geometry_of;
 
@@ -18,7 +20,8 @@ fn fill(r: Record, images: &[u8], b: u64, block: &mut [u8])
     requires { ⌜ refusalOf r (feed (read b) (length (now images)) (length (now block))) ≡ 0 ⌝ }
     ensures block { λ _. ⌜ now (block .exit) ≡ blockOf r (now (images .entry)) b ⌝ }
 {
-    let q = place_of(geometry_of(r), b);
+    let g = geometry_of(r);
+    let q = place_of(g, b, slot_of(g, b)).block;
     let health = r.health;
     if is_absent(health, q.stripe, q.disk) {
         sum_others(r, images, q.stripe, q.disk, block);
@@ -31,7 +34,8 @@ pub fn read(r: Record, images: &[u8], b: u64, block: &mut [u8]) -> u8
     ensures answer { λ k. ⌜ k ≡ number (called (on (read b) (now (images .entry)) (now (block .entry))) r .answer) ⌝ }
     ensures block { λ _. ⌜ now (block .exit) ≡ called (on (read b) (now (images .entry)) (now (block .entry))) r .room ⌝ }
 {
-    let k = of_reach(r, images.len(), b, block.len());
+    let begun = of_lent(r, images.len());
+    let k = of_reach(begun, r, images.len(), b, block.len());
     if k != 0 {
         return k;
     }

@@ -128,7 +128,7 @@ fn of_whole(r: Record) -> u8
 }
 
 // .. and 1, 2, 7.
-fn of_lent(r: Record, images: usize) -> u8
+pub fn of_lent(r: Record, images: usize) -> u8
     ensures number { λ k. ⌜ k ≡ word (keptLent r images) ⌝ }
 {
     let k = of_kept(r);
@@ -141,13 +141,14 @@ fn of_lent(r: Record, images: usize) -> u8
     0
 }
 
-// Of read, view and write: room is the length of the block that is lent.
-pub fn of_reach(r: Record, images: usize, b: u64, room: usize) -> u8
+// Of read, view and write, with `begun` what of_lent says of them: room is the length of the block that is lent. (Callers ask of_lent, so
+// that the compiler makes both part of each call: one function for all would be too long for it. The images are for the contract alone.)
+pub(crate) fn of_reach(begun: u8, r: Record, images: usize, b: u64, room: usize) -> u8
+    requires { ⌜ begun ≡ word (keptLent r images) ⌝ }
     ensures number { λ k. ⌜ k ≡ refusalOf r (feed (read b) images room) ⌝ }
 {
-    let k = of_lent(r, images);
-    if k != 0 {
-        return k;
+    if begun != 0 {
+        return begun;
     }
     if !is_block(r, b) {
         return PAST_THE_END;

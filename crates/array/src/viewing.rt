@@ -11,8 +11,10 @@ use crate::Choice;
 use crate::health::is_absent;
 use crate::places::place_at;
 use crate::places::sum_others;
+use crate::refusal::of_lent;
 use crate::refusal::of_reach;
 use layout::place_of;
+use layout::slot_of;
 use state::Record;
 use state::geometry_of;
 
@@ -22,7 +24,8 @@ fn choose(r: Record, images: &[u8], b: u64, scratch: &mut [u8]) -> Choice
     ensures choice { λ x. ⌜ x ≡ choiceOf 0 (viewOf r b) ⌝ }
     ensures scratch { λ _. ⌜ now (scratch .exit) ≡ scratchLeft r (now (images .entry)) b (now (scratch .entry)) ⌝ }
 {
-    let q = place_of(geometry_of(r), b);
+    let g = geometry_of(r);
+    let q = place_of(g, b, slot_of(g, b)).block;
     let health = r.health;
     if is_absent(health, q.stripe, q.disk) {
         sum_others(r, images, q.stripe, q.disk, scratch);
@@ -37,7 +40,8 @@ fn view_choice(r: Record, images: &[u8], b: u64, scratch: &mut [u8]) -> Choice
         choiceOf (number (called (on (view b) (now (images .entry)) (now (scratch .entry))) r .answer)) (viewOf r b) ⌝ }
     ensures scratch { λ _. ⌜ now (scratch .exit) ≡ called (on (view b) (now (images .entry)) (now (scratch .entry))) r .room ⌝ }
 {
-    let k = of_reach(r, images.len(), b, scratch.len());
+    let begun = of_lent(r, images.len());
+    let k = of_reach(begun, r, images.len(), b, scratch.len());
     if k != 0 {
         return Choice::Refused(k);
     }

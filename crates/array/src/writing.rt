@@ -10,9 +10,11 @@ ghost use Rattle.calls.specs.Effect.{writeStores, called};
 use crate::health::is_absent;
 use crate::places::place_at;
 use crate::refusal::disks_of;
+use crate::refusal::of_lent;
 use crate::refusal::of_reach;
 use blocks::store_bytes;
-use layout::find;
+use layout::place_of;
+use layout::slot_of;
 use parity::fold_others;
 use parity::fold_parity;
 use state::Record;
@@ -24,9 +26,10 @@ fn put(r: Record, images: &mut [u8], b: u64, bytes: &[u8])
     ensures images { λ _. ⌜ now (images .exit) ≡
         storedIn r (writeStores r (now (images .entry)) b (now (bytes .entry))) (now (images .entry)) ⌝ }
 {
-    let f = find(geometry_of(r), b);
-    let q = f.place;
-    let p = f.parity;
+    let g = geometry_of(r);
+    let x = place_of(g, b, slot_of(g, b));
+    let q = x.block;
+    let p = x.parity.disk;
     let health = r.health;
     if is_absent(health, q.stripe, q.disk) {
         fold_others(
@@ -51,7 +54,8 @@ pub fn write(r: Record, images: &mut [u8], b: u64, bytes: &[u8]) -> u8
     ensures answer { λ k. ⌜ k ≡ number (called (on (write b (now (bytes .entry))) (now (images .entry)) []) r .answer) ⌝ }
     ensures images { λ _. ⌜ now (images .exit) ≡ called (on (write b (now (bytes .entry))) (now (images .entry)) []) r .images ⌝ }
 {
-    let k = of_reach(r, images.len(), b, bytes.len());
+    let begun = of_lent(r, images.len());
+    let k = of_reach(begun, r, images.len(), b, bytes.len());
     if k != 0 {
         return k;
     }

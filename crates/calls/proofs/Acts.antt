@@ -29,14 +29,14 @@ use Rattle.calls.specs.Call.{Event, Answer, done, bytes, made}
 use Rattle.calls.specs.Health.{absent, afterOut, rebuiltTo}
 use Rattle.calls.specs.Images.{disksOf, size, sizeWith, placeIn, othersIn, seen, Store, stored, recorded, zeroDisks}
 use Rattle.calls.specs.Table.{idle, refusal}
-use Rattle.calls.specs.Effect.{placeOf, scratchLeft, moveStores, advanceStores, effect, answerOf, recordLeft, roomLeft}
+use Rattle.calls.specs.Effect.{placeOf, parityOf, scratchLeft, moveStores, advanceStores, effect, answerOf, recordLeft, roomLeft}
 use Rattle.calls.specs.Alone.{movedOn}
 use Rattle.calls.specs.Acts.{Acts, OnlyDone, format-done, write-done, grow-done, out-done, begin-done}
 use Rattle.calls.proofs.Laws.Column.{Mask, storeIf}
 use Rattle.calls.proofs.Laws.Stores.{length-stored, cell-stored, stored-append, stored-last, recorded-last, column-zero}
 use Rattle.calls.proofs.Laws.Holding.{cellIn}
 use Rattle.calls.proofs.Laws.Read.{viewed-is}
-use Rattle.calls.proofs.Laws.Write.{parity-apart, lS, ld, lp, length-w, cell-write}
+use Rattle.calls.proofs.Laws.Write.{parity-is, parity-apart, lS, ld, lp, length-w, cell-write}
 use Rattle.calls.proofs.Laws.Passed.{Reaches}
 use Rattle.calls.proofs.Laws.Kept.{storeIf-other}
 use Rattle.calls.proofs.Laws.Table.{some-new}
@@ -112,7 +112,7 @@ module _ (r : Record) (e : Event) where
     db = placeOf r b .disk
 
     abbrev pb : ℕ
-    pb = layout (geometry r) .parity Sb
+    pb = parityOf r b .disk
 
     abbrev a : Mask
     a = absent (r .health)
@@ -150,11 +150,17 @@ module _ (r : Record) (e : Event) where
         by-cells db (ld (geometry r) (g .array) b (t .block-lt)) v (t .whole)
         (λ I x y j p q. storeIf-same a (storeIf a I Sb pb x) Sb db y u ∙ q)
 
-    write-parity : absent (r .health) Sb pb ≡ false → placeIn r (left r e (write b v)) Sb pb ≡ w
-    write-parity u =
+    parity-stored : absent (r .health) Sb pb ≡ false → placeIn r (left r e (write b v)) Sb pb ≡ w
+    parity-stored u =
         let long-w : length w ≡ r .block = length-w r img g (t .long) b (t .block-lt) v (t .whole) in
         by-cells pb (lp (geometry r) (g .array) b (t .block-lt)) w long-w
         (λ I x y j p q. storeIf-other a (storeIf a I Sb pb x) Sb db y Sb pb (λ s. apart) ∙ storeIf-same a I Sb pb x u ∙ p)
+
+    write-parity : let p = layout (geometry r) .parity Sb in
+        absent (r .health) Sb p ≡ false → placeIn r (left r e (write b v)) Sb p ≡ xorB (xorB (seen r img Sb p) (seen r img Sb db)) v
+    write-parity =
+        subst (λ p. absent (r .health) Sb p ≡ false → placeIn r (left r e (write b v)) Sb p ≡ xorB (xorB (seen r img Sb p) (seen r img Sb db)) v)
+        (parity-is (geometry r) (g .array) b (t .block-lt)) parity-stored
 
   -- ---- grow
 

@@ -1,6 +1,6 @@
 -- What an accepted call leaves alone: `alone` and `record-only`. Assumes nothing.
 use Prim.Native.Nat.{ℕ, zero, suc, _+_, _-_, _≤_, _<_, min}
-use mathlib.Core.Path.{_≡_, refl, sym, _∙_, subst}
+use mathlib.Core.Path.{_≡_, refl, sym, ap, _∙_, subst}
 use mathlib.Core.Bool.{true, false}
 use mathlib.Core.Logic.{_⊎_, _≢_}
 use mathlib.Core.List.{List, []}
@@ -16,12 +16,12 @@ use Rattle.state.specs.Update.{grownBy}
 use Rattle.calls.specs.Health.{absent}
 use Rattle.calls.specs.Images.{disksOf, size, sizeWith, placeIn, storedIn}
 use Rattle.calls.specs.Table.{refusalOf}
-use Rattle.calls.specs.Effect.{placeOf, scratchLeft, effect, imagesLeft, roomLeft, act, untouched, settle, called}
+use Rattle.calls.specs.Effect.{placeOf, parityOf, scratchLeft, effect, imagesLeft, roomLeft, act, untouched, settle, called}
 use Rattle.calls.specs.Alone.{Stays, Alone, RecordOnly}
 use Rattle.calls.proofs.Laws.Column.{storeIf}
 use Rattle.calls.proofs.Laws.Stores.{length-stored, cell-stored, stored-last, column-below}
 use Rattle.calls.proofs.Laws.Holding.{cellIn}
-use Rattle.calls.proofs.Laws.Write.{cell-write}
+use Rattle.calls.proofs.Laws.Write.{parity-is, cell-write}
 use Rattle.calls.proofs.Laws.Kept.{same-place, storeIf-other, storeIf-masked}
 use Rattle.calls.proofs.Laws.Table.{status-rows, locate-rows, owner-rows}
 use Rattle.calls.proofs.Laws.Kinds.{Passed, bounds, writing, growing, continuing, zeroed, within-grow, facts}
@@ -53,7 +53,7 @@ module _ (r : Record) (e : Event) where
     db = placeOf r b .disk
 
     abbrev pb : ℕ
-    pb = layout (geometry r) .parity Sb
+    pb = parityOf r b .disk
 
     -- a place of which the two stores, whatever they put, leave each byte
     by-cells : ((I : Grid) (x y : ℕ) → storeIf (absent (r .health)) (storeIf (absent (r .health)) I Sb pb x) Sb db y S d ≡ I S d) → placeIn r (left (write b v)) S d ≡ placeIn r img S d
@@ -65,10 +65,11 @@ module _ (r : Record) (e : Event) where
 
     write-others : (S ≡ placeOf r b .stripe → (d ≢ placeOf r b .disk) × (d ≢ layout (geometry r) .parity S)) → placeIn r (left (write b v)) S d ≡ placeIn r img S d
     write-others ne =
+        let parity : pb ≡ layout (geometry r) .parity Sb = parity-is (geometry r) (bounds r e (write b v) refl z .array) b (writing r e b v z .block-lt) in
         by-cells
         (λ I x y.
         storeIf-other (absent (r .health)) (storeIf (absent (r .health)) I Sb pb x) Sb db y S d (λ q. ne q .0)
-        ∙ storeIf-other (absent (r .health)) I Sb pb x S d (λ q. subst (λ (s : ℕ). d ≢ layout (geometry r) .parity s) q (ne q .1)))
+        ∙ storeIf-other (absent (r .health)) I Sb pb x S d (λ q. λ same. ne q .1 (same ∙ parity ∙ ap (layout (geometry r) .parity) (sym q))))
 
     write-absent : absent (r .health) S d ≡ true → placeIn r (left (write b v)) S d ≡ placeIn r img S d
     write-absent u =

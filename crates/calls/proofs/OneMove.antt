@@ -11,7 +11,7 @@ use lib.Seq.{ext-getD}
 use Rattle.layout.specs.declared.Geometry.{Geometry}
 use Rattle.layout.specs.Layout.{home, layout, nextStripe, nextFrom, nextTo}
 use Rattle.layout.specs.Limits.{GoodArray}
-use Rattle.layout.proofs.Laws.Standing.{carriedOwner, Carries}
+use Rattle.layout.proofs.Laws.Owners.{carriedOwner, Carries}
 use Rattle.blocks.specs.Block.{zeros}
 use Rattle.blocks.proofs.Laws.Grid.{Grid, storeAt, storeAt-same, storeAt-row, storeAt-far}
 use Rattle.blocks.proofs.Laws.Stripe.{length-place, getD-place}

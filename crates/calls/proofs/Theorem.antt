@@ -83,7 +83,7 @@ values =
       accepts = zero-done;
       counts = λ w k. (refl, refl, refl);
       statuses = λ w c t total h. refl;
-      places = λ w q. refl;
+      places = λ w x. ((λ e. rw e refl), (λ e. rw e refl));
       owners = λ w b. (refl, refl, refl);
       views = λ w v. (refl, refl, refl);
     }

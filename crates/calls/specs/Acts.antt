@@ -100,7 +100,8 @@ pub record Does (e : Event) (r : Record) : Type 0 where
       → act e r .state ≡ withHealth r (Rebuilding o (c + k))
   pub continue-end : (k o c : ℕ) → e .call ≡ continue k → r .health ≡ Rebuilding o c → r .stripes ≤ c + k
       → act e r .state ≡ withHealth r Whole
-  -- status: "capacity, t, total, health"; locate: "the stripe and disk of block b"; owner: "the block number there, or parity, or blank"
+  -- status: "capacity, t, total, health"; locate: "block place, parity place and whether a move now done, of any growth, carried the block
+  -- itself" (document 02, (f)); owner: "the block number there, or parity, or blank"
   pub status-answer : e .call ≡ status
       → act e r .answer ≡ figures (capacity (geometry r)) (r .moves) (totalOf (geometry r)) (r .health)
   pub locate-answer : (b : ℕ) → e .call ≡ locate b → act e r .answer ≡ placed (layout (geometry r) .place b)

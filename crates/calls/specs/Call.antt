@@ -1,12 +1,12 @@
 -- The twelve calls, what each is lent beside the record, and the answers.
 use Prim.Native.Nat.{ℕ}
-use mathlib.Core.Bool.{Bool, true, false}
+use mathlib.Core.Bool.{Bool, true, false, cond}
 use mathlib.Core.List.{List, [], _∷_}
 use lib.Dec.{eqb}
 use lib.ListN.{length, replicate}
-use Rattle.layout.specs.declared.Place.{Place}
 use Rattle.layout.specs.declared.Role.the-variants.{Data, Parity, Blank}
 use Rattle.layout.specs.declared.Role.{Role}
+use Rattle.layout.specs.declared.Standing.{Standing}
 use Rattle.state.specs.declared.Health.{Health}
 use Rattle.state.specs.Bytes.{healthByte, diskByte, stripesDone}
 
@@ -75,7 +75,7 @@ pub data Answer : Type 0 where
   bytes : List ℕ → Answer
   made : ℕ → Answer
   figures : (capacity moves total : ℕ) → Health → Answer
-  placed : Place → Answer
+  placed : Standing → Answer
   owned : Role → Answer
 
 abbrev pub accepted : Answer → Bool
@@ -84,7 +84,7 @@ accepted done = true
 accepted (bytes v) = true
 accepted (made k) = true
 accepted (figures c t total h) = true
-accepted (placed q) = true
+accepted (placed x) = true
 accepted (owned o) = true
 
 -- ---- an answer in numbers: "0 is done. A refusal returns zeros beside its number, an empty view"
@@ -95,7 +95,7 @@ number done = 0
 number (bytes v) = 0
 number (made k) = 0
 number (figures c t total h) = 0
-number (placed q) = 0
+number (placed x) = 0
 number (owned o) = 0
 
 -- the bytes that view returns
@@ -105,7 +105,7 @@ shown done = []
 shown (bytes v) = v
 shown (made k) = []
 shown (figures c t total h) = []
-shown (placed q) = []
+shown (placed x) = []
 shown (owned o) = []
 
 -- the count of advance and continue
@@ -115,7 +115,7 @@ count done = 0
 count (bytes v) = 0
 count (made k) = k
 count (figures c t total h) = 0
-count (placed q) = 0
+count (placed x) = 0
 count (owned o) = 0
 
 -- a place's owner: blank 0, parity 1, data 2, and the block
@@ -130,12 +130,13 @@ roleBlock Parity = 0
 roleBlock (Data b) = b
 
 -- the numbers beside the first, of a call that has w of them: the count of advance and continue; status's capacity, t, total, health, the
--- disk that is out or being rebuilt and the stripes done; locate's stripe and disk; owner's role and block
+-- disk that is out or being rebuilt and the stripes done; locate's stripe and disk, the disk of the parity in that stripe, and 1 if a move
+-- carried the block or else 0; owner's role and block
 abbrev pub beside : ℕ → Answer → List ℕ
 beside w (refused k) = replicate w 0
 beside w done = []
 beside w (bytes v) = []
 beside w (made k) = k ∷ []
 beside w (figures c t total h) = c ∷ t ∷ total ∷ healthByte h ∷ diskByte h ∷ stripesDone h ∷ []
-beside w (placed q) = q .stripe ∷ q .disk ∷ []
+beside w (placed x) = x .block .stripe ∷ x .block .disk ∷ x .parity .disk ∷ cond (x .moved) 1 0 ∷ []
 beside w (owned o) = roleNumber o ∷ roleBlock o ∷ []

@@ -1,8 +1,9 @@
--- What each call answers and stores, and so what it leaves. Document 01, Calls; of begin and continue document 02, (d).
+-- What each call answers and stores, and so what it leaves. Document 01, Calls; of begin and continue document 02, (d), of locate (f).
 use Prim.Native.Nat.{ℕ, zero, suc, _+_, _-_, min}
 use mathlib.Core.Bool.{true, false, cond}
 use mathlib.Core.List.{List, [], _∷_, _++_}
 use Rattle.layout.specs.declared.Place.{Place}
+use Rattle.layout.specs.declared.Standing.{Standing}
 use Rattle.layout.specs.Layout.{totalOf, capacity, layout, nextStripe, nextFrom, nextTo}
 use Rattle.blocks.specs.Block.{blockAt, zeros}
 use Rattle.blocks.specs.Xor.{xorB}
@@ -18,12 +19,21 @@ use Rattle.calls.specs.Health.{absent, afterOut, rebuiltTo}
 use Rattle.calls.specs.Images.{placeIn, othersIn, seen, Store, block, header, storedIn, recorded, unless, fillDisk, zeroDisks}
 use Rattle.calls.specs.Table.{idle, refusalOf, refusalBytes}
 
+-- ---- where block b stands. Document 02, (f): "The place rule, and with it locate, now answers block place, parity place and whether a
+-- move now done, of any growth, carried the block itself. Read, view and write use this wider answer."
+
+abbrev pub standing : Record → ℕ → Standing
+standing r b = layout (geometry r) .place b
+
+abbrev pub placeOf : Record → ℕ → Place
+placeOf r b = standing r b .block
+
+abbrev pub parityOf : Record → ℕ → Place
+parityOf r b = standing r b .parity
+
 -- ---- read and view
 
--- where block b stands, and what is seen there
-abbrev pub placeOf : Record → ℕ → Place
-placeOf r b = layout (geometry r) .place b
-
+-- what is seen there
 abbrev pub blockOf : Record → List ℕ → ℕ → List ℕ
 blockOf r img b = seen r img (placeOf r b .stripe) (placeOf r b .disk)
 
@@ -54,7 +64,7 @@ unfoldable pub writeStores : Record → List ℕ → ℕ → List ℕ → List S
 writeStores r img b v =
     let S = placeOf r b .stripe in
     let d = placeOf r b .disk in
-    let p = layout (geometry r) .parity S in
+    let p = parityOf r b .disk in
     unless (absent (r .health) S p) (block S p (xorB (xorB (seen r img S p) (seen r img S d)) v))
     ++ unless (absent (r .health) S d) (block S d v)
 
@@ -127,8 +137,8 @@ effect (begin d) r e = stores done r (header (withHealth r (Rebuilding d 0)) ∷
 effect (continue k) r e = stores (made (stripesMade k r)) r (continueStores k r (e .images))
 -- "capacity, t, total, health"
 effect status r e = tells (figures (capacity (geometry r)) (r .moves) (totalOf (geometry r)) (r .health))
--- "the stripe and disk of block b"
-effect (locate b) r e = tells (placed (placeOf r b))
+-- "the stripe and disk of block b", its parity's, and whether a move carried it
+effect (locate b) r e = tells (placed (standing r b))
 -- "the block number there, or parity, or blank"
 effect (owner S d) r e = tells (owned (layout (geometry r) .owner S d))
 

@@ -8,8 +8,8 @@ use mathlib.Core.Bool.{Bool, true, false}
 use mathlib.Core.Logic.{_↔_, _≢_}
 use mathlib.Core.List.{List, [], _∷_, _++_}
 use lib.ListN.{replicate}
-use Rattle.layout.specs.declared.Place.{Place}
 use Rattle.layout.specs.declared.Role.the-variants.{Data, Parity, Blank}
+use Rattle.layout.specs.declared.Standing.{Standing}
 use Rattle.state.specs.declared.Health.the-variants.{Rebuilding}
 use Rattle.state.specs.declared.Health.{Health}
 use Rattle.state.specs.declared.Record.{Record}
@@ -95,8 +95,10 @@ pub record Values : Type 0 where
   -- status's capacity, t, total, health, the disk that is out or being rebuilt and the stripes done
   pub statuses : (w c t total : ℕ) (h : Health)
       → beside w (figures c t total h) ≡ c ∷ t ∷ total ∷ healthByte h ∷ diskByte h ∷ stripesDone h ∷ []
-  -- locate's stripe and disk
-  pub places : (w : ℕ) (q : Place) → beside w (placed q) ≡ q .stripe ∷ q .disk ∷ []
+  -- locate's stripe and disk, the parity's disk, and 1 if a move carried the block or else 0
+  pub places : (w : ℕ) (x : Standing) →
+      (x .moved ≡ false → beside w (placed x) ≡ x .block .stripe ∷ x .block .disk ∷ x .parity .disk ∷ 0 ∷ [])
+      × (x .moved ≡ true → beside w (placed x) ≡ x .block .stripe ∷ x .block .disk ∷ x .parity .disk ∷ 1 ∷ [])
   -- owner's role, blank 0, parity 1, data 2, and block
   pub owners : (w b : ℕ)
       → (beside w (owned Blank) ≡ 0 ∷ 0 ∷ []) × (beside w (owned Parity) ≡ 1 ∷ 0 ∷ []) × (beside w (owned (Data b)) ≡ 2 ∷ b ∷ [])

@@ -84,7 +84,7 @@ pub record Claim {R : Type 0} (x : Form R) (e : Event) (a : Cabinet R) (f : Flat
   pub capacity-is : capacity (geometry (x .decoded (leaves x e a .state))) ≡ length (flatStep (fed e) f .1 .blocks)
   pub bench : let r = x .decoded (leaves x e a .state) in
       isLost (r .health) ≡ false → (b : ℕ) → b < capacity (geometry r) →
-      let q = layout (geometry r) .place b in
+      let q = layout (geometry r) .place b .block in
       seen r (next x e a .img) (q .stripe) (q .disk) ≡ getD (flatStep (fed e) f .1 .blocks) b []
 
 -- ---- and of every call of a list, as long as each is lent what it may be

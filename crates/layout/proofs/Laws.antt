@@ -20,5 +20,5 @@ pub mod Lawful
 pub mod Home
 pub mod Grown
 pub mod Layout
-pub mod Standing
+pub mod Owners
 pub mod Moving

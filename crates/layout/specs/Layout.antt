@@ -1,19 +1,20 @@
 -- The layout of an array: where each block stands, where each stripe's parity stands, and who owns each place.
 use Prim.Native.Nat.{ℕ, suc, _+_, _-_, _*_, _/_}
-use mathlib.Core.Bool.{cond}
+use mathlib.Core.Bool.{Bool, false, cond, _||_}
 use lib.Dec.{ltb, eqb}
-use Rattle.layout.specs.declared.Found.{Found}
 use Rattle.layout.specs.declared.Geometry.{Geometry}
 use Rattle.layout.specs.declared.Place.{Place}
 use Rattle.layout.specs.declared.Role.the-variants.{Data, Blank}
 use Rattle.layout.specs.declared.Role.{Role}
-use Rattle.layout.specs.Home.{placeAt, homePlace, parityDisk, homeOwner}
+use Rattle.layout.specs.declared.Standing.{Standing}
+use Rattle.layout.specs.Home.{placeAt, standingAt, homePlace, parityDisk, homeOwner}
 use Rattle.layout.specs.Moves.{total, moveStripe, moveFrom, moveTo}
-use Rattle.layout.specs.Closed.{diskAt, source, taken}
+use Rattle.layout.specs.Closed.{isMoved, diskAt, source, taken}
 use Rattle.layout.specs.Blanks.{newStripe, newDisk, newBlock}
 
+-- `place` is the place rule: of a block its place, its parity's, and whether a move carried it
 pub record Layout : Type 0 where
-  pub place : ℕ → Place
+  pub place : ℕ → Standing
   pub parity : ℕ → ℕ
   pub owner : ℕ → ℕ → Role
 
@@ -50,19 +51,28 @@ capacity g = oldBlocks g + openStripes g * g .new
 
 -- ---- a layout h of the old disks, grown as far as g says
 
--- what stood at place q of the old disks stands here
+-- what stood at place q of the old disks stands here ..
 abbrev pub carried : Geometry → Place → Place
 carried g q = placeAt (q .stripe) (diskAt (g .old) (g .new) (g .moves) (q .stripe) (q .disk))
 
--- new block k, counted from 0
-abbrev pub newPlace : Geometry → ℕ → Place
-newPlace g k = placeAt (newStripe (g .new) k) (newDisk (g .old) (g .new) (g .moves) k)
-
-unfoldable pub grownPlace : Layout → Geometry → ℕ → Place
-grownPlace h g b = cond (ltb b (oldBlocks g)) (carried g (h .place b)) (newPlace g (b - oldBlocks g))
+-- .. and a move of this growth, now done, has taken it from there, or none has
+abbrev pub isCarried : Geometry → Place → Bool
+isCarried g q = isMoved (g .old) (g .new) (g .moves) (q .stripe) (q .disk)
 
 unfoldable pub grownParity : Layout → Geometry → ℕ → ℕ
 grownParity h g S = diskAt (g .old) (g .new) (g .moves) S (h .parity S)
+
+-- a block that stood as x says: "whether a move now done, of any growth, carried the block itself" is what x says of growths before, or a
+-- move of this one
+abbrev pub oldPlace : Geometry → Standing → Standing
+oldPlace g x = record { block = carried g (x .block); parity = carried g (x .parity); moved = x .moved || isCarried g (x .block) }
+
+-- new block k, counted from 0: no move carries it
+abbrev pub newPlace : Layout → Geometry → ℕ → Standing
+newPlace h g k = let S = newStripe (g .new) k in standingAt S (newDisk (g .old) (g .new) (g .moves) k) (grownParity h g S) false
+
+unfoldable pub grownPlace : Layout → Geometry → ℕ → Standing
+grownPlace h g b = cond (ltb b (oldBlocks g)) (oldPlace g (h .place b)) (newPlace h g (b - oldBlocks g))
 
 -- a place where nothing of before the growth stands: a new block, or nothing
 unfoldable pub newOwner : Geometry → ℕ → ℕ → Role
@@ -86,10 +96,6 @@ home g = homeLayout (g .old)
 -- now
 abbrev pub layout : Geometry → Layout
 layout g = grown (home g) g
-
--- the place of block b, and the parity disk of its stripe
-abbrev pub found : Geometry → ℕ → Found
-found g b = record { place = layout g .place b; parity = layout g .parity (layout g .place b .stripe) }
 
 -- ---- its next move: the stripe, the disk that it leaves, the disk that it goes to, and the array with it done
 

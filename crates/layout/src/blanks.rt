@@ -18,21 +18,21 @@ use crate::choice::excess;
 use crate::choice::pick;
 
 // The lags of the stripe's moves: from the first ..
-fn first_lag(n: u64, x: Stripe) -> u64
+fn first_lag(n: u32, x: Stripe) -> u32
     ensures { λ r. ⌜ r ≡ firstLag n (x .within) ⌝ }
 {
     excess(n, x.within)
 }
 
 // .. to below this one.
-fn end_lag(n: u64, m: u64, x: Stripe) -> u64
+fn end_lag(n: u32, m: u32, x: Stripe) -> u32
     requires { ⌜ TakenApart n m x ⌝ }
     ensures { λ r. ⌜ r ≡ endLag n m (x .within) ⌝ }
 {
     n - excess(x.within, m)
 }
 
-fn runs_of(n: u64, m: u64, x: Stripe) -> Runs
+fn runs_of(n: u32, m: u32, x: Stripe) -> Runs
     requires { ⌜ TakenApart n m x ⌝ }
     ensures { λ r. ⌜ r ≡ runsOf n m (x .within) (x .home) ⌝ }
 {
@@ -53,7 +53,7 @@ fn runs_of(n: u64, m: u64, x: Stripe) -> Runs
 
 // How far a blank's disk is above the blank's number, once all moves of the stripe's zone have been made. All along a run that is the same,
 // and it is picked: is the blank on an old disk, and if so in the first run; and if not, in the third?
-fn lift(n: u64, m: u64, x: Stripe, r: Runs, old: bool, low: bool, early: bool) -> u64
+fn lift(n: u32, m: u32, x: Stripe, r: Runs, old: bool, low: bool, early: bool) -> u32
     requires { ⌜ TakenApart n m x × (r ≡ runsOf n m (x .within) (x .home)) ⌝ }
     ensures { λ u. ⌜ u ≡ liftOf n (x .within) r old low early ⌝ }
 {
@@ -63,7 +63,7 @@ fn lift(n: u64, m: u64, x: Stripe, r: Runs, old: bool, low: bool, early: bool) -
 }
 
 // That of blank place j ..
-fn nth_lift(n: u64, m: u64, x: Stripe, j: u64) -> u64
+fn nth_lift(n: u32, m: u32, x: Stripe, j: u32) -> u32
     requires { ⌜ TakenApart n m x × (j < m) ⌝ }
     ensures { λ u. ⌜ j + u ≡ getD (blanks n m (settled n m (x .number)) (x .number)) j 0 ⌝ }
 {
@@ -72,7 +72,7 @@ fn nth_lift(n: u64, m: u64, x: Stripe, j: u64) -> u64
 }
 
 // .. and that of disk e, if that is blank.
-fn disk_lift(n: u64, m: u64, x: Stripe, e: u64) -> u64
+fn disk_lift(n: u32, m: u32, x: Stripe, e: u32) -> u32
     requires { ⌜ TakenApart n m x × (e < n + m) ⌝ }
     ensures { λ u. ⌜ (taken n m (settled n m (x .number)) (x .number) e ≡ false →
         e - u ≡ length (blanksBelow n m (settled n m (x .number)) (x .number) e)) ⌝ }
@@ -82,7 +82,7 @@ fn disk_lift(n: u64, m: u64, x: Stripe, e: u64) -> u64
 }
 
 // Have all moves of the stripe's zone been made?
-pub(crate) fn is_settled(n: u64, m: u64, t: u64, x: Stripe) -> bool
+pub(crate) fn is_settled(n: u32, m: u32, t: u32, x: Stripe) -> bool
     requires { ⌜ TakenApart n m x ⌝ }
     ensures { λ r. ⌜ r ≡ leb (settled n m (x .number)) t ⌝ }
 {
@@ -90,7 +90,7 @@ pub(crate) fn is_settled(n: u64, m: u64, t: u64, x: Stripe) -> bool
 }
 
 // The disk of blank place j after t moves, all those of the stripe's zone or none of them: then the new disks are the blanks.
-pub(crate) fn nth_blank(n: u64, m: u64, t: u64, x: Stripe, j: u64) -> u64
+pub(crate) fn nth_blank(n: u32, m: u32, t: u32, x: Stripe, j: u32) -> u32
     requires { ⌜ TakenApart n m x × Resting n m t (x .number) × (j < m) ⌝ }
     ensures { λ r. ⌜ r ≡ getD (blanks n m t (x .number)) j 0 ⌝ }
 {
@@ -99,7 +99,7 @@ pub(crate) fn nth_blank(n: u64, m: u64, t: u64, x: Stripe, j: u64) -> u64
 
 // The way back: the number of blank places below disk e, if that is one itself. (Of any stripe; where only some moves of its zone are made
 // the answer means nothing, and is at most e.)
-pub(crate) fn count_below(n: u64, m: u64, t: u64, x: Stripe, e: u64) -> u64
+pub(crate) fn count_below(n: u32, m: u32, t: u32, x: Stripe, e: u32) -> u32
     requires { ⌜ TakenApart n m x × (e < n + m) ⌝ }
     ensures { λ r. ⌜ (r ≤ e) × (Resting n m t (x .number) → taken n m t (x .number) e ≡ false →
         r ≡ length (blanksBelow n m t (x .number) e)) ⌝ }

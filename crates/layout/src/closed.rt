@@ -1,13 +1,15 @@
 // Where the contents of a stripe stand after t moves, by the closed form.
 ghost use Prim.Native.Nat.{_<_};
 ghost use mathlib.Core.Path.{_≡_};
-ghost use Rattle.layout.specs.Closed.{stripeOf, lag, diskAt, source};
+ghost use Rattle.layout.specs.Closed.{stripeOf, lag, carriedTo, source};
 ghost use Rattle.layout.specs.Limits.{Sizes, TakenApart};
+use crate::Carried;
 use crate::Stripe;
+use crate::choice::both;
 use crate::choice::excess;
 use crate::choice::pick;
 
-pub(crate) fn stripe_of(n: u64, m: u64, s: u64) -> Stripe
+pub(crate) fn stripe_of(n: u32, m: u32, s: u32) -> Stripe
     requires { ⌜ Sizes n m s ⌝ }
     ensures { λ r. ⌜ r ≡ stripeOf n m s ⌝ }
 {
@@ -20,7 +22,7 @@ pub(crate) fn stripe_of(n: u64, m: u64, s: u64) -> Stripe
 }
 
 // The lag of the one move that can carry what stood on disk d.
-fn lag_of(n: u64, m: u64, x: Stripe, d: u64) -> u64
+fn lag_of(n: u32, m: u32, x: Stripe, d: u32) -> u32
     requires { ⌜ TakenApart n m x × (d < n) ⌝ }
     ensures { λ r. ⌜ r ≡ lag n (x .number) d ⌝ }
 {
@@ -28,20 +30,23 @@ fn lag_of(n: u64, m: u64, x: Stripe, d: u64) -> u64
     if d <= home { home - d } else { home + n - d }
 }
 
-// The disk on which stands, after t moves, what stood on disk d.
-pub(crate) fn disk_at(n: u64, m: u64, t: u64, x: Stripe, d: u64) -> u64
+// Where, after t moves, stands what stood on disk d, and whether a move carried it there.
+pub(crate) fn carried_to(n: u32, m: u32, t: u32, x: Stripe, d: u32) -> Carried
     requires { ⌜ TakenApart n m x × (d < n) ⌝ }
-    ensures { λ r. ⌜ r ≡ diskAt n m t (x .number) d ⌝ }
+    ensures { λ r. ⌜ r ≡ carriedTo n m t (x .number) d ⌝ }
 {
     let i = lag_of(n, m, x, d);
     let p = x.within + i;
     let turn = (x.zone * m + excess(p, n)) * n + i;
-    let to = pick(p < n, d, pick(n + m <= p, d, p));
-    pick(turn < t, to, d)
+    let moved = both(both(n <= p, p < n + m), turn < t);
+    Carried {
+        disk: pick(moved, p, d),
+        moved: moved,
+    }
 }
 
 // The only disk whose content can have come to stand on disk e.
-pub(crate) fn source_of(n: u64, m: u64, x: Stripe, e: u64) -> u64
+pub(crate) fn source_of(n: u32, m: u32, x: Stripe, e: u32) -> u32
     requires { ⌜ TakenApart n m x ⌝ }
     ensures { λ r. ⌜ r ≡ source n m (x .number) e ⌝ }
 {

@@ -3,11 +3,11 @@ ghost use mathlib.Core.Path.{_≡_};
 ghost use Rattle.layout.specs.Coded.{roleOf};
 use crate::Role;
 
-pub(crate) const PARITY: u64 = 4294967296;
+pub(crate) const PARITY: u32 = 4294967294;
 
-pub(crate) const BLANK: u64 = 4294967297;
+pub(crate) const BLANK: u32 = 4294967295;
 
-pub(crate) fn role_of(code: u64) -> Role
+pub(crate) fn role_of(code: u32) -> Role
     ensures { λ r. ⌜ r ≡ roleOf code ⌝ }
 {
     if code < PARITY {

@@ -1,34 +1,35 @@
 // The layout of the whole array: its numbers, places and owners.
-ghost use Prim.Native.Nat.{_<_};
+ghost use Prim.Native.Nat.{_*_, _<_};
 ghost use mathlib.Core.Path.{_≡_};
 ghost use mathlib.Core.Bool.{false};
 ghost use lib.Dec.{ltb, leb, eqb};
 ghost use Rattle.layout.specs.Closed.{taken};
 ghost use Rattle.layout.specs.Layout.{disks, totalOf, oldBlocks, finishedZones, openStripes, capacity};
-ghost use Rattle.layout.specs.Layout.{newOwner, layout, found};
-ghost use Rattle.layout.specs.Slots.{slotOf, slotDisk, InSlot};
+ghost use Rattle.layout.specs.Layout.{newOwner, layout};
+ghost use Rattle.layout.specs.Slots.{oldSlot, newSlot, slotOf, slotDisk, InSlot};
 ghost use Rattle.layout.specs.Coded.{code};
 ghost use Rattle.layout.specs.Limits.{TakenApart, Sized, GoodArray};
-use crate::Found;
+use crate::Carried;
 use crate::Geometry;
 use crate::Place;
 use crate::Role;
 use crate::Slot;
+use crate::Standing;
 use crate::Stripe;
 use crate::blanks::count_below;
 use crate::blanks::is_settled;
 use crate::blanks::nth_blank;
 use crate::choice::pick;
-use crate::closed::disk_at;
+use crate::closed::carried_to;
 use crate::closed::source_of;
 use crate::closed::stripe_of;
 use crate::coded::BLANK;
 use crate::coded::role_of;
+use crate::home::data_disk;
 use crate::home::home_code;
-use crate::home::home_place;
 
 // The moves of the growth: those of its whole groups. With no whole group there is none.
-pub fn total_of(g: Geometry) -> u64
+pub fn total_of(g: Geometry) -> u32
     requires { ⌜ Sized g ⌝ }
     ensures { λ r. ⌜ r ≡ totalOf g ⌝ }
 {
@@ -54,7 +55,7 @@ pub fn all_moved(g: Geometry) -> bool
 }
 
 // The blocks of before the growth.
-fn old_blocks(g: Geometry) -> u64
+fn old_blocks(g: Geometry) -> u32
     requires { ⌜ GoodArray g ⌝ }
     ensures { λ r. ⌜ r ≡ oldBlocks g ⌝ }
 {
@@ -62,7 +63,7 @@ fn old_blocks(g: Geometry) -> u64
 }
 
 // Its finished zones, where it has new disks.
-fn finished_zones(g: Geometry) -> u64
+fn finished_zones(g: Geometry) -> u32
     requires { ⌜ GoodArray g × (0 < g .new) ⌝ }
     ensures { λ r. ⌜ r ≡ finishedZones g ⌝ }
 {
@@ -70,7 +71,7 @@ fn finished_zones(g: Geometry) -> u64
 }
 
 // The stripes whose blanks are new blocks. (While moves are left there are new disks.)
-fn open_stripes(g: Geometry) -> u64
+fn open_stripes(g: Geometry) -> u32
     requires { ⌜ GoodArray g ⌝ }
     ensures { λ r. ⌜ r ≡ openStripes g ⌝ }
 {
@@ -82,7 +83,7 @@ fn open_stripes(g: Geometry) -> u64
 }
 
 // The number of blocks.
-pub fn capacity_of(g: Geometry) -> u64
+pub fn capacity_of(g: Geometry) -> u32
     requires { ⌜ GoodArray g ⌝ }
     ensures { λ r. ⌜ r ≡ capacity g ⌝ }
 {
@@ -94,90 +95,86 @@ pub fn has_block(g: Geometry, b: u64) -> bool
     requires { ⌜ GoodArray g ⌝ }
     ensures { λ r. ⌜ r ≡ ltb b (capacity g) ⌝ }
 {
-    let old = old_blocks(g);
+    let old = old_blocks(g) as u64;
     if b < old {
         return true;
     }
-    b - old < open_stripes(g) * g.new
+    b - old < (open_stripes(g) * g.new) as u64
 }
 
-// The slot of block b.
-fn slot_of(g: Geometry, b: u64) -> Slot
-    requires { ⌜ GoodArray g × (b < capacity g) ⌝ }
-    ensures { λ r. ⌜ r ≡ slotOf g b ⌝ }
+// The slot of block b of before the growth ..
+fn old_slot(g: Geometry, b: u32) -> Slot
+    requires { ⌜ GoodArray g × (b < oldBlocks g) ⌝ }
+    ensures { λ y. ⌜ y ≡ oldSlot g b ⌝ }
 {
-    let old = old_blocks(g);
-    if b < old {
-        let q = home_place(g.old, b);
-        return Slot {
-            stripe: q.stripe,
-            nth: q.disk,
-            new: false,
-        };
-    }
+    let n = g.old;
+    let x = stripe_of(n, g.new, b / (n - 1));
     Slot {
-        stripe: (b - old) / g.new,
-        nth: (b - old) % g.new,
+        stripe: x,
+        nth: data_disk(n, x.home, x.number, b % (n - 1)),
+        new: false,
+    }
+}
+
+// .. and of new block k, counted from 0.
+fn new_slot(g: Geometry, k: u32) -> Slot
+    requires { ⌜ GoodArray g × (k < openStripes g * g .new) ⌝ }
+    ensures { λ y. ⌜ y ≡ newSlot g k ⌝ }
+{
+    Slot {
+        stripe: stripe_of(g.old, g.new, k / g.new),
+        nth: k % g.new,
         new: true,
     }
 }
 
-// The disk of slot y, whose stripe is x.
-fn slot_disk(g: Geometry, x: Stripe, y: Slot) -> u64
-    requires { ⌜ TakenApart (g .old) (g .new) x × InSlot g (x .number) y ⌝ }
-    ensures { λ r. ⌜ r ≡ slotDisk g (x .number) y ⌝ }
+// The slot of block b. (To find a block takes this function and `place_of`, and not one alone: either is short enough for the compiler
+// to make it part of every call that asks, and then no number goes through memory.)
+pub fn slot_of(g: Geometry, b: u64) -> Slot
+    requires { ⌜ GoodArray g × (b < capacity g) ⌝ }
+    ensures { λ y. ⌜ y ≡ slotOf g b ⌝ }
 {
+    let old = old_blocks(g) as u64;
+    if b < old {
+        return old_slot(g, b as u32);
+    }
+    new_slot(g, (b - old) as u32)
+}
+
+// The disk of slot y, and whether a move carried its block.
+fn slot_disk(g: Geometry, y: Slot) -> Carried
+    requires { ⌜ InSlot g y ⌝ }
+    ensures { λ r. ⌜ r ≡ slotDisk g y ⌝ }
+{
+    let x = y.stripe;
     if y.new {
-        nth_blank(g.old, g.new, g.moves, x, y.nth)
-    } else {
-        disk_at(g.old, g.new, g.moves, x, y.nth)
-    }
-}
-
-// Where block b stands: with no new disk, where it stood before the growth.
-pub fn place_of(g: Geometry, b: u64) -> Place
-    requires { ⌜ GoodArray g × (b < capacity g) ⌝ }
-    ensures { λ r. ⌜ r ≡ layout g .place b ⌝ }
-{
-    if g.new == 0 {
-        return home_place(g.old, b);
-    }
-    let y = slot_of(g, b);
-    let x = stripe_of(g.old, g.new, y.stripe);
-    Place {
-        stripe: y.stripe,
-        disk: slot_disk(g, x, y),
-    }
-}
-
-// The disk on which the parity of stripe x stands.
-fn parity_at(g: Geometry, x: Stripe) -> u64
-    requires { ⌜ TakenApart (g .old) (g .new) x ⌝ }
-    ensures { λ r. ⌜ r ≡ layout g .parity (x .number) ⌝ }
-{
-    disk_at(g.old, g.new, g.moves, x, x.home)
-}
-
-// Where block b stands, and the parity of its stripe, which is taken apart once for both.
-pub fn find(g: Geometry, b: u64) -> Found
-    requires { ⌜ GoodArray g × (b < capacity g) ⌝ }
-    ensures { λ r. ⌜ r ≡ found g b ⌝ }
-{
-    if g.new == 0 {
-        let q = home_place(g.old, b);
-        return Found {
-            place: q,
-            parity: q.stripe % g.old,
+        return Carried {
+            disk: nth_blank(g.old, g.new, g.moves, x, y.nth),
+            moved: false,
         };
     }
-    let y = slot_of(g, b);
-    let x = stripe_of(g.old, g.new, y.stripe);
-    Found {
-        place: Place {
-            stripe: y.stripe,
-            disk: slot_disk(g, x, y),
+    carried_to(g.old, g.new, g.moves, x, y.nth)
+}
+
+// Where block b stands, whose slot is y, and its parity; and whether a move carried the block. (The number is for the contract alone.)
+pub fn place_of(g: Geometry, b: u64, y: Slot) -> Standing
+    requires { ⌜ GoodArray g × (b < capacity g) × (y ≡ slotOf g b) ⌝ }
+    ensures { λ r. ⌜ r ≡ layout g .place b ⌝ }
+{
+    let x = y.stripe;
+    let s = x.number;
+    let parity = carried_to(g.old, g.new, g.moves, x, x.home);
+    let block = slot_disk(g, y);
+    Standing {
+        block: Place {
+            stripe: s,
+            disk: block.disk,
         },
-        parity: parity_at(g, x),
+        parity: Place {
+            stripe: s,
+            disk: parity.disk,
+        },
+        moved: block.moved,
     }
 }
 
@@ -193,7 +190,7 @@ fn is_open(g: Geometry, x: Stripe) -> bool
 }
 
 // What disk e of stripe x holds, coded, if nothing of before the growth.
-fn new_code(g: Geometry, x: Stripe, e: u64) -> u64
+fn new_code(g: Geometry, x: Stripe, e: u32) -> u32
     requires { ⌜ GoodArray g × TakenApart (g .old) (g .new) x × (x .number < g .stripes) × (e < disks g) ⌝ }
     ensures { λ r. ⌜ (taken (g .old) (g .new) (g .moves) (x .number) e ≡ false → r ≡ code (newOwner g (x .number) e)) ⌝ }
 {
@@ -203,14 +200,14 @@ fn new_code(g: Geometry, x: Stripe, e: u64) -> u64
 }
 
 // What disk e of stripe s holds: what came to stand there, or a new block, or nothing.
-pub fn owner_of(g: Geometry, s: u64, e: u64) -> Role
+pub fn owner_of(g: Geometry, s: u32, e: u32) -> Role
     requires { ⌜ GoodArray g × (s < g .stripes) × (e < disks g) ⌝ }
     ensures { λ r. ⌜ r ≡ layout g .owner s e ⌝ }
 {
     let x = stripe_of(g.old, g.new, s);
     let d = source_of(g.old, g.new, x, e);
-    let there = disk_at(g.old, g.new, g.moves, x, d);
+    let there = carried_to(g.old, g.new, g.moves, x, d);
     let old = home_code(g.old, x.home, s, d);
     let new = new_code(g, x, e);
-    role_of(pick(there == e, old, new))
+    role_of(pick(there.disk == e, old, new))
 }

@@ -6,9 +6,9 @@ ghost use Rattle.layout.specs.Limits.{Disks};
 use crate::Cursor;
 use crate::Move;
 
-// Move k: its place in the order taken apart, then document 01's rule. No array has 2^28 moves.
-pub fn move_of(n: u64, m: u64, k: u64) -> Move
-    requires { ⌜ Disks n m × (0 < m) × (k < 268435456) ⌝ }
+// Move k: its place in the order taken apart, then document 01's rule. No array has more than 2^24 moves.
+pub fn move_of(n: u32, m: u32, k: u32) -> Move
+    requires { ⌜ Disks n m × (0 < m) × (k < 16777216) ⌝ }
     ensures { λ r. ⌜ r ≡ moveOf n m k ⌝ }
 {
     let q = k / n;
@@ -26,8 +26,8 @@ pub fn move_of(n: u64, m: u64, k: u64) -> Move
 }
 
 // The cursor at move k.
-pub fn cursor_of(n: u64, m: u64, k: u64) -> Cursor
-    requires { ⌜ Disks n m × (0 < m) × (k < 268435456) ⌝ }
+pub fn cursor_of(n: u32, m: u32, k: u32) -> Cursor
+    requires { ⌜ Disks n m × (0 < m) × (k < 16777216) ⌝ }
     ensures { λ r. ⌜ r ≡ cursorAt n m k ⌝ }
 {
     let x = move_of(n, m, k);
@@ -42,14 +42,14 @@ pub fn cursor_of(n: u64, m: u64, k: u64) -> Cursor
 }
 
 // One disk up and two disks down, in the circle of the n old disks.
-fn one_up(n: u64, d: u64) -> u64
+fn one_up(n: u32, d: u32) -> u32
     requires { ⌜ Disks n 0 × (d < n) ⌝ }
     ensures { λ r. ⌜ r ≡ (d + 1) % n ⌝ }
 {
     if d + 1 < n { d + 1 } else { 0 }
 }
 
-fn two_down(n: u64, d: u64) -> u64
+fn two_down(n: u32, d: u32) -> u32
     requires { ⌜ Disks n 0 × (d < n) ⌝ }
     ensures { λ r. ⌜ r ≡ (d + n - 2) % n ⌝ }
 {
@@ -57,8 +57,8 @@ fn two_down(n: u64, d: u64) -> u64
 }
 
 // The next move, with no division: i rises, then p, then the zone.
-pub fn next_move(n: u64, m: u64, c: Cursor) -> Cursor
-    requires { ⌜ Disks n m × (0 < m) × (c .index < 268435456) × (c ≡ cursorAt n m (c .index)) ⌝ }
+pub fn next_move(n: u32, m: u32, c: Cursor) -> Cursor
+    requires { ⌜ Disks n m × (0 < m) × (c .index < 16777216) × (c ≡ cursorAt n m (c .index)) ⌝ }
     ensures { λ r. ⌜ r ≡ cursorAt n m (c .index + 1) ⌝ }
 {
     let k = c.index + 1;

@@ -7,7 +7,7 @@ use mathlib.Core.List.{List}
 use lib.Dec.{eqb}
 use lib.ListN.{length}
 use Rattle.parity.specs.declared.Gapped.{Gapped}
-use Rattle.blocks.specs.Block.{blockAt, store, copiedTo, zeros}
+use Rattle.blocks.specs.Block.{blockAt, store, copiedTo, zeros, Disjoint}
 use Rattle.blocks.specs.Xor.{xorB}
 use Rattle.blocks.specs.Stripe.{offset, place, others}
 
@@ -18,6 +18,14 @@ foldedOver l parity old b = xorB (xorB (blockAt l parity (length b)) old) b
 -- the same where the old block stands in l, from offset at on
 abbrev pub folded : List ℕ → ℕ → ℕ → List ℕ → List ℕ
 folded l parity at b = foldedOver l parity (blockAt l at (length b)) b
+
+-- the images l with n bytes of it stored, from `first` on
+abbrev pub partModified : List ℕ → ℕ → ℕ → List ℕ → ℕ → ℕ → List ℕ
+partModified l parity at b first n = copiedTo l (parity + first) (folded l parity at b) first n
+
+-- the parity and the old block, of so many bytes each, lie within the images, and apart
+abbrev pub ModifyInside : ℕ → ℕ → ℕ → ℕ → Type 0
+ModifyInside parity at bytes images = (parity + bytes ≤ images) × (at + bytes ≤ images) × Disjoint parity bytes at bytes
 
 -- the images with a write of b to place (S, d) folded into the parity, place (S, p): the xor of all but disk d's stands for the old block
 abbrev pub foldedOthers : ℕ → List ℕ → ℕ → ℕ → ℕ → ℕ → List ℕ → List ℕ

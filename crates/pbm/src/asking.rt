@@ -1,5 +1,6 @@
 // The calls that answer from the record alone. The numbers are 0 until the call is known to be accepted.
 ghost use mathlib.Core.Path.{_≡_};
+ghost use mathlib.Core.Bool.{cond};
 ghost use mathlib.Core.List.{[], _∷_};
 ghost use Rattle.calls.specs.Call.{status, locate, owner, on, number, roleNumber, roleBlock, beside};
 ghost use Rattle.calls.specs.Effect.{calledBytes};
@@ -58,22 +59,33 @@ pub extern "C" fn pbm_status(
 }
 
 #[no_mangle]
-pub extern "C" fn pbm_locate(rec: &[u8], b: u64, stripe: &mut u64, disk: &mut u64) -> u8
+pub extern "C" fn pbm_locate(
+    rec: &[u8],
+    b: u64,
+    stripe: &mut u64,
+    disk: &mut u64,
+    parity: &mut u64,
+    moved: &mut u64,
+) -> u8
     ensures answer { λ k. ⌜ k ≡ number (calledBytes (on (locate b) [] []) (now (rec .entry)) .answer) ⌝ }
-    ensures beside { λ _. ⌜ (now (stripe .exit) ∷ now (disk .exit) ∷ []) ≡
-        beside 2 (calledBytes (on (locate b) [] []) (now (rec .entry)) .answer) ⌝ }
+    ensures beside { λ _. ⌜ (now (stripe .exit) ∷ now (disk .exit) ∷ now (parity .exit) ∷ now (moved .exit) ∷ []) ≡
+        beside 4 (calledBytes (on (locate b) [] []) (now (rec .entry)) .answer) ⌝ }
 {
     *stripe = 0;
     *disk = 0;
+    *parity = 0;
+    *moved = 0;
     if !is_readable(rec) {
         return RECORD;
     }
     let x = array::locate(decode(rec), b);
     match x {
         Located::Refused(k) => k,
-        Located::At(q) => {
-            *stripe = q.stripe;
-            *disk = q.disk;
+        Located::At(y) => {
+            *stripe = y.block.stripe as u64;
+            *disk = y.block.disk as u64;
+            *parity = y.parity.disk as u64;
+            *moved = one_if(y.moved);
             0
         }
     }
@@ -101,6 +113,12 @@ pub extern "C" fn pbm_owner(rec: &[u8], s: u64, d: u64, role: &mut u64, block: &
     }
 }
 
+fn one_if(test: bool) -> u64
+    ensures number { λ x. ⌜ x ≡ cond test 1 0 ⌝ }
+{
+    if test { 1 } else { 0 }
+}
+
 fn role_number(o: Role) -> u64
     ensures number { λ x. ⌜ x ≡ roleNumber o ⌝ }
 {
@@ -117,6 +135,6 @@ fn role_block(o: Role) -> u64
     match o {
         Role::Blank => 0,
         Role::Parity => 0,
-        Role::Data(b) => b,
+        Role::Data(b) => b as u64,
     }
 }

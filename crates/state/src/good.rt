@@ -5,8 +5,6 @@ ghost use Rattle.state.specs.Good.{geometry, within, oldGood, newGood, a
 ghost use Rattle.state.specs.Good.{movesGood, healthGood, good};
 use crate::Health;
 use crate::Record;
-use crate::bytes::disk_byte;
-use crate::bytes::stripes_done;
 use layout::Geometry;
 use layout::moves_fit;
 
@@ -15,10 +13,10 @@ pub fn geometry_of(r: Record) -> Geometry
     ensures { λ g. ⌜ g ≡ geometry r ⌝ }
 {
     Geometry {
-        old: r.old as u64,
-        new: r.new as u64,
-        stripes: r.stripes as u64,
-        moves: r.moves as u64,
+        old: r.old as u32,
+        new: r.new as u32,
+        stripes: r.stripes,
+        moves: r.moves,
     }
 }
 
@@ -76,23 +74,27 @@ fn moves_are_good(r: Record) -> bool
     requires { ⌜ (3 ≤ r .old) × (r .old ≤ 16) × (r .stripes ≤ 1048576) ⌝ }
     ensures { λ x. ⌜ x ≡ movesGood (geometry r) ⌝ }
 {
-    let g = geometry_of(r);
-    if !added_is_good(g.new) {
+    if !added_is_good(r.new as u64) {
         return false;
     }
-    moves_fit(g)
+    moves_fit(geometry_of(r))
 }
 
-// Is the disk that is out or being rebuilt, if one is, a disk of the array, and is a stripe of it left to rebuild? (Both numbers are 0
-// where there is none. By these it costs less than by the four cases: a call then tests a record in its own code.)
+// Is the disk that is out or being rebuilt, if one is, a disk of the array, and is a stripe of it left to rebuild?
 fn health_is_good(disks: u64, stripes: u32, health: Health) -> bool
-    requires { ⌜ (1 ≤ disks) × (1 ≤ stripes) ⌝ }
     ensures { λ r. ⌜ r ≡ healthGood disks stripes health ⌝ }
 {
-    if disks <= disk_byte(health) as u64 {
-        return false;
+    match health {
+        Health::Whole => true,
+        Health::Out(d) => (d as u64) < disks,
+        Health::Lost => true,
+        Health::Rebuilding { disk, done } => {
+            if disks <= disk as u64 {
+                return false;
+            }
+            done < stripes
+        }
     }
-    stripes_done(health) < stripes
 }
 
 // Is every field in its limits?

@@ -23,7 +23,7 @@ pub use update::with_health;
 pub use update::with_moves;
 
 // All disks are in; two were out at once, and nothing can be read until a new format; the one that is out; or the one that is being
-// rebuilt, with the stripes of it that are done: those below that number. (The two that have a disk stand last: one test tells them.)
+// rebuilt, with the stripes of it that are done: those below that number.
 pub enum Health {
     Whole,
     Lost,

@@ -10,7 +10,7 @@ use crate::print::put_column;
 use crate::print::put_text;
 
 // The line of move k: at most 17 bytes.
-fn put_line(out: &mut [u8], at: usize, n: u64, m: u64, k: u64) -> usize
+fn put_line(out: &mut [u8], at: usize, n: u32, m: u32, k: u32) -> usize
     requires { ⌜ Listed n m k × (at + 17 ≤ length (now out)) ⌝ }
     ensures { λ r. ⌜ Stored (now (out .entry)) at (moveLine n m k) (now (out .exit)) r ⌝ }
 {
@@ -27,7 +27,7 @@ fn put_line(out: &mut [u8], at: usize, n: u64, m: u64, k: u64) -> usize
 }
 
 // The lines of count moves from first on, at the start of out.
-fn put_lines(out: &mut [u8], n: u64, m: u64, first: u64, count: u64) -> usize
+fn put_lines(out: &mut [u8], n: u32, m: u32, first: u32, count: u32) -> usize
     requires { ⌜ Disks n m × (0 < m) × (first + count ≤ n * m * n) × (17 * count ≤ length (now out)) ⌝ }
     ensures { λ r. ⌜ Stored (now (out .entry)) 0 (linesOf n m (indices first count)) (now (out .exit)) r ⌝ }
 {

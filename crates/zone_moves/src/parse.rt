@@ -6,13 +6,13 @@ ghost use Rattle.zone_moves.specs.Request.{isDigit, inLimits, fieldOf, f
 
 // What stands at a position: a number, with the position behind the byte that ends it, or none.
 pub enum Field {
-    Number { value: u64, next: usize },
+    Number { value: u32, next: usize },
     Bad,
 }
 
 // What a line asks: zone z of a growth from n to n + m disks, or nothing that is answered.
 pub enum Request {
-    Zone { n: u64, m: u64, z: u64 },
+    Zone { n: u32, m: u32, z: u32 },
     Refused,
 }
 
@@ -29,11 +29,11 @@ fn is_digit(b: u8) -> bool
     b'0' <= b && b <= b'9'
 }
 
-fn value_of(b: u8) -> u64
+fn value_of(b: u8) -> u32
     requires { ⌜ 48 ≤ b ⌝ }
     ensures { λ r. ⌜ r ≡ b - 48 ⌝ }
 {
-    (b - 48) as u64
+    (b - 48) as u32
 }
 
 // What the bytes a, b, c, the first of them at `at`, begin with.
@@ -75,7 +75,7 @@ fn field_at(s: &[u8], at: usize, stop: u8) -> Field
     field_of(a, b, c, at, stop)
 }
 
-fn in_limits(n: u64, m: u64, z: u64) -> bool
+fn in_limits(n: u32, m: u32, z: u32) -> bool
     ensures { λ r. ⌜ r ≡ inLimits n m z ⌝ }
 {
     if n < 3 {

@@ -26,7 +26,7 @@ pub fn put_text(out: &mut [u8], at: usize, text: &[u8]) -> usize
     at + i
 }
 
-fn digit_of(d: u64) -> u8
+fn digit_of(d: u32) -> u8
     requires { ⌜ d < 10 ⌝ }
     ensures { λ r. ⌜ r ≡ digit d ⌝ }
 {
@@ -34,7 +34,7 @@ fn digit_of(d: u64) -> u8
 }
 
 // A number of one or two digits.
-fn put_small(out: &mut [u8], at: usize, x: u64) -> usize
+fn put_small(out: &mut [u8], at: usize, x: u32) -> usize
     requires { ⌜ (x < 100) × (at + length (decimal x) ≤ length (now out)) ⌝ }
     ensures { λ r. ⌜ Stored (now (out .entry)) at (decimal x) (now (out .exit)) r ⌝ }
 {
@@ -46,7 +46,7 @@ fn put_small(out: &mut [u8], at: usize, x: u64) -> usize
 }
 
 // A number of up to four digits: those above the last two, then the last two.
-fn put_decimal(out: &mut [u8], at: usize, x: u64) -> usize
+fn put_decimal(out: &mut [u8], at: usize, x: u32) -> usize
     requires { ⌜ (x < 10000) × (at + length (decimal x) ≤ length (now out)) ⌝ }
     ensures { λ r. ⌜ Stored (now (out .entry)) at (decimal x) (now (out .exit)) r ⌝ }
 {
@@ -59,7 +59,7 @@ fn put_decimal(out: &mut [u8], at: usize, x: u64) -> usize
 }
 
 // A number and the byte that ends it.
-pub fn put_column(out: &mut [u8], at: usize, x: u64, stop: u8) -> usize
+pub fn put_column(out: &mut [u8], at: usize, x: u32, stop: u8) -> usize
     requires { ⌜ (x < 10000) × (at + length (column x stop) ≤ length (now out)) ⌝ }
     ensures { λ r. ⌜ Stored (now (out .entry)) at (column x stop) (now (out .exit)) r ⌝ }
 {

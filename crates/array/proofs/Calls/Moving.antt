@@ -14,7 +14,7 @@ use Rattle.layout.specs.Layout.{totalOf, capacity, home, layout, nextStripe, ne
 use Rattle.layout.specs.Limits.{Disks, GoodArray}
 use Rattle.layout.proofs.Laws.Counting.{own-index, counted-on}
 use Rattle.layout.proofs.Laws.Bounds.{total-high}
-use Rattle.layout.proofs.Laws.Standing.{carriedOwner, Carries, carries}
+use Rattle.layout.proofs.Laws.Owners.{carriedOwner, Carries, carries}
 use Rattle.blocks.specs.Block.{blockAt, store, zeros}
 use Rattle.blocks.specs.Stripe.{offset}
 use Rattle.blocks.proofs.Laws.Stripe.{place-in}
@@ -155,7 +155,7 @@ module _ (r : Record) (img : List ℕ) (count : ℕ) (l : GoodRecord r) (busy : 
       (lim, still, f .next, f .long ∙ lent)
 
   -- what counting on asks for
-  pub made-index : Disks (r .old) (r .new) × (0 < r .new) × (at .index < 268435456) × (at ≡ cursorAt (r .old) (r .new) (at .index))
+  pub made-index : Disks (r .old) (r .new) × (0 < r .new) × (at .index < 16777216) × (at ≡ cursorAt (r .old) (r .new) (at .index))
   made-index =
       let i : at .index ≡ r .moves + done = ap (λ (x : Cursor). x .index) (f .next) in
       (l .array .disks, omega (arith, nz), omega (arith, i, total-high (geometry r) (l .array)), own-index (r .old) (r .new) (r .moves + done) at (f .next))

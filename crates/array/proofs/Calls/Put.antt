@@ -1,13 +1,12 @@
 -- The stores of a write, by which of its two disks is absent. Assumes nothing.
-use Prim.Native.Nat.{ℕ, _+_, _≤_, _<_}
+use Prim.Native.Nat.{ℕ, _+_, _≤_}
 use mathlib.Core.Path.{_≡_, refl, sym, ap, _∙_}
 use mathlib.Core.Bool.{Bool, true, false}
 use mathlib.Core.Logic.{_≢_, inr}
 use mathlib.Core.List.{List}
 use lib.ListN.{length}
-use Rattle.layout.specs.declared.Geometry.{Geometry}
 use Rattle.layout.specs.declared.Place.{Place}
-use Rattle.layout.specs.Layout.{layout}
+use Rattle.layout.specs.declared.Standing.{Standing}
 use Rattle.blocks.specs.Block.{store, Disjoint}
 use Rattle.blocks.specs.Xor.{xorB}
 use Rattle.blocks.specs.Stripe.{offset, place, PlaceInside, others}
@@ -15,7 +14,6 @@ use Rattle.parity.specs.Fold.{folded}
 use Rattle.blocks.proofs.Laws.Block.{length-store}
 use Rattle.blocks.proofs.Laws.Stripe.{place-in, places-apart}
 use Rattle.state.specs.declared.Record.{Record}
-use Rattle.state.specs.Good.{geometry}
 use Rattle.calls.specs.Health.{absent}
 use Rattle.calls.specs.Images.{disksOf, seen, stored}
 use Rattle.calls.specs.Effect.{writeStores}
@@ -23,28 +21,23 @@ use Rattle.calls.proofs.Laws.Column.{Single}
 use Rattle.calls.proofs.Laws.Holding.{single}
 use Rattle.array.proofs.Calls.Reach.{Reached, inside, short, summed}
 
--- a write of v to the block at q, with the parity on disk p
-pub record Aimed (r : Record) (len b : ℕ) (v : List ℕ) (q : Place) (p : ℕ) : Type 0 where
-  pub reach : Reached r len b (length v) q
-  pub parity : p ≡ layout (geometry r) .parity (q .stripe)
+-- a write of v to block b, which stands as y says (a record, so that a proof need not name v)
+pub record Aimed (r : Record) (len b : ℕ) (v : List ℕ) (y : Standing) : Type 0 where
+  pub reach : Reached r len b (length v) y
 
-pub aimed : (r : Record) (len b : ℕ) (v : List ℕ) (q : Place) (p : ℕ) → Reached r len b (length v) q → (g : Geometry) → g ≡ geometry r → p ≡ layout g .parity (q .stripe)
-    → Aimed r len b v q p
-aimed r len b v q p x g e f = record { reach = x; parity = f ∙ ap (λ (x : Geometry). layout x .parity (q .stripe)) e }
-
-module _ {r : Record} {len b : ℕ} {v : List ℕ} {q : Place} {p : ℕ} (a : Aimed r len b v q p) where
-  abbrev x : Reached r len b (length v) q
+module _ {r : Record} {len b : ℕ} {v : List ℕ} {y : Standing} (a : Aimed r len b v y) where
+  abbrev x : Reached r len b (length v) y
   x = a .reach
 
-  abbrev y : p ≡ layout (geometry r) .parity (q .stripe)
-  y = a .parity
+  abbrev q : Place
+  q = y .block
 
-  pub parity-lt : p < disksOf r
-  parity-lt = rw y (x .parity-lt)
+  -- the parity's disk
+  abbrev p : ℕ
+  p = y .parity .disk
 
-  -- no block stands on its parity's disk
   apart : q .disk ≢ p
-  apart z = x .apart (sym y ∙ sym z)
+  apart z = x .apart (sym z)
 
   -- with the data's disk out the parity's is in
   other-in : absent (r .health) (q .stripe) (q .disk) ≡ true → absent (r .health) (q .stripe) p ≡ false
@@ -58,12 +51,12 @@ module _ {r : Record} {len b : ℕ} {v : List ℕ} {q : Place} {p : ℕ} (a : Ai
   -- ---- what the folds ask for
 
   pub sums : {N : ℕ} → N ≡ disksOf r → PlaceInside (length v) (r .stripes) (q .stripe) p N len × (q .disk ≢ p)
-  sums e = let (i, s, l) = summed x e in ((i, short x, s, rw e parity-lt, l), apart)
+  sums e = let (i, s, l) = summed x e in ((i, short x, s, rw e (x .parity-lt), l), apart)
 
   pub folds : {at to : ℕ} → at ≡ offset (r .block) (r .stripes) (q .stripe) (q .disk) → to ≡ offset (r .block) (r .stripes) (q .stripe) p
       → (to + length v ≤ len) × (at + length v ≤ len) × Disjoint to (length v) at (length v)
   folds f t = (
-    rw (t, x .whole, x .long) (place-in (r .block) (r .stripes) (q .stripe) p (disksOf r) (x .stripe-lt) parity-lt),
+    rw (t, x .whole, x .long) (place-in (r .block) (r .stripes) (q .stripe) p (disksOf r) (x .stripe-lt) (x .parity-lt)),
     inside x f,
     rw (f, t, x .whole) (places-apart (r .block) (r .stripes) (q .stripe) p (q .stripe) (q .disk) (x .stripe-lt) (x .stripe-lt) (inr apart)),
   )
@@ -74,17 +67,17 @@ module _ {r : Record} {len b : ℕ} {v : List ℕ} {q : Place} {p : ℕ} (a : Ai
       → store img (offset (length v) (r .stripes) (q .stripe) p) (xorB (xorB (place (length v) (r .stripes) img (q .stripe) p) (others (length v) (r .stripes) img (q .stripe) N (q .disk))) v)
       ≡ stored (r .block) (r .stripes) (writeStores r img b v) img
   unfolding writeStores stored seen
-  data-out img e u = rw (e, x .whole, y, x .is, rw (y, x .is) at (other-in u), rw (x .is) at u) refl
+  data-out img e u = rw (e, x .whole, x .is, rw (x .is) at (other-in u), rw (x .is) at u) refl
 
   -- the data over what is left of the images by the fold, or with no fold
   pub both-in : (img : List ℕ) {left : List ℕ} {at to : ℕ} → at ≡ offset (r .block) (r .stripes) (q .stripe) (q .disk) → to ≡ offset (r .block) (r .stripes) (q .stripe) p
       → absent (r .health) (q .stripe) (q .disk) ≡ false → absent (r .health) (q .stripe) p ≡ false → left ≡ store img to (folded img to at v)
       → (length left ≡ length img) × (store left at v ≡ stored (r .block) (r .stripes) (writeStores r img b v) img)
   unfolding writeStores stored seen
-  both-in img {left} {at} {to} f t u w z = (ap length z ∙ length-store img to (folded img to at v), rw (z, f, t, x .whole, y, x .is, rw (y, x .is) at w, rw (x .is) at u) refl)
+  both-in img {left} {at} {to} f t u w z = (ap length z ∙ length-store img to (folded img to at v), rw (z, f, t, x .whole, x .is, rw (x .is) at w, rw (x .is) at u) refl)
 
   pub parity-out : (img : List ℕ) {left : List ℕ} {at : ℕ} → at ≡ offset (r .block) (r .stripes) (q .stripe) (q .disk)
       → absent (r .health) (q .stripe) (q .disk) ≡ false → absent (r .health) (q .stripe) p ≡ true → left ≡ img
       → (length left ≡ length img) × (store left at v ≡ stored (r .block) (r .stripes) (writeStores r img b v) img)
   unfolding writeStores stored seen
-  parity-out img f u w z = (ap length z, rw (z, f, x .is, rw (y, x .is) at w, rw (x .is) at u) refl)
+  parity-out img f u w z = (ap length z, rw (z, f, x .is, rw (x .is) at w, rw (x .is) at u) refl)

@@ -5,11 +5,13 @@ use mathlib.Core.Bool.{true, false}
 use mathlib.Core.Logic.{_≢_}
 use mathlib.Core.List.{List}
 use native.Mathlib.Omega.{arith}
-use lib.ListN.{length}
 use Rattle.layout.specs.declared.Geometry.{Geometry}
 use Rattle.layout.specs.declared.Place.{Place}
+use Rattle.layout.specs.declared.Slot.{Slot}
+use Rattle.layout.specs.declared.Standing.{Standing}
 use Rattle.layout.specs.Layout.{capacity, layout}
 use Rattle.layout.specs.Limits.{GoodArray}
+use Rattle.layout.specs.Slots.{slotOf}
 use Rattle.blocks.specs.Block.{blockAt}
 use Rattle.blocks.specs.Stripe.{offset}
 use Rattle.blocks.proofs.Laws.Stripe.{place-in}
@@ -21,7 +23,7 @@ use Rattle.calls.specs.Call.{read, feed}
 use Rattle.calls.specs.Health.{isLost, absent}
 use Rattle.calls.specs.Images.{disksOf, size, othersIn, seen}
 use Rattle.calls.specs.Table.{refusalOf}
-use Rattle.calls.specs.Effect.{placeOf, blockOf, viewOf, scratchLeft}
+use Rattle.calls.specs.Effect.{standing, blockOf, viewOf, scratchLeft}
 use Rattle.calls.proofs.Laws.Passed.{passed, in-limits, Reaches, reads}
 use Rattle.calls.proofs.Laws.Write.{lS, ld, lp, parity-apart}
 use Rattle.array.proofs.Calls.Bounds.{bounded}
@@ -33,17 +35,17 @@ place-fits r s d l ls ld =
     let n : disksOf r ≤ 32 = omega (arith, a .disks .n-high, a .disks .m-high) in
     omega (arith, place-in (r .block) (r .stripes) s d (disksOf r) ls ld, bounded (disksOf r) (r .stripes) (r .block) n (a .stripes-high) (l .block-high) .all)
 
--- block b stands at q, inside the images, and the parity of its stripe on another disk
-pub record Reached (r : Record) (len b room : ℕ) (q : Place) : Type 0 where
+-- block b stands as y says, inside the images, and its parity on another disk
+pub record Reached (r : Record) (len b room : ℕ) (y : Standing) : Type 0 where
   pub limits : GoodRecord r
   pub here : isLost (r .health) ≡ false
   pub long : len ≡ size r
   pub whole : room ≡ r .block
-  pub is : q ≡ placeOf r b
-  pub stripe-lt : q .stripe < r .stripes
-  pub disk-lt : q .disk < disksOf r
-  pub parity-lt : layout (geometry r) .parity (q .stripe) < disksOf r
-  pub apart : layout (geometry r) .parity (q .stripe) ≢ q .disk
+  pub is : y ≡ standing r b
+  pub stripe-lt : y .block .stripe < r .stripes
+  pub disk-lt : y .block .disk < disksOf r
+  pub parity-lt : y .parity .disk < disksOf r
+  pub apart : y .parity .disk ≢ y .block .disk
 
 module _ (r : Record) (len b room : ℕ) (z : refusalOf r (feed (read b) len room) ≡ 0) (g : Geometry) (e : g ≡ geometry r) where
   lets : Reaches r (capacity (geometry r)) len b room
@@ -55,9 +57,13 @@ module _ (r : Record) (len b room : ℕ) (z : refusalOf r (feed (read b) len roo
   pub asked : GoodArray g × (b < capacity g)
   asked = subst (λ (x : Geometry). GoodArray x × (b < capacity x)) (sym e) (bounds .array, lets .block-lt)
 
-  pub reached : (q : Place) → q ≡ layout g .place b → Reached r len b room q
-  reached q f =
-      let is : q ≡ placeOf r b = f ∙ ap (λ (x : Geometry). layout x .place b) e in
+  -- for place_of, which has the block's slot from slot_of
+  pub asked-slot : (s : Slot) → s ≡ slotOf g b → GoodArray g × (b < capacity g) × (s ≡ slotOf g b)
+  asked-slot s f = (asked .0, asked .1, f)
+
+  pub reached : (y : Standing) → y ≡ layout g .place b → Reached r len b room y
+  reached y f =
+      let is : y ≡ standing r b = f ∙ ap (λ (x : Geometry). layout x .place b) e in
       let a = bounds .array in
       let lb = lets .block-lt in
       record {
@@ -72,7 +78,10 @@ module _ (r : Record) (len b room : ℕ) (z : refusalOf r (feed (read b) len roo
         apart = rw is (parity-apart (geometry r) a b lb);
       }
 
-module _ {r : Record} {len b room : ℕ} {q : Place} (x : Reached r len b room q) where
+module _ {r : Record} {len b room : ℕ} {y : Standing} (x : Reached r len b room y) where
+  abbrev q : Place
+  q = y .block
+
   -- its place lies inside the images
   pub inside : {at : ℕ} → at ≡ offset (r .block) (r .stripes) (q .stripe) (q .disk) → at + room ≤ len
   inside e = rw (e, x .whole, x .long) (place-in (r .block) (r .stripes) (q .stripe) (q .disk) (disksOf r) (x .stripe-lt) (x .disk-lt))

@@ -16,7 +16,7 @@ use Rattle.array.specs.Answers.{choiceOf, choiceAnswer, ends}
 use Rattle.calls.specs.Call.{view, Event, on, fed, Answer, bytes, number}
 use Rattle.calls.specs.Health.{absent}
 use Rattle.calls.specs.Table.{refusalOf}
-use Rattle.calls.specs.Effect.{placeOf, View, part, scratch, viewOf, scratchLeft, viewed, effect, called}
+use Rattle.calls.specs.Effect.{standing, placeOf, View, part, scratch, viewOf, scratchLeft, viewed, effect, called}
 use Rattle.array.proofs.Calls.Called.{called-refused, called-done}
 use Rattle.calls.proofs.Laws.Table.{view-rows}
 use Rattle.array.proofs.Calls.Reach.{Reached, reached, inside}
@@ -45,7 +45,7 @@ module _ (r : Record) (img room : List ℕ) (b : ℕ) where
       → Shows (choiceOf (number (called e r .answer)) (viewOf r b)) (called e r .answer) (called e r .room)
   unfolding effect viewOf
   by-number zero z =
-      let x : Reached r (length img) b (length room) (placeOf r b) = reached r (length img) b (length room) (sym (view-rows r (capacity (geometry r)) (length img) (length room) b) ∙ z) (geometry r) refl (placeOf r b) refl in
+      let x : Reached r (length img) b (length room) (standing r b) = reached r (length img) b (length room) (sym (view-rows r (capacity (geometry r)) (length img) (length room) b) ∙ z) (geometry r) refl (standing r b) refl in
       let l : start + length room ≤ length img = inside x refl in
       rw (called-done e r z) (let-through (absent (r .health) (placeOf r b .stripe) (placeOf r b .disk)) (scratchLeft r img b room) (rw (x .whole) at l))
   by-number (suc k) z = rw (called-refused e r (suc k) z (omega arith)) (omega arith, refl)

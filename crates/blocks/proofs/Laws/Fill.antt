@@ -9,7 +9,7 @@ use native.Mathlib.Omega.{arith}
 use lib.Bits.{bitXor}
 use lib.ListN.{length, getD, set, take, length-set}
 use lib.Seq.{take-suc, take-add, take-all, length-take-le}
-use Rattle.blocks.specs.Block.{Disjoint, store, blockAt}
+use Rattle.blocks.specs.Block.{store, blockAt}
 use Rattle.blocks.specs.Xor.{xorB}
 use Rattle.blocks.specs.declared.Group.{Group}
 use Rattle.blocks.specs.Sum.{Begun}
@@ -50,14 +50,6 @@ pub filled-other : {l₀ : List ℕ} {at : ℕ} {b : List ℕ} {n : ℕ} {l : Li
 filled-other {l₀} {at} {b} {n} {l} {i} f j h =
     ap (λ (r : List ℕ). getD r j 0) (f .is) ∙ getD-store-other l₀ at (take i b) j 0 (subst (λ (k : ℕ). (j < at) ⊎ (at + k ≤ j)) (sym (length-take-le i b (omega arith))) h)
 
--- a byte of a block that is apart from the one that is written
-outside : {at n from i : ℕ} → Disjoint at n from n → i < n → (from + i < at) ⊎ (at + i ≤ from + i)
-outside (inl h) lt = inr (omega arith)
-outside (inr h) lt = inl (omega arith)
-
-pub filled-apart : {l₀ : List ℕ} {at from : ℕ} {b : List ℕ} {n : ℕ} {l : List ℕ} {i : ℕ} → Disjoint at n from n → i < n → Filled l₀ at b n l i → getD l (from + i) 0 ≡ getD (blockAt l₀ from n) i 0
-filled-apart {l₀} {at} {from} {b} {n} {l} {i} apart lt f = filled-other f (from + i) (outside apart lt) ∙ sym (getD-blockAt l₀ from n i lt)
-
 -- ---- a turn of each loop: the byte that it stores is the block's
 
 -- a copy out of l into a whole slice
@@ -74,15 +66,6 @@ xored-out-more l at {b₀} {b} {i} lt f =
 -- a fold of two blocks, a and d, into the block at p
 pub length-folded : (l : List ℕ) (p : ℕ) (a d : List ℕ) (n : ℕ) → p + n ≤ length l → length a ≡ n → length d ≡ n → length (xorB (xorB (blockAt l p n) a) d) ≡ n
 length-folded l p a d n h ka kd = length-xorB (xorB (blockAt l p n) a) d n (length-xorB (blockAt l p n) a n (length-blockAt l p n h) ka) kd
-
-pub folded-more : {l₀ : List ℕ} {p : ℕ} (a d : List ℕ) {n : ℕ} {l : List ℕ} {i x : ℕ} → i < n → Filled l₀ p (xorB (xorB (blockAt l₀ p n) a) d) n l i → x ≡ getD a i 0
-    → Filled l₀ p (xorB (xorB (blockAt l₀ p n) a) d) n (set l (p + i) (bitXor (bitXor (getD l (p + i) 0) x) (getD d i 0))) (i + 1)
-folded-more {l₀} {p} a d {n} {l} {i} {x} lt f e =
-    let old : getD l (p + i) 0 ≡ getD (blockAt l₀ p n) i 0 = filled-other f (p + i) (inr (omega arith)) ∙ sym (getD-blockAt l₀ p n i lt) in
-    filled-more f lt
-    (ap₂ (λ (y z : ℕ). bitXor (bitXor y z) (getD d i 0)) old e
-    ∙ ap (λ (y : ℕ). bitXor y (getD d i 0)) (sym (getD-xorB (blockAt l₀ p n) a i))
-    ∙ sym (getD-xorB (xorB (blockAt l₀ p n) a) d i))
 
 -- ---- a turn that stores a run of n bytes
 

@@ -27,12 +27,13 @@ bench = record {
 }
 
 pub unmarked : Unmarked
-unfolding dataDisk homeStripe homeDisk moveZone moveTo moveLag moveWithin moveStripe moveFrom total lag target turn isMoved diskAt source taken blanksBelow blanks newStripe newDisk openStripes capacity grownPlace movesGood good stored recorded idle formable terms laterRows table refusal moveStores advanceStores effect called
+unfolding dataDisk homeStripe homeDisk moveZone moveTo moveLag moveWithin moveStripe moveFrom total lag target turn isMoved diskAt source taken blanksBelow blanks newStripe newDisk openStripes capacity grownPlace grownParity movesGood good stored recorded idle formable terms laterRows table refusal moveStores advanceStores effect called
 unmarked = record {
   one-group = (refl, refl, refl);
   no-group = (refl, refl, refl, refl, refl, refl, refl, refl);
   disks = (refl, refl, refl, refl);
   block = (refl, refl, refl, refl);
   stripes = (refl, refl, refl, refl);
+  carried = (refl, refl, refl, refl, refl);
   finished = (refl, refl);
 }

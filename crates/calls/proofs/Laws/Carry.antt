@@ -6,7 +6,7 @@ use mathlib.Core.List.{List}
 use native.Mathlib.Decide.{ℕ-discrete}
 use Rattle.layout.specs.declared.Role.the-variants.{Parity, Blank}
 use Rattle.layout.specs.declared.Role.{Role}
-use Rattle.layout.proofs.Laws.Standing.{Carries}
+use Rattle.layout.proofs.Laws.Owners.{Carries}
 use Rattle.blocks.proofs.Laws.Rows.{_⊕_, zero-l, self}
 use Rattle.blocks.proofs.Laws.Grid.{Grid, storeAt, storeAt-same, storeAt-row, storeAt-far}
 use Rattle.calls.proofs.Laws.Column.{Fits, fits-blank, Agree, Even, Holds, Stored, agree-store, even-pair}

@@ -13,7 +13,7 @@ use Rattle.layout.specs.declared.Role.the-variants.{Blank}
 use Rattle.layout.specs.declared.Role.{Role}
 use Rattle.layout.specs.Layout.{totalOf, oldBlocks, openStripes, capacity, home, layout}
 use Rattle.layout.specs.Limits.{GoodArray}
-use Rattle.layout.proofs.Laws.Standing.{ownedWith, is-owner, Opened, opened, starts, starts-blank}
+use Rattle.layout.proofs.Laws.Owners.{ownedWith, is-owner, Opened, opened, starts, starts-blank}
 use Rattle.layout.proofs.Laws.Zones.{total-none}
 use Rattle.blocks.proofs.Laws.Grid.{Grid}
 use Rattle.blocks.proofs.Laws.Rows.{sum-ext, sum-extend}

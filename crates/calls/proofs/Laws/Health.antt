@@ -4,12 +4,11 @@ use mathlib.Core.Path.{_≡_, refl, sym, ap, subst, _∙_}
 use mathlib.Core.Bool.{Bool, true, false, _&&_}
 use mathlib.Core.Logic.{_≢_}
 use native.Mathlib.Omega.{arith}
-use lib.Dec.{eqb, leb}
+use lib.Dec.{eqb}
 use borrow.Author.Tests.{le-leb, lt-leb, eqb-true, eqb-false}
 use Rattle.conditions.proofs.Tests.{and-yes, and-no}
 use Rattle.state.specs.declared.Health.the-variants.{Whole, Out, Lost, Rebuilding}
 use Rattle.state.specs.declared.Health.{Health}
-use Rattle.state.specs.Bytes.{diskByte, stripesDone}
 use Rattle.calls.specs.Health.{isLost, isDegraded, isOut, isRebuilding, absent}
 
 -- every disk is in
@@ -48,20 +47,3 @@ module _ (o c S d : ℕ) where
 
   pub from-count : c ≤ S → absent (Rebuilding o c) S d ≡ eqb d o
   from-count l = ap (λ (b : Bool). eqb d o && b) (le-leb c S l) ∙ and-yes (eqb d o)
-
--- which disk counts as out, asked of any health by its numbers
-module _ (S d : ℕ) where
-  pub absent-none : (h : Health) → isDegraded h ≡ false → absent h S d ≡ false
-  absent-none h e = ap (λ (x : Health). absent x S d) (all-in h e)
-
-  pub absent-lost : (h : Health) → isLost h ≡ true → absent h S d ≡ true
-  absent-lost Whole e = e
-  absent-lost (Out o) e = absurd (let w : _≡_ {A = ℕ} 0 1 = cc in omega arith)
-  absent-lost Lost e = refl
-  absent-lost (Rebuilding o c) e = absurd (let w : _≡_ {A = ℕ} 0 1 = cc in omega arith)
-
-  pub absent-numbers : (h : Health) → isDegraded h ≡ true → isLost h ≡ false → absent h S d ≡ (eqb d (diskByte h) && leb (stripesDone h) S)
-  absent-numbers Whole e nl = absurd (let w : _≡_ {A = ℕ} 0 1 = cc in omega arith)
-  absent-numbers (Out o) e nl = sym (ap (λ (b : Bool). eqb d o && b) (le-leb 0 S (omega arith)) ∙ and-yes (eqb d o))
-  absent-numbers Lost e nl = absurd (let w : _≡_ {A = ℕ} 0 1 = cc in omega arith)
-  absent-numbers (Rebuilding o c) e nl = refl

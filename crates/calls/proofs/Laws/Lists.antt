@@ -10,8 +10,8 @@ use Rattle.layout.specs.declared.Geometry.{Geometry}
 use Rattle.layout.specs.declared.Role.the-variants.{Data, Parity, Blank}
 use Rattle.layout.specs.declared.Role.{Role}
 use Rattle.layout.specs.Layout.{capacity}
-use Rattle.layout.proofs.Laws.Standing.Opened.{kept, new}
-use Rattle.layout.proofs.Laws.Standing.{Opened}
+use Rattle.layout.proofs.Laws.Owners.Opened.{kept, new}
+use Rattle.layout.proofs.Laws.Owners.{Opened}
 use Rattle.blocks.specs.Block.{zeros}
 use Rattle.blocks.proofs.Laws.Grid.{Grid}
 use Rattle.blocks.proofs.Laws.Xor.{getD-zeros}

@@ -12,7 +12,7 @@ use Rattle.layout.specs.Limits.{GoodArray}
 use Rattle.layout.proofs.Laws.Layout.{lawful}
 use Rattle.layout.proofs.Laws.Numbers.{good-later}
 use Rattle.layout.proofs.Laws.Opening.{capacity-rises}
-use Rattle.layout.proofs.Laws.Standing.{carriedOwner, Carries, carries, Opened, opens, was-parity}
+use Rattle.layout.proofs.Laws.Owners.{carriedOwner, Carries, carries, Opened, opens, was-parity}
 use Rattle.layout.proofs.Theorem.{laid}
 use Rattle.blocks.specs.Block.{zeros}
 use Rattle.blocks.proofs.Laws.Grid.{Grid}

@@ -24,7 +24,7 @@ use Rattle.calls.specs.Call.{write, done}
 use Rattle.calls.specs.Health.{isLost, absent}
 use Rattle.calls.specs.Images.{disksOf, size, seen, Store, block, stored, recorded, unless}
 use Rattle.calls.specs.Table.{laterRows, word}
-use Rattle.calls.specs.Effect.{placeOf, writeStores, effect, act}
+use Rattle.calls.specs.Effect.{placeOf, parityOf, writeStores, effect, act}
 use Rattle.calls.proofs.Laws.Column.{Mask, storeIf, see, Fits, fits-of, fits-set, Agree, Even, Holds, Single, Stored, seen-is, relent, agree-store, even-pair}
 use Rattle.calls.proofs.Laws.Stores.{Within, length-stored, cell-stored, recorded-append, column-append, within-append, within-unless, column-unless, recorded-unless}
 use Rattle.calls.proofs.Laws.Holding.{Holding, Leaves, bytesAt, cellIn, single, length-seen, getD-seen}
@@ -34,27 +34,34 @@ use Rattle.calls.proofs.Laws.Passed as passed
 
 module _ (g : Geometry) (good : GoodArray g) (b : ℕ) (lb : b < capacity g) where
   abbrev S : ℕ
-  S = layout g .place b .stripe
+  S = layout g .place b .block .stripe
 
   abbrev d : ℕ
-  d = layout g .place b .disk
+  d = layout g .place b .block .disk
 
   abbrev p : ℕ
-  p = layout g .parity (layout g .place b .stripe)
+  p = layout g .place b .parity .disk
 
-  pub lS : layout g .place b .stripe < g .stripes
+  pub lS : layout g .place b .block .stripe < g .stripes
   lS = laid g good .placed .stripe-lt b lb
 
-  pub ld : layout g .place b .disk < disks g
+  pub ld : layout g .place b .block .disk < disks g
   ld = laid g good .placed .disk-lt b lb
 
-  pub lp : layout g .parity (layout g .place b .stripe) < disks g
-  lp = laid g good .placed .parity-lt S lS
+  -- the parity that the place rule gives is that of the block's stripe
+  pub parity-is : p ≡ layout g .parity S
+  parity-is = laid g good .placed .parity-disk b lb ∙ ap (layout g .parity) (laid g good .placed .parity-stripe b lb)
 
-  -- the parity of a block's stripe is not on its own disk
-  pub parity-apart : layout g .parity (layout g .place b .stripe) ≢ layout g .place b .disk
+  pub lp : layout g .place b .parity .disk < disks g
+  lp = rw parity-is (laid g good .placed .parity-lt S lS)
+
+  parity-owner : layout g .owner S p ≡ Parity
+  parity-owner = rw parity-is (laid g good .placed .owner-of-parity S lS)
+
+  -- it is not on the block's own disk
+  pub parity-apart : layout g .place b .parity .disk ≢ layout g .place b .block .disk
   parity-apart q =
-      let o : layout g .owner S p ≡ Parity = laid g good .placed .owner-of-parity S lS in
+      let o : layout g .owner S p ≡ Parity = parity-owner in
       let i : layout g .owner S d ≡ Data b = laid g good .placed .owner-of-place b lb in
       let z : _≡_ {A = ℕ} 0 1 = cc in
       omega arith
@@ -81,7 +88,7 @@ module _ (g : Geometry) (good : GoodArray g) (b : ℕ) (lb : b < capacity g) whe
       go (yes x) (yes q) y =
           fits-of (set bs b v) (layout g .owner s e) (Data b) (L′ s e) v (rw (x, q) (laid g good .placed .owner-of-place b lb))
           (rw (x, q, storeAt-same M S d v)) (sym (getD-set-same bs b v 0 (rw len lb)))
-      go (yes x) (no q) (yes y) = fits-of (set bs b v) (layout g .owner s e) Parity (L′ s e) (L′ s e) (rw (x, y) (laid g good .placed .owner-of-parity S lS)) refl tt
+      go (yes x) (no q) (yes y) = fits-of (set bs b v) (layout g .owner s e) Parity (L′ s e) (L′ s e) (rw (x, y) parity-owner) refl tt
       go (yes x) (no q) (no y) = else-where (rw (x, storeAt-row M S d v e q, storeAt-row L S p w e y)) (λ z. q (sym (its-own z .1)))
       go (no x) q y = else-where (rw (storeAt-far M S d v s e x, storeAt-far L S p w s e x)) (λ z. x (sym (its-own z .0)))
 
@@ -120,7 +127,7 @@ module _ (r : Record) (img : List ℕ) (limits : GoodRecord r) (long : length im
   db = placeOf r b .disk
 
   abbrev pb : ℕ
-  pb = layout (geometry r) .parity Sb
+  pb = parityOf r b .disk
 
   -- the new parity
   abbrev w : List ℕ
@@ -200,7 +207,7 @@ module _ (r : Record) (img : List ℕ) (bs : List (List ℕ)) (h : Holding r img
       d = placeOf r b .disk
 
       p : ℕ
-      p = layout (geometry r) .parity S
+      p = parityOf r b .disk
 
       go : (c : ℕ) → c < length bs → Dec (c ≡ b) → length (getD (set bs b v) c []) ≡ r .block
       go c l (yes q) = rw (q, getD-set-same bs b v [] (rw q at l)) lv

@@ -5,10 +5,11 @@
 -- proofs/Cases/Sample.antt computes both machines.
 use Prim.Native.Nat.{ℕ, zero, suc, _+_, _-_, _*_, _%_}
 use mathlib.Core.Path.{_≡_}
+use mathlib.Core.Bool.{true, false}
 use mathlib.Core.List.{List, [], _∷_, _++_, map}
 use lib.ListN.{take, drop}
 use Rattle.layout.specs.declared.Role.the-variants.{Data, Parity, Blank}
-use Rattle.layout.specs.Home.{placeAt}
+use Rattle.layout.specs.Home.{standingAt}
 use Rattle.state.specs.declared.Health.the-variants.{Whole, Out, Lost, Rebuilding}
 use Rattle.state.specs.Bytes.{recordLength, decode}
 use Rattle.calls.specs.Call.{Call, format, read, view, write, grow, advance, out, begin, continue}
@@ -309,7 +310,7 @@ expected =
     ∷ (bytes (1 ∷ 2 ∷ []), after 3 0 0 0 0)  -- view 6
     -- growing
     ∷ (refused 5, after 3 0 0 0 0)  -- advance 1
-    ∷ (placed (placeAt 2 1), after 3 0 0 0 0)  -- locate 4
+    ∷ (placed (standingAt 2 1 2 false), after 3 0 0 0 0)  -- locate 4
     ∷ (owned Parity, after 3 0 0 0 0)  -- owner 3 0
     ∷ (refused 10, after 3 0 0 0 0)  -- owner 3 3
     ∷ (refused 6, after 3 0 0 0 0)  -- grow 17
@@ -317,8 +318,8 @@ expected =
     ∷ (done, after 3 1 0 0 0)  -- grow 1
     ∷ (owned Blank, after 3 1 0 0 0)  -- owner 3 3
     ∷ (made 2, after 3 1 0 0 2)  -- advance 2
-    ∷ (placed (placeAt 2 3), after 3 1 0 0 2)  -- locate 4
-    ∷ (placed (placeAt 1 2), after 3 1 0 0 2)  -- locate 2
+    ∷ (placed (standingAt 2 3 2 true), after 3 1 0 0 2)  -- locate 4
+    ∷ (placed (standingAt 1 2 1 false), after 3 1 0 0 2)  -- locate 2
     ∷ (owned (Data 4), after 3 1 0 0 2)  -- owner 2 3
     ∷ (owned Parity, after 3 1 0 0 2)  -- owner 3 3
     ∷ (owned Blank, after 3 1 0 0 2)  -- owner 3 0
@@ -379,7 +380,7 @@ expected =
     ∷ (refused 8, after 3 1 0 0 2)  -- read 24
     ∷ (made 1, after 3 1 0 0 3)  -- advance 1
     ∷ (figures 28 3 9 Whole, after 3 1 0 0 3)  -- status
-    ∷ (placed (placeAt 2 1), after 3 1 0 0 3)  -- locate 26
+    ∷ (placed (standingAt 2 1 2 false), after 3 1 0 0 3)  -- locate 26
     ∷ (owned (Data 26), after 3 1 0 0 3)  -- owner 2 1
     ∷ (owned Blank, after 3 1 0 0 3)  -- owner 4 3
     ∷ (bytes (0 ∷ 0 ∷ []), after 3 1 0 0 3)  -- read 26
@@ -397,7 +398,7 @@ expected =
     ∷ (bytes (45 ∷ 46 ∷ []), after 3 1 0 0 4)  -- read 26
     ∷ (made 2, after 3 1 0 0 6)  -- advance 2
     ∷ (figures 32 6 9 Whole, after 3 1 0 0 6)  -- status
-    ∷ (placed (placeAt 2 1), after 3 1 0 0 6)  -- locate 26
+    ∷ (placed (standingAt 2 1 2 false), after 3 1 0 0 6)  -- locate 26
     ∷ (bytes (45 ∷ 46 ∷ []), after 3 1 0 0 6)  -- read 26
     ∷ (bytes (0 ∷ 0 ∷ []), after 3 1 0 0 6)  -- read 31
     -- finished
@@ -407,12 +408,12 @@ expected =
     ∷ (figures 36 9 9 Whole, after 3 1 0 0 9)  -- status
     ∷ (bytes (9 ∷ 90 ∷ []), after 3 1 0 0 9)  -- read 2
     ∷ (bytes (3 ∷ 4 ∷ []), after 3 1 0 0 9)  -- read 19
-    ∷ (placed (placeAt 2 1), after 3 1 0 0 9)  -- locate 26
+    ∷ (placed (standingAt 2 1 2 false), after 3 1 0 0 9)  -- locate 26
     ∷ (owned (Data 26), after 3 1 0 0 9)  -- owner 2 1
     ∷ (bytes (45 ∷ 46 ∷ []), after 3 1 0 0 9)  -- read 26
     ∷ (bytes (61 ∷ 62 ∷ []), after 3 1 0 0 9)  -- read 24
     ∷ (bytes (0 ∷ 0 ∷ []), after 3 1 0 0 9)  -- read 27
-    ∷ (placed (placeAt 11 2), after 3 1 0 0 9)  -- locate 35
+    ∷ (placed (standingAt 11 2 3 false), after 3 1 0 0 9)  -- locate 35
     ∷ (bytes (0 ∷ 0 ∷ []), after 3 1 0 0 9)  -- read 35
     ∷ (done, after 3 1 0 0 9)  -- write 26 (5 ∷ 6 ∷ [])
     ∷ (bytes (5 ∷ 6 ∷ []), after 3 1 0 0 9)  -- read 26
@@ -432,7 +433,7 @@ expected =
     ∷ (refused 2, after 3 1 2 0 9)  -- begin 1
     ∷ (refused 2, after 3 1 2 0 9)  -- continue 1
     ∷ (figures 36 9 9 Lost, after 3 1 2 0 9)  -- status
-    ∷ (placed (placeAt 2 1), after 3 1 2 0 9)  -- locate 26
+    ∷ (placed (standingAt 2 1 2 false), after 3 1 2 0 9)  -- locate 26
     -- anew
     ∷ (refused 7, after 3 1 2 0 9)  -- format 3 2 12
     ∷ (done, after 4 0 0 0 0)  -- format 4 2 12
@@ -442,8 +443,8 @@ expected =
     ∷ (done, after 4 1 0 0 0)  -- grow 1
     ∷ (refused 5, after 4 1 0 0 0)  -- advance 1
     ∷ (figures 48 0 0 Whole, after 4 1 0 0 0)  -- status
-    ∷ (placed (placeAt 0 4), after 4 1 0 0 0)  -- locate 36
-    ∷ (placed (placeAt 11 1), after 4 1 0 0 0)  -- locate 34
+    ∷ (placed (standingAt 0 4 0 false), after 4 1 0 0 0)  -- locate 36
+    ∷ (placed (standingAt 11 1 3 false), after 4 1 0 0 0)  -- locate 34
     ∷ (owned (Data 47), after 4 1 0 0 0)  -- owner 11 4
     ∷ (owned Parity, after 4 1 0 0 0)  -- owner 11 3
     ∷ (bytes (0 ∷ 0 ∷ []), after 4 1 0 0 0)  -- read 47

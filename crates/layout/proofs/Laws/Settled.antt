@@ -52,8 +52,11 @@ module _ (n m : ℕ) (pn : 2 ≤ n) (S : ℕ) where
     same-below zero = refl
     same-below (suc e) = ap₂ (λ l b. l ++ cond b [] (e ∷ [])) (same-below e) (same-taken e)
 
-  -- nor do they change what is new on its blanks
+  -- nor do they change where anything stands, or what is new on its blanks
   module _ (t t′ : ℕ) (over : settled n m S ≤ t) (since : t ≤ t′) where
+    pub same-standing : (d : ℕ) → diskAt n m t′ S d ≡ diskAt n m t S d
+    same-standing d = same-disk t′ (omega arith) d ∙ sym (same-disk t over d)
+
     same-count : (e : ℕ) → blanksBelow n m t′ S e ≡ blanksBelow n m t S e
     same-count e = same-below t′ (omega arith) e ∙ sym (same-below t over e)
 

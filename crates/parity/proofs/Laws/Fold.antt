@@ -1,25 +1,25 @@
 -- A write folded into the parity straight from the places of all disks but two: a loop over the disks; that what is stored so far does not change what is still to be read; and that the old parity cancels. Assumes nothing.
-use Prim.Native.Nat.{ℕ, zero, suc, _+_, _-_, _≤_, _<_, zero-le}
+use Prim.Native.Nat.{ℕ, zero, suc, _+_, _≤_, _<_, zero-le}
 use mathlib.Core.Path.{_≡_, refl, sym, ap, ap₂, _∙_, subst}
 use mathlib.Core.Bool.{Bool, true, false, not, _&&_}
 use mathlib.Core.Logic.{_≢_, inl, inr}
 use mathlib.Core.List.{List}
 use native.Mathlib.Decide.{ℕ-discrete}
-use native.Mathlib.Nat.{le-antisymm, add-zero}
+use native.Mathlib.Nat.{le-antisymm}
 use native.Mathlib.Numerals.{add-one}
 use native.Mathlib.Omega.{arith}
 use borrow.Author.Tests.{eq-eqb, ne-eqb}
 use lib.Dec.{eqb}
 use lib.ListN.{length, length-replicate}
-use lib.Seq.{take-all}
 use Rattle.parity.specs.declared.Gapped.{Gapped}
 use Rattle.blocks.specs.Block.{blockAt, store, Disjoint}
 use Rattle.blocks.specs.Xor.{xorB}
 use Rattle.blocks.specs.Stripe.{others}
-use Rattle.parity.specs.Fold.{counted, startOf, placeOf, gappedTo, gapped, newParity, partFolded, GappedInside, FoldInside}
-use Rattle.blocks.proofs.Laws.Block.{blockAt-split, blockAt-within, blockAt-zeros, blockAt-other, blockAt-short, length-blockAt, length-store, store-nil, store-append}
+use Rattle.parity.specs.Fold.{counted, startOf, placeOf, gappedTo, gapped, newParity, GappedInside, FoldInside}
+use Rattle.blocks.proofs.Laws.Block.{blockAt-within, blockAt-zeros, blockAt-other, blockAt-short}
 use Rattle.blocks.proofs.Laws.Xor.{xorB-comm, xorB-assoc, xorB-zeros, xorB-cancel, blockAt-xorB, length-xorB, length-xorB-short}
 use Rattle.blocks.proofs.Laws.Stripe.{place-in, places-apart, others-in, others-out, length-others}
+use Rattle.parity.proofs.Laws.Replace.{Steady, Replaced, replaced-more, replaced-all}
 
 -- the place of a disk, counted or not, lies within the images
 pub place-inside : {g : Gapped} {images d : ℕ} → GappedInside g images → d < g .disks → startOf g d + g .len ≤ images
@@ -184,63 +184,36 @@ gapped-kept g l at v (suc N) hs h = go (gapped-kept g l at v N hs h) (ℕ-discre
         gapped-in g l′ N q ∙ ap₂ xorB ih (same np) ∙ sym (gapped-in g l N q)
 
 -- from `first` to before at the new parity is stored in l, which was l₀
-pub record Replaced (g : Gapped) (l₀ b : List ℕ) (first : ℕ) (l : List ℕ) (at : ℕ) : Type 0 where
-  pub is : l ≡ partFolded g l₀ b first (at - first)
-  pub size : length l ≡ length l₀
-  pub behind : first ≤ at
-  pub within : at ≤ g .len
-
-pub replaced-none : (g : Gapped) (l b : List ℕ) (first : ℕ) → first ≤ g .len → Replaced g l b first l first
-replaced-none g l b first h =
-    let e : first - first ≡ 0 = omega arith in
-    record {
-      is = sym (ap (λ (n : ℕ). partFolded g l b first n) e ∙ store-nil l (startOf g (g .parity) + first));
-      size = refl;
-      behind = omega arith;
-      within = h;
-    }
+abbrev pub Reconstructed : Gapped → List ℕ → List ℕ → ℕ → List ℕ → ℕ → Type 0
+Reconstructed g b = Replaced (λ (r : List ℕ). newParity g r b) (startOf g (g .parity)) (g .len)
 
 -- the places lie within l as they lay within l₀
-pub still-inside : {g : Gapped} {l₀ b : List ℕ} {first : ℕ} {l : List ℕ} {at : ℕ} → Replaced g l₀ b first l at → GappedInside g (length l₀) → GappedInside g (length l)
+pub still-inside : {g : Gapped} {F : List ℕ → List ℕ} {to n : ℕ} {l₀ : List ℕ} {first : ℕ} {l : List ℕ} {at : ℕ}
+    → Replaced F to n l₀ first l at → GappedInside g (length l₀) → GappedInside g (length l)
 still-inside {g} f w = subst (GappedInside g) (sym (f .size)) w
 
--- a part more, from at to before end
-pub replaced-on : {g : Gapped} {l₀ b : List ℕ} {first : ℕ} {l l′ : List ℕ} {at : ℕ} {images : ℕ} → FoldInside g images (length b) → Replaced g l₀ b first l at → (end : ℕ) → at ≤ end → end ≤ g .len
-    → l′ ≡ partFolded g l b at (end - at) → Replaced g l₀ b first l′ end
-replaced-on {g} {l₀} {b} {first} {l} {l′} {at} w f end h k q =
-    let p : List ℕ = newParity g l₀ b in
-    let v : List ℕ = blockAt p first (at - first) in
-    let size : length v ≡ at - first = length-blockAt p first (at - first) (rw (length-new g l₀ b (w .1)) (omega (arith, f .behind, f .within))) in
-    let room : first + length v ≤ g .len = omega (arith, f .behind, f .within) in
-    let kept : newParity g l b ≡ p =
-    ap (λ (r : List ℕ). newParity g r b) (f .is)
-    ∙ ap (xorB b) (gapped-kept g l₀ first v (g .disks) (w .0 .stripe-lt) room) in
-    let reach : startOf g (g .parity) + at ≡ startOf g (g .parity) + first + length v = omega (arith, f .behind) in
-    let join : first + (at - first) ≡ at = omega (arith, f .behind) in
-    let sum : at - first + (end - at) ≡ end - first = omega (arith, f .behind) in
-    record {
-      is =
-          q ∙ ap₂ (λ (r : List ℕ) (i : ℕ). store r i (blockAt (newParity g l b) at (end - at))) (f .is) reach
-          ∙ ap₂ (λ (r : List ℕ) (i : ℕ). store (store l₀ (startOf g (g .parity) + first) v) (startOf g (g .parity) + first + length v) (blockAt r i (end - at))) kept (sym join)
-          ∙ sym (store-append l₀ (startOf g (g .parity) + first) v (blockAt p (first + (at - first)) (end - at)))
-          ∙ ap (store l₀ (startOf g (g .parity) + first)) (sym (blockAt-split p first (at - first) (end - at)) ∙ ap (blockAt p first) sum);
-      size = ap length q ∙ length-store l (startOf g (g .parity) + at) (blockAt (newParity g l b) at (end - at)) ∙ f .size;
-      behind = omega (arith, f .behind);
-      within = k;
-    }
+module _ {g : Gapped} (b : List ℕ) {images : ℕ} (w : FoldInside g images (length b)) where
+  pub others-steady : (l : List ℕ) → Steady (λ (r : List ℕ). newParity g r b) (startOf g (g .parity)) (g .len) l
+  others-steady l =
+      record {
+        long = length-new g l b (w .1);
+        kept =
+            λ first v m h.
+            ap (λ (r : List ℕ). blockAt (xorB b r) (first + length v) m)
+            (gapped-kept g l first v (g .disks) (w .0 .stripe-lt) (omega arith));
+      }
 
--- a turn: n bytes s, which are those of b from at on, x, and of the places counted
-pub replaced-more : {g : Gapped} {l₀ b : List ℕ} {first : ℕ} {l l′ : List ℕ} {at : ℕ} {images to : ℕ} {x s : List ℕ} → FoldInside g images (length b) → Replaced g l₀ b first l at → (n : ℕ) → at + n ≤ g .len
-    → x ≡ blockAt b at n → s ≡ xorB x (blockAt (gapped g l) at n) → to ≡ startOf g (g .parity) → l′ ≡ store l (to + at) s → Replaced g l₀ b first l′ (at + n)
-replaced-more {g} {l₀} {b} {first} {l} {l′} {at} {images} {to} {x} {s} w f n h e p t q =
-    let c : n ≡ at + n - at = omega arith in
-    let sum : s ≡ blockAt (newParity g l b) at n = p ∙ ap (λ (r : List ℕ). xorB r (blockAt (gapped g l) at n)) e ∙ sym (blockAt-xorB b (gapped g l) at n) in
-    replaced-on w f (at + n) (omega arith) h
-    (q ∙ ap₂ (λ (i : ℕ) (r : List ℕ). store l (i + at) r) t sum ∙ ap (λ (m : ℕ). partFolded g l b at m) c)
+  -- a turn: n bytes s, which are those of b from at on, x, and of the places counted
+  pub others-more : {l₀ : List ℕ} {first : ℕ} {l l′ : List ℕ} {at to : ℕ} {x s : List ℕ} → Reconstructed g b l₀ first l at → (n : ℕ)
+      → at + n ≤ g .len → x ≡ blockAt b at n → s ≡ xorB x (blockAt (gapped g l) at n) → to ≡ startOf g (g .parity)
+      → l′ ≡ store l (to + at) s → Reconstructed g b l₀ first l′ (at + n)
+  others-more {l₀} {first} {l} {l′} {at} {to} {x} {s} f n h e p t q =
+      replaced-more (others-steady l₀) f n h
+      (p ∙ ap (λ (r : List ℕ). xorB r (blockAt (gapped g l) at n)) e ∙ sym (blockAt-xorB b (gapped g l) at n))
+      (q ∙ ap (λ (i : ℕ). store l (i + at) s) t)
 
--- all of it
-pub replaced-all : {g : Gapped} {l₀ b : List ℕ} {l : List ℕ} {at : ℕ} → length b ≡ g .len → g .out ≢ g .parity → g .parity < g .disks → Replaced g l₀ b 0 l at → g .len ≤ at
-    → l ≡ store l₀ (startOf g (g .parity)) (xorB (xorB (placeOf g l₀ (g .parity)) (rest g l₀ (g .disks))) b)
-replaced-all {g} {l₀} {b} {l} {at} e apart h f k =
-    f .is
-    ∙ ap₂ (store l₀) (add-zero (startOf g (g .parity))) (take-all (at - 0) (newParity g l₀ b) (rw (length-new g l₀ b e) (omega arith)) ∙ new-is g l₀ b apart h)
+  -- all of it
+  pub others-all : {l₀ l : List ℕ} {at : ℕ} → g .out ≢ g .parity → Reconstructed g b l₀ 0 l at → g .len ≤ at
+      → l ≡ store l₀ (startOf g (g .parity)) (xorB (xorB (placeOf g l₀ (g .parity)) (rest g l₀ (g .disks))) b)
+  others-all {l₀} apart f k =
+      replaced-all (others-steady l₀) f k ∙ ap (store l₀ (startOf g (g .parity))) (new-is g l₀ b apart (w .0 .parity-lt))

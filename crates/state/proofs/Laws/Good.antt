@@ -1,10 +1,10 @@
 -- The limits of a record, from the tests to the facts and back. Assumes nothing.
 use Prim.Native.Nat.{ℕ, _+_, _≤_, _<_}
 use mathlib.Core.Path.{_≡_, refl, sym, _∙_, subst}
-use mathlib.Core.Bool.{true, false, _&&_}
+use mathlib.Core.Bool.{true, false}
 use native.Mathlib.Decide.{ℕ-discrete}
 use native.Mathlib.Omega.{arith}
-use lib.Dec.{leb, ltb, eqb}
+use lib.Dec.{leb, eqb}
 use borrow.Author.Tests.{ltb-true, leb-true, lt-ltb, le-leb, eq-eqb, ne-eqb}
 use Rattle.layout.specs.declared.Geometry.{Geometry}
 use Rattle.layout.specs.Layout.{totalOf}
@@ -13,8 +13,7 @@ use Rattle.state.specs.declared.Health.{Health}
 use Rattle.state.specs.declared.Record.{Record}
 use Rattle.state.specs.Update.{withHealth}
 use Rattle.state.specs.Good.{geometry, within, newGood, addedGood, movesGood, healthGood, good, HealthWithin, GoodRecord}
-use Rattle.state.specs.Bytes.{diskByte, stripesDone}
-use Rattle.conditions.proofs.Tests.{both, and-true, and-false, and-yes, second}
+use Rattle.conditions.proofs.Tests.{both, and-true, and-false, second}
 
 -- ---- between two bounds
 
@@ -67,13 +66,6 @@ module _ (N T : ℕ) where
   within-health (Out d) o = lt-ltb d N o
   within-health Lost o = refl
   within-health (Rebuilding d c) o = and-true _ _ (lt-ltb d N (o .0)) ∙ lt-ltb c T (o .1)
-
--- what a program asks by two numbers, which are 0 where no disk is out or being rebuilt
-pub health-numbers : (N T : ℕ) (h : Health) → 1 ≤ N → 1 ≤ T → healthGood N T h ≡ (ltb (diskByte h) N && ltb (stripesDone h) T)
-health-numbers N T Whole n t = rw (lt-ltb 0 N n, lt-ltb 0 T t) refl
-health-numbers N T (Out d) n t = rw (lt-ltb 0 T t) (sym (and-yes (ltb d N)))
-health-numbers N T Lost n t = rw (lt-ltb 0 N n, lt-ltb 0 T t) refl
-health-numbers N T (Rebuilding d c) n t = refl
 
 -- ---- the record
 

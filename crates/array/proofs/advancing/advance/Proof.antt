@@ -35,16 +35,8 @@ total-of-requires c κs = rw (c .geometry-of .ensures) (sized _ (fits (c .before
 total-is : (c : tie.After-total-of) → c .total-of .result ≡ totalOf (geometry (c .before .before .before .before .before .args .r))
 total-is c = c .total-of .ensures ∙ ap (λ (g : Geometry). totalOf g) (c .before .geometry-of .ensures)
 
-cast-left : tie.Need-cast-left
-cast-left c = search needs
-
 sub-left : tie.Need-sub-left
 sub-left c = rw (total-is (c .before)) (fits (c .before .before .before) .array .moves)
-
-cast-left-2 : tie.Need-cast-left-2
-cast-left-2 c =
-    let e = c .before .before .before in
-    omega (arith, total-is (c .before), total-high (geometry (e .before .before .before .args .r)) (fits e .array))
 
 due-requires : tie.Need-due-requires
 due-requires c κs = search needs
@@ -62,8 +54,8 @@ make-moves-requires c κs =
     let a = e .before .before .before .args in
     advance-passed (a .images .now) (a .r) (a .k) (sym (e .before .of-advance .ensures) ∙ e .if1 .left) _ (omega (arith, c .before .due .ensures, total-is t, fits e .array .moves))
 
-cast-t9 : tie.Need-cast-t9
-cast-t9 c = search needs
+cast-t14 : tie.Need-cast-t14
+cast-t14 c = search needs
 
 add-with-moves : tie.Need-add-with-moves
 add-with-moves c =
@@ -94,12 +86,10 @@ advance-spec =
     returns
     geometry-of-requires
     total-of-requires
-    cast-left
     sub-left
-    cast-left-2
     due-requires
     make-moves-requires
-    cast-t9
+    cast-t14
     add-with-moves
     with-moves-requires
     same-length

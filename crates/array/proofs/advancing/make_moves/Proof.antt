@@ -25,23 +25,20 @@ cast-n c = search needs
 cast-m : tie.Need-cast-m Inv-loop μ-loop
 cast-m c = search needs
 
-cast-cursor-of : tie.Need-cast-cursor-of Inv-loop μ-loop
-cast-cursor-of c = search needs
-
 cursor-of-requires : tie.Need-cursor-of-requires Inv-loop μ-loop
 cursor-of-requires c κs =
-    let s = c .before .before .before .before in
+    let s = c .before .before .before in
     let g = geometry (s .args .r) in
     let a = s .pre .0 .array in
     (a .disks, omega (arith, some-new g (s .pre .1)), omega (arith, some-left g a (s .pre .1), total-high g a))
 
 loop-holds : tie.Need-loop-holds Inv-loop μ-loop
-loop-holds c = let a = c .before .before .before .before .before .args in made-none (a .r) (a .images .now) (a .count) _ (c .cursor-of .ensures)
+loop-holds c = let a = c .before .before .before .before .args in made-none (a .r) (a .images .now) (a .count) _ (c .cursor-of .ensures)
 
 add-with-moves : tie.Need-add-with-moves Inv-loop μ-loop
 add-with-moves c =
     let in-loop = c .before in
-    let s = in-loop .before .before .before .before .before .before .before in
+    let s = in-loop .before .before .before .before .before .before in
     omega (arith, in-loop .loop-test .taken, s .pre .2, total-high (geometry (s .args .r)) (s .pre .0 .array))
 
 with-moves-requires : tie.Need-with-moves-requires Inv-loop μ-loop
@@ -51,21 +48,21 @@ make-move-requires : tie.Need-make-move-requires Inv-loop μ-loop
 make-move-requires c κs =
     let w = c .before in
     let in-loop = w .before .before in
-    let s = in-loop .before .before .before .before .before .before .before in
+    let s = in-loop .before .before .before .before .before .before in
     let a = s .args in
     made-next (a .r) (a .images .now) (a .count) (s .pre .0) (s .pre .1) (s .pre .2) (s .pre .3) (in-loop .loop-test .taken) (in-loop .before .loop .inv) _ (w .with-moves .ensures)
 
 next-move-requires : tie.Need-next-move-requires Inv-loop μ-loop
 next-move-requires c κs =
     let in-loop = c .before .before .before .before .before .before in
-    let s = in-loop .before .before .before .before .before .before .before in
+    let s = in-loop .before .before .before .before .before .before in
     let a = s .args in
     made-index (a .r) (a .images .now) (a .count) (s .pre .0) (s .pre .1) (s .pre .2) (s .pre .3) (in-loop .loop-test .taken) (in-loop .before .loop .inv)
 
 add-made : tie.Need-add-made Inv-loop μ-loop
 add-made c =
     let in-loop = c .before .before .before .before .before .before .before in
-    let s = in-loop .before .before .before .before .before .before .before in
+    let s = in-loop .before .before .before .before .before .before in
     omega (arith, in-loop .loop-test .taken, s .fits .count)
 
 loop-less : tie.Need-loop-less Inv-loop μ-loop
@@ -76,7 +73,7 @@ loop-again c =
     let m = c .before .before .before in
     let w = m .before .before in
     let in-loop = w .before .before in
-    let s = in-loop .before .before .before .before .before .before .before in
+    let s = in-loop .before .before .before .before .before .before in
     let a = s .args in
     made-more (a .r) (a .images .now) (a .count) (s .pre .0) (s .pre .1) (s .pre .2) (s .pre .3) (in-loop .loop-test .taken) (in-loop .before .loop .inv)
     (w .with-moves .ensures) (m .make-move .ensures) (c .next-move .ensures)
@@ -86,7 +83,7 @@ same-length c = c .before .loop .inv .long
 
 returns : tie.Need-returns Inv-loop μ-loop
 returns c =
-    let a = c .before .before .before .before .before .before .before .args in
+    let a = c .before .before .before .before .before .before .args in
     let f = c .before .loop .inv in
     f .images ∙ ap (λ (k : ℕ). storedIn (a .r) (advanceStores k (a .r) (a .images .now)) (a .images .now)) (le-antisymm (f .most) (c .loop-test .left))
 
@@ -98,7 +95,6 @@ make-moves-spec =
     μ-loop
     cast-n
     cast-m
-    cast-cursor-of
     cursor-of-requires
     loop-holds
     add-with-moves

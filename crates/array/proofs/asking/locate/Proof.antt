@@ -2,8 +2,6 @@
 use mathlib.Core.Path.{_≡_, refl, sym, _∙_}
 use mathlib.Core.List.{[]}
 use borrow.Author.Needs.{needs}
-use Rattle.layout.specs.Layout.{capacity}
-use Rattle.state.specs.Good.{geometry}
 use Rattle.calls.specs.Call.{locate, feed, on}
 use Rattle.calls.specs.Table.{refusalOf}
 use Rattle.calls.specs.Effect.{effect}
@@ -26,16 +24,24 @@ geometry-of-requires c κs = search needs
 passed : (c : tie.Else1) → let a = c .before .before .args in refusalOf (a .r) (feed (locate (a .b)) 0 0) ≡ 0
 passed c = sym (c .before .of-locate .ensures) ∙ c .if1 .left
 
+slot-of-requires : tie.Need-slot-of-requires
+slot-of-requires c κs = let a = c .before .before .before .args in locate-asks (a .r) (c .geometry-of .ensures) (a .b) (passed (c .before))
+
 place-of-requires : tie.Need-place-of-requires
-place-of-requires c κs = let a = c .before .before .before .args in locate-asks (a .r) (c .geometry-of .ensures) (a .b) (passed (c .before))
+place-of-requires c κs =
+    let g = c .before in
+    let a = g .before .before .before .args in
+    let x = locate-asks (a .r) (g .geometry-of .ensures) (a .b) (passed (g .before)) in
+    (x .0, x .1, c .slot-of .ensures)
 
 returns-2 : tie.Need-returns-2
 unfolding effect
 returns-2 c =
-    let a = c .before .before .before .before .args in
-    rw (called-done (on (locate (a .b)) [] []) (a .r) (passed (c .before .before)), c .place-of .ensures, c .before .geometry-of .ensures) refl
+    let g = c .before .before in
+    let a = g .before .before .before .args in
+    rw (called-done (on (locate (a .b)) [] []) (a .r) (passed (g .before)), c .place-of .ensures, g .geometry-of .ensures) refl
 
 pub locate-spec : {M : Type 1} → statement M
 locate-spec =
     tie.close
-    (tie.spec of-locate-requires returns geometry-of-requires place-of-requires returns-2)
+    (tie.spec of-locate-requires returns geometry-of-requires slot-of-requires place-of-requires returns-2)

@@ -1,9 +1,11 @@
 -- `owner` meets its contract. Assumes nothing.
+use Prim.Native.Nat.{_<_}
 use mathlib.Core.Path.{_≡_, refl, sym, _∙_}
 use mathlib.Core.List.{[]}
+use native.Mathlib.Omega.{arith}
 use borrow.Author.Needs.{needs}
-use Rattle.layout.specs.Layout.{capacity}
-use Rattle.state.specs.Good.{geometry}
+use Rattle.layout.specs.Layout.{disks}
+use Rattle.layout.specs.Limits.{GoodArray}
 use Rattle.calls.specs.Call.{owner, feed, on}
 use Rattle.calls.specs.Table.{refusalOf}
 use Rattle.calls.specs.Effect.{effect}
@@ -26,8 +28,18 @@ geometry-of-requires c κs = search needs
 passed : (c : tie.Else1) → let a = c .before .before .args in refusalOf (a .r) (feed (owner (a .s) (a .d)) 0 0) ≡ 0
 passed c = sym (c .before .of-owner .ensures) ∙ c .if1 .left
 
+asks : (c : tie.After-geometry-of) → let a = c .before .before .before .args in
+    let g = c .geometry-of .result in GoodArray g × (a .s < g .stripes) × (a .d < disks g)
+asks c = let a = c .before .before .before .args in owner-asks (a .r) (c .geometry-of .ensures) (a .s) (a .d) (passed (c .before))
+
+cast-owner-of : tie.Need-cast-owner-of
+cast-owner-of c = omega (arith, asks c)
+
+cast-owner-of-2 : tie.Need-cast-owner-of-2
+cast-owner-of-2 c = omega (arith, asks c)
+
 owner-of-requires : tie.Need-owner-of-requires
-owner-of-requires c κs = let a = c .before .before .before .args in owner-asks (a .r) (c .geometry-of .ensures) (a .s) (a .d) (passed (c .before))
+owner-of-requires c κs = asks c
 
 returns-2 : tie.Need-returns-2
 unfolding effect
@@ -37,4 +49,5 @@ returns-2 c =
 
 pub owner-spec : {M : Type 1} → statement M
 owner-spec =
-    tie.close (tie.spec of-owner-requires returns geometry-of-requires owner-of-requires returns-2)
+    tie.close
+    (tie.spec of-owner-requires returns geometry-of-requires cast-owner-of cast-owner-of-2 owner-of-requires returns-2)

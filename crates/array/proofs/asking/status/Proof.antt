@@ -28,14 +28,26 @@ passed c = sym (c .before .of-status .ensures) ∙ c .if1 .left
 capacity-of-requires : tie.Need-capacity-of-requires
 capacity-of-requires c κs = status-asks (c .before .before .before .args .r) (c .geometry-of .ensures) (passed (c .before))
 
+cast-t7 : tie.Need-cast-t7
+cast-t7 c = search needs
+
+cast-t8 : tie.Need-cast-t8
+cast-t8 c = search needs
+
 total-of-requires : tie.Need-total-of-requires
-total-of-requires c κs = sized _ (status-asks (c .before .before .before .before .args .r) (c .before .geometry-of .ensures) (passed (c .before .before)))
+total-of-requires c κs =
+    let g = c .before .before in
+    sized _ (status-asks (g .before .before .before .args .r) (g .geometry-of .ensures) (passed (g .before)))
+
+cast-t10 : tie.Need-cast-t10
+cast-t10 c = search needs
 
 returns-2 : tie.Need-returns-2
 unfolding effect
 returns-2 c =
-    let r = c .before .before .before .before .before .args .r in
-    rw (called-done (on status [] []) r (passed (c .before .before .before)), c .total-of .ensures, c .before .capacity-of .ensures, c .before .before .geometry-of .ensures) refl
+    let k = c .before .before in
+    let g = k .before in
+    rw (called-done (on status [] []) (g .before .before .before .args .r) (passed (g .before)), c .total-of .ensures, k .capacity-of .ensures, g .geometry-of .ensures) refl
 
 pub status-spec : {M : Type 1} → statement M
 status-spec =
@@ -45,5 +57,8 @@ status-spec =
     returns
     geometry-of-requires
     capacity-of-requires
+    cast-t7
+    cast-t8
     total-of-requires
+    cast-t10
     returns-2)

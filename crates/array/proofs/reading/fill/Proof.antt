@@ -3,19 +3,22 @@ use mathlib.Core.Path.{_∙_}
 use lib.ListN.{length}
 use borrow.Author.Needs.{needs}
 use Rattle.conditions.proofs.Asked.{told}
-use Rattle.array.proofs.Calls.Reach.{Reached, asked, reached, inside, short, block-out, block-in}
+use Rattle.array.proofs.Calls.Reach.{Reached, asked, asked-slot, reached, inside, short, block-out, block-in}
 use Rattle.array.proofs.reading.fill.Statement.{statement}
 use Rattle.array.proofs.reading.fill.Tie as tie
 
 geometry-of-requires : tie.Need-geometry-of-requires
 geometry-of-requires c κs = search needs
 
-place-of-requires : tie.Need-place-of-requires
-place-of-requires c κs = asked _ _ _ _ (c .before .before .before .pre) _ (c .geometry-of .ensures)
+slot-of-requires : tie.Need-slot-of-requires
+slot-of-requires c κs = asked _ _ _ _ (c .before .before .before .pre) _ (c .geometry-of .ensures)
 
--- the block's place
-stands : (c : tie.After-place-of) → let a = c .before .before .before .before .args in Reached (a .r) (length (a .images .now)) (a .b) (length (a .block .now)) (c .place-of .result)
-stands c = reached _ _ _ _ (c .before .before .before .before .pre) _ (c .before .geometry-of .ensures) _ (c .place-of .ensures)
+place-of-requires : tie.Need-place-of-requires
+place-of-requires c κs = asked-slot _ _ _ _ (c .before .before .before .before .pre) _ (c .before .geometry-of .ensures) _ (c .slot-of .ensures)
+
+-- where the block stands
+stands : (c : tie.After-q) → let a = c .before .before .before .before .before .before .args in Reached (a .r) (length (a .images .now)) (a .b) (length (a .block .now)) (c .before .place-of .result)
+stands c = reached _ _ _ _ (c .before .before .before .before .before .before .pre) _ (c .before .before .before .geometry-of .ensures) _ (c .before .place-of .ensures)
 
 is-absent-requires : tie.Need-is-absent-requires
 is-absent-requires c κs = search needs
@@ -54,6 +57,7 @@ fill-spec =
     tie.close
     (tie.spec
     geometry-of-requires
+    slot-of-requires
     place-of-requires
     is-absent-requires
     sum-others-requires

@@ -23,34 +23,31 @@ from-9 r room = blockLength r room ∷ []
 abbrev from-8 : Record → ℕ → ℕ → List Row
 from-8 r b room = pastEnd b (capacity (geometry r)) ∷ from-9 r room
 
-of-lent-requires : tie.Need-of-lent-requires
-of-lent-requires c κs = search needs
-
 returns : tie.Need-returns
 returns c =
-    let a = c .before .before .args in
-    stops (keptLent (a .r) (a .images)) (from-8 (a .r) (a .b) (a .room)) (c .before .of-lent .ensures) (c .if1 .taken)
+    let a = c .before .args in
+    stops (keptLent (a .r) (a .images)) (from-8 (a .r) (a .b) (a .room)) (c .before .pre) (c .if1 .taken)
     ∙ sym (read-rows (a .r) (capacity (geometry (a .r))) (a .images) (a .room) (a .b))
 
-past-1 : (c : tie.Else1) → let a = c .before .before .args in refusalOf (a .r) (feed (read (a .b)) (a .images) (a .room)) ≡ word (from-8 (a .r) (a .b) (a .room))
+past-1 : (c : tie.Else1) → let a = c .before .args in refusalOf (a .r) (feed (read (a .b)) (a .images) (a .room)) ≡ word (from-8 (a .r) (a .b) (a .room))
 past-1 c =
-    let a = c .before .before .args in
+    let a = c .before .args in
     read-rows (a .r) (capacity (geometry (a .r))) (a .images) (a .room) (a .b)
-    ∙ lent-on (a .r) (from-8 (a .r) (a .b) (a .room)) (a .images) (c .before .of-lent .ensures) (c .if1 .left)
+    ∙ lent-on (a .r) (from-8 (a .r) (a .b) (a .room)) (a .images) (c .before .pre) (c .if1 .left)
 
 is-block-requires : tie.Need-is-block-requires
-is-block-requires c κs = let a = c .before .before .args in ready-lent (a .r) (a .images) (c .before .of-lent .ensures) (c .if1 .left)
+is-block-requires c κs = let a = c .before .args in ready-lent (a .r) (a .images) (c .before .pre) (c .if1 .left)
 
 returns-2 : tie.Need-returns-2
 returns-2 c =
     let c1 = c .before .before in
-    let a = c1 .before .before .args in
+    let a = c1 .before .args in
     sym (past-1 c1 ∙ given 8 (from-9 (a .r) (a .room)) (ap not (returned (c .before .is-block .ensures) (c .if2 .taken))))
 
-past-2 : (c : tie.Else2) → let a = c .before .before .before .before .args in refusalOf (a .r) (feed (read (a .b)) (a .images) (a .room)) ≡ word (from-9 (a .r) (a .room))
+past-2 : (c : tie.Else2) → let a = c .before .before .before .args in refusalOf (a .r) (feed (read (a .b)) (a .images) (a .room)) ≡ word (from-9 (a .r) (a .room))
 past-2 c =
     let c1 = c .before .before in
-    let a = c1 .before .before .args in
+    let a = c1 .before .args in
     past-1 c1 ∙ skipped 8 (from-9 (a .r) (a .room)) (ap not (went-on (c .before .is-block .ensures) (c .if2 .left)))
 
 cast-if3 : tie.Need-cast-if3
@@ -66,7 +63,6 @@ pub of-reach-spec : {M : Type 1} → statement M
 of-reach-spec =
     tie.close
     (tie.spec
-    of-lent-requires
     returns
     is-block-requires
     returns-2

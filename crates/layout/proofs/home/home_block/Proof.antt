@@ -27,7 +27,7 @@ add-result : tie.Need-add-result
 add-result c = let a = c .before .before .args in omega (arith, times {a = a .s} {b = a .n - 1} 1048576 16 (omega arith) (omega arith), c .excess .ensures)
 
 returns : tie.Need-returns
-returns c = block-picked _ _ _ _ (c .before .before .pre .2) _ _ (c .before .pick .ensures) (c .excess .ensures)
+returns c = block-picked _ _ _ (c .before .before .pre .2) _ _ _ (c .before .pick .ensures) (c .excess .ensures)
 
 pub home-block-spec : {M : Type 1} → statement M
 home-block-spec =

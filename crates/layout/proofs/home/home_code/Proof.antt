@@ -11,7 +11,7 @@ pick-requires : tie.Need-pick-requires
 pick-requires c κs = search needs
 
 returns : tie.Need-returns
-returns c = code-picked _ _ _ _ (c .before .before .pre .2) _ _ (c .before .home-block .ensures) (c .pick .ensures)
+returns c = code-picked _ _ _ (c .before .before .pre .2) _ _ _ (c .before .home-block .ensures) (c .pick .ensures)
 
 pub home-code-spec : {M : Type 1} → statement M
 home-code-spec = tie.close (tie.spec home-block-requires pick-requires returns)

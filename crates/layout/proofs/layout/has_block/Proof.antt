@@ -8,6 +8,9 @@ use Rattle.layout.proofs.layout.has_block.Tie as tie
 old-blocks-requires : tie.Need-old-blocks-requires
 old-blocks-requires c κs = search needs
 
+cast-old : tie.Need-cast-old
+cast-old c = search needs
+
 returns : tie.Need-returns
 returns c =
     let s = c .before .before in
@@ -19,6 +22,9 @@ open-stripes-requires c κs = search needs
 mul-result : tie.Need-mul-result
 mul-result c = rw (c .before .open-stripes .ensures) (omega (arith, open-room _ (c .before .before .before .before .pre)))
 
+cast-result : tie.Need-cast-result
+cast-result c = rw (c .before .open-stripes .ensures) (omega (arith, open-room _ (c .before .before .before .before .pre)))
+
 returns-2 : tie.Need-returns-2
 returns-2 c =
     let e = c .before .before in
@@ -27,4 +33,5 @@ returns-2 c =
 
 pub has-block-spec : {M : Type 1} → statement M
 has-block-spec =
-    tie.close (tie.spec old-blocks-requires returns open-stripes-requires mul-result returns-2)
+    tie.close
+    (tie.spec old-blocks-requires cast-old returns open-stripes-requires mul-result cast-result returns-2)

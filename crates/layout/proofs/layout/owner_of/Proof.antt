@@ -15,8 +15,8 @@ stripe-of-requires c κs = search needs
 source-of-requires : tie.Need-source-of-requires
 source-of-requires c κs = apart _ _ _ _ (sizes-of _ (c .before .pre .0) _ (omega arith)) (c .stripe-of .ensures)
 
-disk-at-requires : tie.Need-disk-at-requires
-disk-at-requires c κs =
+carried-to-requires : tie.Need-carried-to-requires
+carried-to-requires c κs =
     let a = c .before .before .args in
     (apart _ _ _ _ (sizes-of _ (c .before .before .pre .0) _ (omega arith)) (c .before .stripe-of .ensures), omega (arith, c .source-of .ensures, source-lt (a .g .old) (a .g .new) (omega arith) (c .before .stripe-of .result .number) (a .e)))
 
@@ -42,12 +42,12 @@ role-of-requires c κs = search needs
 
 returns : tie.Need-returns
 returns c =
-    let n = c .before .before in
+    let n = c .before .before .before in
     let h = n .before in
     let d = h .before in
     let x = d .before .before in
     let k = x .before in
-    owner-picked _ (k .pre .0) _ _ _ (x .stripe-of .ensures) _ (d .before .source-of .ensures) _ (d .disk-at .ensures) _ _ _ _ (k .pre .1) (k .pre .2) (h .home-code .ensures) (n .new-code .ensures) (c .before .pick .ensures) (c .role-of .ensures)
+    owner-picked _ (k .pre .0) _ _ _ (x .stripe-of .ensures) _ (d .before .source-of .ensures) _ (ap (λ y. y .disk) (d .carried-to .ensures)) _ _ _ _ (k .pre .1) (k .pre .2) (h .home-code .ensures) (n .new-code .ensures) (c .before .pick .ensures) (c .role-of .ensures)
 
 pub owner-of-spec : {M : Type 1} → statement M
 owner-of-spec =
@@ -55,7 +55,7 @@ owner-of-spec =
     (tie.spec
     stripe-of-requires
     source-of-requires
-    disk-at-requires
+    carried-to-requires
     home-code-requires
     new-code-requires
     pick-requires

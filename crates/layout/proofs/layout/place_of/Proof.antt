@@ -1,47 +1,22 @@
 -- `place_of` meets its contract. Assumes nothing.
-use borrow.Author.Needs.{needs}
-use Rattle.layout.proofs.Laws.Bounds.{sizes-of}
-use Rattle.layout.proofs.Laws.Layout.{home-place, slot-inside, slot-apart, slot-in, slot-place}
+use Rattle.layout.proofs.Laws.Bounds.{parts}
+use Rattle.layout.proofs.Laws.Layout.{slot-in, placed}
 use Rattle.layout.proofs.layout.place_of.Statement.{statement}
 use Rattle.layout.proofs.layout.place_of.Tie as tie
 
-home-place-requires : tie.Need-home-place-requires
-home-place-requires c κs = search needs
+carried-to-requires : tie.Need-carried-to-requires
+carried-to-requires c κs =
+    let s = c .before in
+    let w = slot-in _ (s .pre .0) _ (s .pre .1) _ (s .pre .2) .apart in
+    (w, parts _ _ _ w .home)
+
+slot-disk-requires : tie.Need-slot-disk-requires
+slot-disk-requires c κs = let s = c .before .before in slot-in _ (s .pre .0) _ (s .pre .1) _ (s .pre .2)
 
 returns : tie.Need-returns
 returns c =
-    let e = c .before in
-    let s = e .before .before in
-    home-place _ (s .pre .0) _ (e .if1 .taken) (s .pre .1) _ (c .home-place .ensures)
-
-slot-of-requires : tie.Need-slot-of-requires
-slot-of-requires c κs = search needs
-
-stripe-of-requires : tie.Need-stripe-of-requires
-stripe-of-requires c κs =
     let s = c .before .before .before in
-    sizes-of _ (s .pre .0) _ (slot-inside _ (s .pre .0) _ (s .pre .1) _ (c .slot-of .ensures))
-
-slot-disk-requires : tie.Need-slot-disk-requires
-slot-disk-requires c κs =
-    let y = c .before in
-    let s = y .before .before .before in
-    (slot-apart _ (s .pre .0) _ (s .pre .1) _ (y .slot-of .ensures) _ (c .stripe-of .ensures), slot-in _ (s .pre .0) _ (s .pre .1) _ (y .slot-of .ensures) _ (c .stripe-of .ensures))
-
-returns-2 : tie.Need-returns-2
-returns-2 c =
-    let x = c .before in
-    let y = x .before in
-    let s = y .before .before .before in
-    slot-place _ (s .pre .0) _ (s .pre .1) _ (y .slot-of .ensures) _ (x .stripe-of .ensures) _ (c .slot-disk .ensures)
+    placed _ (s .pre .0) _ (s .pre .1) _ (s .pre .2) _ _ (c .before .carried-to .ensures) (c .slot-disk .ensures)
 
 pub place-of-spec : {M : Type 1} → statement M
-place-of-spec =
-    tie.close
-    (tie.spec
-    home-place-requires
-    returns
-    slot-of-requires
-    stripe-of-requires
-    slot-disk-requires
-    returns-2)
+place-of-spec = tie.close (tie.spec carried-to-requires slot-disk-requires returns)

@@ -1,21 +1,26 @@
 -- `slot_disk` meets its contract. Assumes nothing.
+use mathlib.Core.Path.{ap}
+use mathlib.Core.Bool.{false}
 use Rattle.layout.specs.Slots.{slotDisk}
 use Rattle.layout.proofs.layout.slot_disk.Statement.{statement}
 use Rattle.layout.proofs.layout.slot_disk.Tie as tie
 
 nth-blank-requires : tie.Need-nth-blank-requires
-nth-blank-requires c κs = let y = c .before .pre .1 .new (c .if1 .taken) in (c .before .pre .0, y .1, y .0)
-
-disk-at-requires : tie.Need-disk-at-requires
-disk-at-requires c κs = (c .before .pre .0, c .before .pre .1 .old (c .if1 .left))
+nth-blank-requires c κs =
+    let w = c .before .before .pre in
+    let y = w .new (c .if1 .taken) in
+    (w .apart, y .1, y .0)
 
 returns : tie.Need-returns
 unfolding slotDisk
-returns c = simp (c .before .if1 .taken) (c .nth-blank .ensures)
+returns c = simp (c .before .if1 .taken) (ap (λ d. record { disk = d; moved = false }) (c .nth-blank .ensures))
+
+carried-to-requires : tie.Need-carried-to-requires
+carried-to-requires c κs = let w = c .before .before .pre in (w .apart, w .old (c .if1 .left))
 
 returns-2 : tie.Need-returns-2
 unfolding slotDisk
-returns-2 c = simp (c .before .if1 .left) (c .disk-at .ensures)
+returns-2 c = simp (c .before .if1 .left) (c .carried-to .ensures)
 
 pub slot-disk-spec : {M : Type 1} → statement M
-slot-disk-spec = tie.close (tie.spec nth-blank-requires disk-at-requires returns returns-2)
+slot-disk-spec = tie.close (tie.spec nth-blank-requires returns carried-to-requires returns-2)

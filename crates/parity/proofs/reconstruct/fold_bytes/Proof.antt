@@ -1,17 +1,18 @@
 -- `fold_bytes` meets its contract. The loop has stored the new parity from `first` to before `at`. Assumes nothing.
-use Prim.Native.Nat.{ℕ, _+_, _-_, _≤_}
-use mathlib.Core.Path.{_≡_, sym, ap, _∙_}
+use Prim.Native.Nat.{_+_, _-_, _≤_}
+use mathlib.Core.Path.{sym}
 use native.Mathlib.Omega.{arith}
 use lib.ListN.{length}
-use Rattle.parity.specs.Fold.{startOf, partFolded}
+use Rattle.parity.specs.Fold.{startOf}
 use Rattle.blocks.proofs.Laws.Block.{store-one}
 use Rattle.lanes.proofs.Laws.Lanes.{block-one}
-use Rattle.parity.proofs.Laws.Fold.{place-inside, Replaced, replaced-none, replaced-more, still-inside}
+use Rattle.parity.proofs.Laws.Replace.{replaced-none, replaced-end}
+use Rattle.parity.proofs.Laws.Fold.{place-inside, Reconstructed, others-more, still-inside}
 use Rattle.parity.proofs.reconstruct.fold_bytes.Statement.{statement}
 use Rattle.parity.proofs.reconstruct.fold_bytes.Tie as tie
 
 abbrev Inv-loop : tie.InvT-loop
-Inv-loop images₀ g bytes first to at₀ images at = Replaced g images₀ bytes first images at
+Inv-loop images₀ g bytes first to at₀ images at = Reconstructed g bytes images₀ first images at
 
 abbrev μ-loop : tie.MeasureT-loop
 μ-loop images₀ g bytes first to at₀ images at = g .len - at
@@ -24,7 +25,7 @@ offset-of-requires : tie.Need-offset-of-requires Inv-loop μ-loop
 offset-of-requires c κs = omega (arith, ends (c .before .before))
 
 loop-holds : tie.Need-loop-holds Inv-loop μ-loop
-loop-holds c = let st = c .before .before .before in replaced-none (st .args .g) (st .args .images .now) (st .args .bytes .now) (st .args .first) (st .pre .1)
+loop-holds c = replaced-none (c .before .before .before .pre .1)
 
 shared-slice-read-sum-byte : tie.Need-shared-slice-read-sum-byte Inv-loop μ-loop
 shared-slice-read-sum-byte c = let l = c .before .before .before .before in omega (arith, l .before .before .before .before .pre .0 .1)
@@ -55,17 +56,16 @@ loop-again c =
     let l = c .before .before .before .before .before in
     let st = l .before .before .before .before in
     let one = block-one (st .args .bytes .now) (l .loop .at) (omega (arith, st .pre .0 .1)) in
-    replaced-more (st .pre .0) (l .loop .inv) 1 (omega arith) one (c .sum-byte .ensures) (l .before .offset-of .ensures) (sym (store-one (l .loop .images) (l .before .offset-of .result + l .loop .at) (c .sum-byte .result)))
+    let stored = sym (store-one (l .loop .images) (l .before .offset-of .result + l .loop .at) (c .sum-byte .result)) in
+    others-more (st .args .bytes .now) (st .pre .0) (l .loop .inv) 1 (omega arith) one (c .sum-byte .ensures)
+    (l .before .offset-of .ensures)
+    stored
 
 same-length : tie.Need-same-length Inv-loop μ-loop
 same-length c = c .before .before .loop .inv .size
 
 returns : tie.Need-returns Inv-loop μ-loop
-returns c =
-    let l = c .before .before in
-    let a = l .before .before .before .before .args in
-    let all : l .loop .at ≡ a .g .len = omega (arith, l .loop .inv .within) in
-    l .loop .inv .is ∙ ap (λ (n : ℕ). partFolded (a .g) (a .images .now) (a .bytes .now) (a .first) (n - a .first)) all
+returns c = replaced-end (c .before .before .loop .inv) (omega arith)
 
 pub fold-bytes-spec : {M : Type 1} → statement M
 fold-bytes-spec =

@@ -6,7 +6,8 @@ use borrow.Author.Needs.{needs}
 use lib.ListN.{length}
 use Rattle.parity.specs.declared.Gapped.{Gapped}
 use Rattle.parity.specs.Fold.{FoldInside}
-use Rattle.parity.proofs.Laws.Fold.{replaced-none, replaced-on, replaced-all}
+use Rattle.parity.proofs.Laws.Replace.{replaced-none, replaced-on}
+use Rattle.parity.proofs.Laws.Fold.{others-steady, others-all}
 use Rattle.parity.proofs.reconstruct.fold_others.Statement.{statement}
 use Rattle.parity.proofs.reconstruct.fold_others.Tie as tie
 
@@ -34,13 +35,14 @@ returns c =
     let lanes = bytes .before .before .before .before in
     let quads = lanes .before .before .before .before in
     let st = quads .before .before .before .before in
+    let b = st .args .bytes .now in
     let w = inside st in
+    let k = others-steady b w (st .args .images .now) in
     let q = quads .fold-quads .ensures in
     let l = lanes .fold-lanes .ensures in
-    let none = replaced-none (gaps st) (st .args .images .now) (st .args .bytes .now) 0 zero-le in
-    let most = replaced-on w (replaced-on w none (quads .fold-quads .result) (q .0) (q .1) (q .3)) (lanes .fold-lanes .result) (l .0) (l .1) (l .3) in
-    let all = replaced-on w most (length (st .args .bytes .now)) (l .1) (omega arith) (bytes .fold-bytes .ensures) in
-    replaced-all refl (st .pre .1) (st .pre .0 .3) all (omega arith)
+    let some = replaced-on k (replaced-none zero-le) (quads .fold-quads .result) (q .0) (q .1) (q .3) in
+    let most = replaced-on k some (lanes .fold-lanes .result) (l .0) (l .1) (l .3) in
+    others-all b w (st .pre .1) (replaced-on k most (length b) (l .1) (omega arith) (bytes .fold-bytes .ensures)) (omega arith)
 
 pub fold-others-spec : {M : Type 1} → statement M
 fold-others-spec =

@@ -4,12 +4,13 @@ use native.Mathlib.Omega.{arith}
 use borrow.Author.Needs.{needs}
 use lib.ListN.{length}
 use Rattle.parity.specs.Fold.{startOf}
-use Rattle.parity.proofs.Laws.Fold.{place-inside, Replaced, replaced-none, replaced-more, still-inside}
+use Rattle.parity.proofs.Laws.Replace.{replaced-none}
+use Rattle.parity.proofs.Laws.Fold.{place-inside, Reconstructed, others-more, still-inside}
 use Rattle.parity.proofs.reconstruct.fold_quads.Statement.{statement}
 use Rattle.parity.proofs.reconstruct.fold_quads.Tie as tie
 
 abbrev Inv-loop : tie.InvT-loop
-Inv-loop images₀ g bytes first to at₀ images at = Replaced g images₀ bytes first images at
+Inv-loop images₀ g bytes first to at₀ images at = Reconstructed g bytes images₀ first images at
 
 abbrev μ-loop : tie.MeasureT-loop
 μ-loop images₀ g bytes first to at₀ images at = g .len - at
@@ -22,7 +23,7 @@ offset-of-requires : tie.Need-offset-of-requires Inv-loop μ-loop
 offset-of-requires c κs = omega (arith, ends (c .before .before))
 
 loop-holds : tie.Need-loop-holds Inv-loop μ-loop
-loop-holds c = let st = c .before .before .before in replaced-none (st .args .g) (st .args .images .now) (st .args .bytes .now) (st .args .first) (st .pre .1)
+loop-holds c = replaced-none (c .before .before .before .pre .1)
 
 sub-if1 : tie.Need-sub-if1 Inv-loop μ-loop
 sub-if1 c = omega (arith, c .before .loop .inv .within)
@@ -57,7 +58,9 @@ loop-again c =
     let summed = stored .before in
     let loaded = summed .before in
     let l = loaded .before .before .before .before .before in
-    replaced-more (l .before .before .before .before .pre .0) (l .loop .inv) 64 (omega arith) (loaded .load-quad .ensures) (summed .sum-quad .ensures) (l .before .offset-of .ensures)
+    let st = l .before .before .before .before in
+    others-more (st .args .bytes .now) (st .pre .0) (l .loop .inv) 64 (omega arith) (loaded .load-quad .ensures) (summed .sum-quad .ensures)
+    (l .before .offset-of .ensures)
     (stored .store-quad .ensures)
 
 same-length : tie.Need-same-length Inv-loop μ-loop

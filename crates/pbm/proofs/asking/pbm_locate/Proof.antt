@@ -46,11 +46,23 @@ answered c =
     let s = c .before .before .before .before .before in
     opened (event s) (s .args .rec .now) (is-readable (c .before .before)) (c .before .decode .ensures) .answer ∙ sym (c .locate .ensures)
 
+cast-stripe : tie.Need-cast-stripe
+cast-stripe c = search needs
+
+cast-disk : tie.Need-cast-disk
+cast-disk c = search needs
+
+cast-parity : tie.Need-cast-parity
+cast-parity c = search needs
+
+one-if-requires : tie.Need-one-if-requires
+one-if-requires c κs = search needs
+
 returns-2 : tie.Need-returns-2
 returns-2 c = rw (answered (c .before .before .before), c .before .x .given .1) (refl, refl)
 
 returns-3 : tie.Need-returns-3
-returns-3 c = rw (answered (c .before .before .before), c .before .x2 .given .1) (refl, refl)
+returns-3 c = let y = c .before .before .before .before in rw (answered (y .before .before .before), y .before .x2 .given .1, c .one-if .ensures) (refl, refl)
 
 pub pbm-locate-spec : {M : Type 1} → statement M
 pbm-locate-spec =
@@ -62,5 +74,9 @@ pbm-locate-spec =
     locate-requires
     enum-known-x
     enum-known-x-2
+    cast-stripe
+    cast-disk
+    cast-parity
+    one-if-requires
     returns-2
     returns-3)

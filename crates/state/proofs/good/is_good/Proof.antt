@@ -1,7 +1,6 @@
 -- `is_good` meets its contract. Assumes nothing.
 -- Below, c1 to c4 are the states past the first to the fourth test.
 use mathlib.Core.Path.{sym, _∙_}
-use native.Mathlib.Omega.{arith}
 use borrow.Author.Needs.{needs}
 use Rattle.state.specs.Good.{good}
 use Rattle.conditions.proofs.Tests.{and-true, and-false, went-on, returned}
@@ -79,13 +78,7 @@ add-health-is-good : tie.Need-add-health-is-good
 add-health-is-good c = search needs
 
 health-is-good-requires : tie.Need-health-is-good-requires
-health-is-good-requires c κs =
-    let c3 = c .before .before in
-    let c1 = c3 .before .before .before .before .before .before in
-    let r = c1 .before .before .before .before .args .r in
-    let n = within-true 3 (r .old) 16 (went-on (c1 .before .old-is-good .ensures) (c1 .if1 .left)) in
-    let s = within-true 1 (r .stripes) 1048576 (went-on (c3 .before .stripes-are-good .ensures) (c3 .if3 .left)) in
-    (omega (arith, n .0), s .0)
+health-is-good-requires c κs = search needs
 
 returns-5 : tie.Need-returns-5
 unfolding good

@@ -1,10 +1,10 @@
--- `disk_at` meets its contract. Assumes nothing.
+-- `carried_to` meets its contract. Assumes nothing.
 use native.Mathlib.Omega.{arith}
 use borrow.Author.Needs.{needs}
-use Rattle.layout.proofs.Laws.Apart.{picked}
+use Rattle.layout.proofs.Laws.Apart.{says-carried}
 use Rattle.layout.proofs.Laws.Bounds.{turns}
-use Rattle.layout.proofs.closed.disk_at.Statement.{statement}
-use Rattle.layout.proofs.closed.disk_at.Tie as tie
+use Rattle.layout.proofs.closed.carried_to.Statement.{statement}
+use Rattle.layout.proofs.closed.carried_to.Tie as tie
 
 lag-of-requires : tie.Need-lag-of-requires
 lag-of-requires c κs = search needs
@@ -30,26 +30,26 @@ add-turn-2 c =
     let r = turns _ _ _ (k .before .pre .0) _ _ (k .lag-of .ensures) in
     omega (arith, r .lag, r .index _ (c .excess .ensures))
 
-add-pick : tie.Need-add-pick
-add-pick c = search needs
+add-both : tie.Need-add-both
+add-both c = search needs
+
+both-requires : tie.Need-both-requires
+both-requires c κs = search needs
+
+both-requires-2 : tie.Need-both-requires-2
+both-requires-2 c κs = search needs
 
 pick-requires : tie.Need-pick-requires
 pick-requires c κs = search needs
-
-pick-requires-2 : tie.Need-pick-requires-2
-pick-requires-2 c κs = search needs
-
-pick-requires-3 : tie.Need-pick-requires-3
-pick-requires-3 c κs = search needs
 
 returns : tie.Need-returns
 returns c =
     let x = c .before .before .before in
     let k = x .before .before .before in
-    picked _ _ _ (k .before .pre .0) _ _ _ (k .lag-of .ensures) _ _ _ _ (x .excess .ensures) (c .before .before .pick .ensures) (c .before .pick2 .ensures) (c .pick3 .ensures)
+    says-carried _ _ _ (k .before .pre .0) _ _ _ (k .lag-of .ensures) _ _ _ _ (x .excess .ensures) (c .before .before .both .ensures) (c .before .both2 .ensures) (c .pick .ensures)
 
-pub disk-at-spec : {M : Type 1} → statement M
-disk-at-spec =
+pub carried-to-spec : {M : Type 1} → statement M
+carried-to-spec =
     tie.close
     (tie.spec
     lag-of-requires
@@ -59,8 +59,8 @@ disk-at-spec =
     add-turn
     mul-turn-2
     add-turn-2
-    add-pick
+    add-both
+    both-requires
+    both-requires-2
     pick-requires
-    pick-requires-2
-    pick-requires-3
     returns)
