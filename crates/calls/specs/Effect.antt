@@ -33,7 +33,7 @@ parityOf r b = standing r b .parity
 
 -- ---- read and view
 
--- what is seen there
+-- what is seen at the block's place
 abbrev pub blockOf : Record → List ℕ → ℕ → List ℕ
 blockOf r img b = seen r img (placeOf r b .stripe) (placeOf r b .disk)
 
