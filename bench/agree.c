@@ -2,8 +2,9 @@
  * The peers against the library: random histories of all calls, refused ones among them, on random images, from every kind
  * of record; and locate and owner of every block and place, for every n and m. Both with and without a tail, and in the
  * middle of a growth with the new blocks that are there by then, around the move that brings some. In the histories disks are
- * out and rebuilt too, with reads and writes around the stripe that a rebuild has come to. Points of every length, packed and
- * unpacked.
+ * out and rebuilt too, with reads and writes around the stripe that a rebuild has come to. Sweeps of sound images, as they are,
+ * with one bit flipped, and with the same bit flipped on two disks of a stripe, which its sum does not show. Points of every
+ * length, packed and unpacked.
  */
 #include "agree.h"
 
@@ -18,10 +19,10 @@
 
 enum { ROOM = 2 * PBM_RECORD_LEN }; /* for a record that is lent at another length */
 
-enum op { FORMAT, READ, VIEW, WRITE, GROW, ADVANCE, OUT, BEGIN, CONTINUE, STATUS, LOCATE, OWNER, OPS };
+enum op { FORMAT, READ, VIEW, WRITE, GROW, ADVANCE, OUT, BEGIN, CONTINUE, STATUS, LOCATE, OWNER, SWEEP, OPS };
 
-static const char *const names[OPS] = {"format", "read",  "view",     "write",  "grow",   "advance",
-                                       "out",    "begin", "continue", "status", "locate", "owner"};
+static const char *const names[OPS] = {"format", "read",     "view",   "write",  "grow",  "advance", "out",
+                                       "begin",  "continue", "status", "locate", "owner", "sweep"};
 
 static const uint32_t BEFORE_GROWTH = UINT32_MAX; /* in place of the moves done */
 
@@ -58,6 +59,7 @@ static void run_ours(struct world *w, const struct call *c)
     case CONTINUE: w->answer = pbm_continue(r, rl, i, il, c->x, &x[0]); break;
     case STATUS: w->answer = pbm_status(r, rl, &x[0], &x[1], &x[2], &x[3], &x[4], &x[5]); break;
     case LOCATE: w->answer = pbm_locate(r, rl, c->x, &x[0], &x[1], &x[2], &x[3]); break;
+    case SWEEP: w->answer = pbm_sweep(r, rl, i, il, &x[0], &x[1], &x[2]); break;
     default: w->answer = pbm_owner(r, rl, c->x, c->y, &x[0], &x[1]);
     }
 }
@@ -89,6 +91,7 @@ static void run_peer(struct world *w, const struct call *c)
     case CONTINUE: w->answer = peer_continue(r, rl, i, il, c->x, &x[0]); break;
     case STATUS: w->answer = peer_status(r, rl, &x[0], &x[1], &x[2], &x[3], &x[4], &x[5]); break;
     case LOCATE: w->answer = peer_locate(r, rl, c->x, &x[0], &x[1], &x[2], &x[3]); break;
+    case SWEEP: w->answer = peer_sweep(r, rl, i, il, &x[0], &x[1], &x[2]); break;
     default: w->answer = peer_owner(r, rl, c->x, c->y, &x[0], &x[1]);
     }
 }
@@ -103,10 +106,13 @@ static void run_at_will(struct world *w, const struct call *c)
 
 static void run_isal(struct world *w, const struct call *c)
 {
+    uint64_t *x = w->beside;
     if (c->op == READ || c->op == VIEW)
         w->answer = isal_read(w->record, c->record_len, w->images, c->images_len, c->x, w->block, c->block_len);
     else if (c->op == CONTINUE)
-        w->answer = isal_continue(w->record, c->record_len, w->images, c->images_len, c->x, &w->beside[0]);
+        w->answer = isal_continue(w->record, c->record_len, w->images, c->images_len, c->x, &x[0]);
+    else if (c->op == SWEEP)
+        w->answer = isal_sweep(w->record, c->record_len, w->images, c->images_len, &x[0], &x[1], &x[2]);
     else
         run_peer(w, c);
 }
@@ -188,7 +194,8 @@ static struct call likely_call(struct random *r, struct shape h, const uint8_t *
     case OUT: c.x = health == 0 || random_below(r, 9) == 0 ? random_below(r, disks + 1) : out; break;
     case BEGIN: c.x = out; break;
     case CONTINUE: c.x = likely_count(r, 1 + h.stripes / 8); break;
-    case STATUS: break;
+    case STATUS:
+    case SWEEP: break;
     default: c.x = random_below(r, h.stripes + 1), c.y = random_below(r, disks + 1);
     }
     return c;
@@ -238,6 +245,28 @@ static void start_record(struct random *r, struct shape h, uint8_t record[ROOM],
         memcpy(record + PBM_AT_REBUILT, &(uint32_t){(uint32_t)random_below(r, h.stripes)}, 4);
 }
 
+/* The same random bytes in the block and in the numbers beside the answer. */
+static void lend_both(struct random *r, struct world *a, struct world *b)
+{
+    random_fill(r, a->block, 4096);
+    memcpy(b->block, a->block, 4096);
+    random_fill(r, (uint8_t *)a->beside, sizeof a->beside);
+    memcpy(b->beside, a->beside, sizeof a->beside);
+}
+
+/* Makes a call on both, by the record of the first. */
+static bool agree_on(struct shape h, struct world *a, struct world *b, runner *peer, uint32_t moves, const struct call *c)
+{
+    memcpy(b->record, a->record, sizeof a->record);
+    run_ours(a, c);
+    peer(b, c);
+    if (same(a, b, size(h, h.n + h.m)))
+        return true;
+    fprintf(stderr, "%u + %u, B %u, T %u: %s (%llu, %llu) at t = %u: %u and %u\n", h.n, h.m, h.block_len, h.stripes,
+            names[c->op], (unsigned long long)c->x, (unsigned long long)c->y, moves, a->answer, b->answer);
+    return false;
+}
+
 /* A history from one record. One call in three is odd; a record spoilt for it is mended behind it. */
 static bool history(struct random *r, struct shape h, struct world *a, struct world *b, runner *peer, uint32_t moves,
                     uint8_t health)
@@ -249,24 +278,99 @@ static bool history(struct random *r, struct shape h, struct world *a, struct wo
     for (int i = 0; i < 60; i++) {
         uint8_t kept[ROOM];
         memcpy(kept, a->record, sizeof kept);
-        random_fill(r, a->block, 4096);
-        memcpy(b->block, a->block, 4096);
-        random_fill(r, (uint8_t *)a->beside, sizeof a->beside);
-        memcpy(b->beside, a->beside, sizeof a->beside);
+        lend_both(r, a, b);
         struct call c = i % 3 == 0 ? odd_call(r, h, a->record) : likely_call(r, h, a->record);
         if (c.images_len > all)
             c.images_len = all + 1; /* refused by its length: nothing behind the images is touched */
         bool spoilt = memcmp(a->record, kept, sizeof kept) != 0;
-        memcpy(b->record, a->record, sizeof a->record);
-        run_ours(a, &c);
-        peer(b, &c);
-        if (!same(a, b, all)) {
-            fprintf(stderr, "%u + %u, B %u, T %u: %s (%llu, %llu) at t = %u: %u and %u\n", h.n, h.m, h.block_len, h.stripes,
-                    names[c.op], (unsigned long long)c.x, (unsigned long long)c.y, moves, a->answer, b->answer);
+        if (!agree_on(h, a, b, peer, moves, &c))
             return false;
-        }
         if (spoilt)
             memcpy(a->record, kept, sizeof kept);
+    }
+    return true;
+}
+
+static size_t disk_len(struct shape h) { return (size_t)h.stripes * h.block_len; }
+
+/* Random blocks, and the parity of each stripe; blanks zero. */
+static void fill_sound(struct random *r, struct shape h, const uint8_t *record, uint8_t *images)
+{
+    for (uint64_t s = 0; s < h.stripes; s++) {
+        uint8_t sum[4096] = {0}, *parity = NULL;
+        for (uint64_t d = 0; d < h.n + record[PBM_AT_M]; d++) {
+            uint8_t *place = images + d * disk_len(h) + s * h.block_len;
+            uint64_t role, block;
+            pbm_owner(record, PBM_RECORD_LEN, s, d, &role, &block);
+            memset(place, 0, h.block_len);
+            if (role == PBM_PARITY)
+                parity = place;
+            if (role != PBM_DATA)
+                continue;
+            random_fill(r, place, h.block_len);
+            for (uint32_t i = 0; i < h.block_len; i++)
+                sum[i] ^= place[i];
+        }
+        memcpy(parity, sum, h.block_len);
+    }
+}
+
+/* A bit that is flipped on some disks of one stripe: none, one, or two. */
+struct flaw {
+    size_t at; /* byte of the disk */
+    uint8_t bit;
+    uint32_t disks[2], count;
+};
+
+static struct flaw any_flaw(struct random *r, struct shape h, uint32_t disks)
+{
+    uint32_t one = (uint32_t)random_below(r, disks), other = (one + 1 + (uint32_t)random_below(r, disks - 1)) % disks;
+    return (struct flaw){random_below(r, disk_len(h)), (uint8_t)(1u << random_below(r, 8)), {one, other},
+                         (uint32_t)random_below(r, 3)};
+}
+
+static void flip(struct world *w, struct shape h, struct flaw f)
+{
+    for (uint32_t i = 0; i < f.count; i++)
+        w->images[f.disks[i] * disk_len(h) + f.at] ^= f.bit;
+}
+
+static bool is_blank(struct shape h, const uint8_t *record, struct flaw f, uint32_t i)
+{
+    uint64_t role, block;
+    pbm_owner(record, PBM_RECORD_LEN, f.at / h.block_len, f.disks[i], &role, &block);
+    return role == PBM_BLANK;
+}
+
+/* One bit spoils a stripe's sum. Two do not: there the stripe is unsound by a blank that is not zero, if by anything. */
+static bool is_told(const struct world *w, struct shape h, struct flaw f)
+{
+    bool unsound = f.count == 1 || (f.count == 2 && (is_blank(h, w->record, f, 0) || is_blank(h, w->record, f, 1)));
+    uint64_t stripe = f.at / h.block_len;
+    return w->answer == PBM_DONE && w->beside[0] == unsound && w->beside[1] == (unsound ? stripe : 0) &&
+           w->beside[2] == (unsound ? stripe + 1 : h.stripes);
+}
+
+/* Sweeps of sound images, with flaws and without. */
+static bool sweeping(struct random *r, struct shape h, struct world *a, struct world *b, runner *peer, uint32_t moves)
+{
+    start_record(r, h, a->record, moves, PBM_HEALTH_WHOLE);
+    uint32_t disks = h.n + a->record[PBM_AT_M];
+    const struct call c = {.op = SWEEP, .record_len = PBM_RECORD_LEN, .images_len = size(h, disks)};
+    fill_sound(r, h, a->record, a->images);
+    memcpy(b->images, a->images, size(h, h.n + h.m));
+    for (int i = 0; i < 40; i++) {
+        struct flaw f = any_flaw(r, h, disks);
+        lend_both(r, a, b);
+        flip(a, h, f), flip(b, h, f);
+        if (!agree_on(h, a, b, peer, moves, &c))
+            return false;
+        if (!is_told(a, h, f)) {
+            fprintf(stderr, "%u + %u, B %u, T %u: a sweep at t = %u does not tell what was flipped\n", h.n, h.m, h.block_len,
+                    h.stripes, moves);
+            return false;
+        }
+        flip(a, h, f), flip(b, h, f);
     }
     return true;
 }
@@ -291,6 +395,9 @@ static bool histories(struct random *r, struct shape h, runner *peer)
     for (size_t i = 0; agreed && i < sizeof moves / sizeof moves[0]; i++)
         for (uint8_t health = 0; agreed && health <= PBM_HEALTH_REBUILDING; health++)
             agreed = history(r, h, &a, &b, peer, moves[i], health);
+    for (size_t i = 0; agreed && i < sizeof moves / sizeof moves[0]; i++)
+        if (moves[i] <= total || moves[i] == BEFORE_GROWTH)
+            agreed = sweeping(r, h, &a, &b, peer, moves[i]);
     free(a.images), free(a.block), free(b.images), free(b.block);
     return agreed;
 }

@@ -12,7 +12,7 @@
 
 #include "pbm.h"
 
-enum { MAX_DISKS = 32 };
+enum { MAX_DISKS = 32, MAX_BLOCK = 4096 };
 
 struct array {
     uint32_t n, m, disks;
@@ -50,7 +50,7 @@ static inline bool health_is_good(const struct array *a)
 
 static inline bool old_is_good(uint64_t n) { return n - 3 < 14; }
 static inline bool new_is_good(uint64_t m) { return m - 1 < 16; }
-static inline bool block_is_good(uint64_t len) { return len - 1 < 4096; }
+static inline bool block_is_good(uint64_t len) { return len - 1 < MAX_BLOCK; }
 static inline bool stripes_are_good(uint64_t stripes) { return stripes - 1 < 1048576; }
 
 /* A group is n zones of n + m stripes, and n * m moves are made in each zone. Divides once, for all that is asked later. */
@@ -121,6 +121,13 @@ static inline uint32_t open_stripes(const struct array *a)
     return a->grown ? a->stripes : a->moves / (a->n * a->m) * a->disks;
 }
 
+/* The stripes of zones of which a move is made: behind these, and behind the open ones, the blanks are the new disks. */
+static inline uint32_t begun_stripes(const struct array *a)
+{
+    uint32_t zone_moves = a->n * a->m;
+    return a->grown ? a->stripes : (a->moves + zone_moves - 1) / zone_moves * a->disks;
+}
+
 static inline uint32_t capacity(const struct array *a) { return old_blocks(a) + open_stripes(a) * a->m; }
 
 /* Does the disk count as out in this stripe? Of a disk that is out no stripe is rebuilt. */
@@ -160,6 +167,19 @@ static inline bool is_moved(const struct array *a, struct stripe x, uint32_t lag
 {
     uint32_t nth = x.within + lag - a->n; /* of the new disks; to an old one goes no move, and this wraps */
     return (nth < a->m) & ((x.zone * a->m + nth) * a->n + lag < a->moves); /* in the tail no index is below the total */
+}
+
+/* The lag of what stands on a disk or can have stood there: an old disk's own, or that of the move to a new one. */
+static inline uint32_t lag_on(const struct array *a, struct stripe x, uint32_t disk)
+{
+    uint32_t to_new = disk - x.within;
+    return to_new + only_if(disk < a->n, behind(a, x, disk) - to_new);
+}
+
+/* Does anything of before the growth stand on this disk, with this lag? */
+static inline bool is_taken(const struct array *a, struct stripe x, uint32_t disk, uint32_t lag)
+{
+    return (lag < a->n) & (is_moved(a, x, lag) == (disk >= a->n));
 }
 
 /* Where what stood on this disk stands, by its lag and if it is moved. */
@@ -284,6 +304,62 @@ __attribute__((always_inline)) static inline uint8_t continue_with(summing_other
     else
         set_health(record, PBM_HEALTH_REBUILDING, a.out, a.rebuilt + count);
     *made = count;
+    return PBM_DONE;
+}
+
+/* Do the places of a stripe on some disks, from the first on, xor to zero? Are they zero themselves? */
+typedef bool testing(const struct array *a, const uint8_t *images, uint32_t stripe, uint32_t first, uint32_t count);
+
+struct tests {
+    testing *cancel, *are_zero;
+};
+
+/* Of a stripe of the zone that is begun and not finished: each disk is asked for. */
+__attribute__((always_inline)) static inline bool blanks_are_zero(struct tests by, const struct array *a,
+                                                                  const uint8_t *images, uint32_t stripe)
+{
+    struct stripe x = stripe_at(a, stripe);
+    for (uint32_t d = 0; d < a->disks; d++)
+        if (!is_taken(a, x, d, lag_on(a, x, d)) && !by.are_zero(a, images, stripe, d, 1))
+            return false;
+    return true;
+}
+
+/* The first unsound stripe, or T. New disks that are all blank are looked at once: with zeroes there they need no sum. */
+__attribute__((always_inline)) static inline uint32_t first_unsound(struct tests by, const struct array *a,
+                                                                    const uint8_t *images)
+{
+    uint32_t s = 0, open = open_stripes(a), begun = begun_stripes(a);
+    for (; s < open; s++)
+        if (!by.cancel(a, images, s, 0, a->disks))
+            return s;
+    for (; s < begun; s++)
+        if (!by.cancel(a, images, s, 0, a->disks) || !blanks_are_zero(by, a, images, s))
+            return s;
+    for (; s < a->stripes; s++)
+        if (!by.cancel(a, images, s, 0, a->n) || !by.are_zero(a, images, s, a->n, a->m))
+            return s;
+    return s;
+}
+
+/* The call sweep, whose tests are made this way: constants where this is called. */
+__attribute__((always_inline)) static inline uint8_t sweep_with(struct tests by, const uint8_t *record, size_t record_len,
+                                                                const uint8_t *images, size_t images_len,
+                                                                uint64_t *found, uint64_t *stripe, uint64_t *read)
+{
+    struct array a;
+    *found = *stripe = *read = 0;
+    uint8_t refused = array_open_kept(&a, record, record_len);
+    if (refused)
+        return refused;
+    if (is_degraded(&a))
+        return PBM_DEGRADED;
+    if (images_len != images_size(&a))
+        return PBM_IMAGES;
+    uint32_t first = first_unsound(by, &a, images);
+    *found = first < a.stripes;
+    *stripe = only_if(first < a.stripes, first);
+    *read = min(first + 1, a.stripes);
     return PBM_DONE;
 }
 

@@ -23,8 +23,9 @@ static const char notes[] =
     "\n"
     "- *C* is bench/peer.c: the same calls with the same tests, written in C by hand; its write stores each byte of a parity\n"
     "  once, and the block behind it, as ours does. *C, at will* need not: it stores both at once, and with the block's disk\n"
-    "  out sums eight sources a pass, of which each stores the parity. *ISA-L* is C with xor_gen for the sums. *memcpy\n"
-    "  alone* copies from the same places, and asks nothing; *xor_check alone* reads all stripes, and writes nothing.\n"
+    "  out sums eight sources a pass, of which each stores the parity. *ISA-L* is C with xor_gen for the sums; its sweep has\n"
+    "  xor_check, and isal_zero_detect for blanks. *memcpy alone* copies from the same places, and asks nothing; *xor_check\n"
+    "  alone* reads all stripes, and writes nothing: it knows no layout, and does not ask if blanks are zero.\n"
     "  *restripe* puts every block to its place in the layout of n + m disks, parities by xor_gen, in place, through a\n"
     "  buffer of one stripe; *out of place* it writes a second image, which spares it the buffer and all care of order, and\n"
     "  takes twice the disks.\n"
@@ -34,12 +35,14 @@ static const char notes[] =
     "  rebuilt*: half of the stripes of disk 1 are rebuilt, those below T / 2, and blocks are asked for in these, on any disk,\n"
     "  or in the others, on disk 1. *Library, whole* and *library, disk out* are our own calls for the same blocks, by a\n"
     "  record with all disks in, or with disk 1 out; *library, at once* is our own rebuild in one continue.\n"
+    "- A sweep is of sound images, so that it reads every stripe. Before growth it is of n disks.\n"
     "- Buffers are aligned to 4096 bytes and touched before, with no wish for huge pages; all contestants share them.\n"
     "- *Out of cache*: each contestant goes once through all blocks of the images, in one random order; they begin at\n"
     "  different points of it. 5 + 3 at B = 64 has 512 MiB at most, by the limit of T. A write whose parity's disk is out\n"
     "  touches one block alone, and there are few such blocks: 22 to 83 MiB, which the last cache may keep.\n"
     "- *In cache*: images of about 1 MiB, visited over and over. One group of 16 + 16 at B = 4096 has 64 MiB: there 8 random\n"
-    "  stripes, 1 MiB together, are visited, and what takes the whole array, growth and rebuild, is not measured.\n"
+    "  stripes, 1 MiB together, are visited, and what takes the whole array, growth and rebuild, is not measured. A sweep is,\n"
+    "  of an array that has no more than 8 stripes: they are no whole group, so that it is grown at once, never half grown.\n"
     "- *With a tail*: one whole group, and the same with a tail of half a group and one stripe, which does not move; visited\n"
     "  over and over as in cache, in turn with the array without the tail. The stripes are drawn from all, so that moved ones\n"
     "  and those of the tail mix. A tail is less than a group: of an array out of cache it is a small part, and not measured.\n"
@@ -71,6 +74,16 @@ static void run_all(bool quick, struct settings set, uint64_t seed)
         cases_view(&s, set, &report);
         stage_close(&s);
     }
+}
+
+/* A sweep takes the whole array, and one of many disks and long blocks is in cache only if it has no whole group. */
+static void run_without_group(struct settings set, uint64_t seed)
+{
+    static struct stage s;
+    uint32_t n = shapes[1][0], m = shapes[1][1], stripes = (uint32_t)(IN_CACHE / ((n + m) * blocks[0]));
+    stage_open(&s, (struct plan){n, m, blocks[0], IN_CACHE, true, NO_GROUP, stripes}, seed);
+    cases_sweep(&s, set, &report);
+    stage_close(&s);
 }
 
 /* A third of the stripes, which no branch foretells, and zones that the end cuts. */
@@ -108,6 +121,7 @@ int main(int argc, char **argv)
     const struct settings set = quick ? (struct settings){5, 1000000} : (struct settings){15, 10000000};
     must(peers_agree(seed), "a peer and the library differ");
     run_all(quick, set, seed);
+    run_without_group(set, seed);
     run_with_tails(set, seed);
     print_notes(quick, seed);
     printf("\n## Out of cache\n\n");

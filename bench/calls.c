@@ -14,14 +14,15 @@ struct set {
     step_call *advance, *go_on;
     locate_call *locate;
     owner_call *owner;
+    sweep_call *sweep;
     points_call *pack, *unpack;
 };
 
 static const struct set sets[2] = {
-    {pbm_read, pbm_write, pbm_grow, pbm_begin, pbm_advance, pbm_continue, pbm_locate, pbm_owner, pbm_points_pack,
+    {pbm_read, pbm_write, pbm_grow, pbm_begin, pbm_advance, pbm_continue, pbm_locate, pbm_owner, pbm_sweep, pbm_points_pack,
      pbm_points_unpack},
-    {peer_read, peer_write, peer_grow, peer_begin, peer_advance, peer_continue, peer_locate, peer_owner, peer_points_pack,
-     peer_points_unpack}};
+    {peer_read, peer_write, peer_grow, peer_begin, peer_advance, peer_continue, peer_locate, peer_owner, peer_sweep,
+     peer_points_pack, peer_points_unpack}};
 
 static volatile uint64_t sink;
 
@@ -69,6 +70,16 @@ static void owners(struct stage *s, const struct set *c, struct lent l, size_t t
         uint32_t place = places.items[i % places.count];
         must(c->owner(l.record, PBM_RECORD_LEN, place / 32, place % 32, &role, &block) == 0, "owner");
         sink += role + block;
+    }
+}
+
+/* To the end: the images are sound. */
+static void sweeps(struct stage *s, const struct set *c, struct lent l, size_t times)
+{
+    uint64_t found, stripe, read;
+    for (size_t i = 0; i < times; i++) {
+        must(c->sweep(l.record, PBM_RECORD_LEN, l.images, l.images_len, &found, &stripe, &read) == 0, "sweep");
+        must(read == s->stripes && found == 0, "a sweep stopped");
     }
 }
 
@@ -125,7 +136,10 @@ static struct lent lend_degraded(struct stage *s, bool rebuilding, listing *bloc
 
 typedef void asking(struct stage *s, const struct set *c, struct lent l, size_t times);
 
-/* Calls for one block or place, in the middle of the growth unless the name says another state; *new* alone is once grown. */
+/*
+ * Calls for one block or place, in the middle of the growth unless the name says another state; *new* alone is once grown. And
+ * sweeps, which are for all stripes.
+ */
 static const struct {
     const char *name;
     asking *ask;
@@ -139,7 +153,9 @@ static const struct {
              {"locate-before", locates, BEFORE, false}, {"locate-old", locates, HALF, false},
              {"locate-new-half", locates, HALF, true},  {"locate-old-grown", locates, GROWN, false},
              {"locate-new", locates, GROWN, true},      {"owner-before", owners, BEFORE, false},
-             {"owner-half", owners, HALF, false},       {"owner-grown", owners, GROWN, false}};
+             {"owner-half", owners, HALF, false},       {"owner-grown", owners, GROWN, false},
+             {"sweep-before", sweeps, BEFORE, false},   {"sweep-half", sweeps, HALF, false},
+             {"sweep-grown", sweeps, GROWN, false}};
 
 /* Calls for one block with a disk out, or with half of it rebuilt. */
 static const struct {

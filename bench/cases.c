@@ -67,6 +67,16 @@ static struct contestant owner(const char *name, owner_call *call, struct list l
     return (struct contestant){.name = name, .turn = owners, .list = l, .owner = call};
 }
 
+static struct contestant sweeper(const char *name, sweep_call *call, struct list l)
+{
+    return (struct contestant){.name = name, .turn = sweeps, .list = l, .sweep = call};
+}
+
+static struct contestant checker(struct list l)
+{
+    return (struct contestant){.name = "xor_check alone", .turn = checks, .list = l};
+}
+
 static struct contestant packer(const char *name, points_call *call, struct list l)
 {
     return (struct contestant){.name = name, .turn = packs, .list = l, .points = call};
@@ -257,8 +267,7 @@ static void rebuilding(struct stage *s, struct settings set, struct report *repo
     struct series at_once = {"rebuild at once, per stripe",
                              {rebuilder("library", pbm_begin, pbm_continue, all),
                               held(rebuilder("ISA-L", peer_begin, isal_continue, all), 0.9, 0.5),
-                              rebuilder("C", peer_begin, peer_continue, all),
-                              {.name = "xor_check alone", .turn = checks, .list = all}},
+                              rebuilder("C", peer_begin, peer_continue, all), checker(all)},
                              4, s->stripes};
     struct series by_64 = {"rebuild by 64, per stripe",
                            {rebuilder("library", pbm_begin, pbm_continue, some),
@@ -268,6 +277,43 @@ static void rebuilding(struct stage *s, struct settings set, struct report *repo
                            4, s->stripes};
     rebuild_by(s, set, report, &at_once);
     rebuild_by(s, set, report, &by_64);
+}
+
+/* Of sound images: all stripes are read. ISA-L looks at blanks too; xor_check alone does not, and knows no layout. */
+static void sweeping_by(struct stage *s, struct settings set, struct report *report, const char *name,
+                        const uint8_t record[PBM_RECORD_LEN])
+{
+    struct list all = {&s->stripes, 1};
+    struct series x = {name,
+                       {sweeper("library", pbm_sweep, all), held(checker(all), 0.9, 0.8),
+                        sweeper("ISA-L", isal_sweep, all), sweeper("C", peer_sweep, all)},
+                       4, s->stripes};
+    lend(s, record);
+    series_run(&x, s, set, report);
+}
+
+static void sweeping_before(struct stage *s, struct settings set, struct report *report)
+{
+    sweeping_by(s, set, report, "sweep, before growth, per stripe", s->formatted);
+}
+
+static void sweeping_grown(struct stage *s, struct settings set, struct report *report)
+{
+    stage_grown(s);
+    sweeping_by(s, set, report, "sweep, grown, per stripe", s->grown);
+}
+
+static void sweeping(struct stage *s, struct settings set, struct report *report)
+{
+    sweeping_before(s, set, report);
+    sweeping_by(s, set, report, "sweep, half grown, per stripe", s->half);
+    sweeping_grown(s, set, report);
+}
+
+void cases_sweep(struct stage *s, struct settings set, struct report *report)
+{
+    sweeping_before(s, set, report);
+    sweeping_grown(s, set, report);
 }
 
 /* Against C, and against restripes if those play too. */
@@ -398,6 +444,7 @@ void cases_run(struct stage *s, struct settings set, struct report *report)
     writing_not_rebuilt(s, set, report);
     if (!s->few_stripes) {
         rebuilding(s, set, report);
+        sweeping(s, set, report);
         growing(s, set, report);
     }
     ask(s, set, report);

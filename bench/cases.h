@@ -17,6 +17,9 @@ void cases_asking_beside(struct stage *whole, struct stage *tailed, struct setti
 /* The points of the blocks: no record is lent, and the images are no more than many blocks one behind the other. */
 void cases_points(struct stage *s, struct settings set, struct report *report);
 
+/* The sweeps of an array with no whole group, which is grown at once and never in the middle of a growth. */
+void cases_sweep(struct stage *s, struct settings set, struct report *report);
+
 /* What stands for view, on an array of short blocks. */
 void cases_view(struct stage *s, struct settings set, struct report *report);
 

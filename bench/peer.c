@@ -254,13 +254,6 @@ uint8_t peer_locate(const uint8_t *record, size_t record_len, uint64_t block, ui
     return PBM_DONE;
 }
 
-/* The lag of what stands on a disk or can have stood there: an old disk's own, or that of the move to a new one. */
-static uint32_t lag_on(const struct array *a, struct stripe x, uint32_t disk)
-{
-    uint32_t to_new = disk - x.within;
-    return to_new + only_if(disk < a->n, behind(a, x, disk) - to_new);
-}
-
 uint8_t peer_owner(const uint8_t *record, size_t record_len, uint64_t stripe, uint64_t disk, uint64_t *role,
                    uint64_t *block)
 {
@@ -275,13 +268,20 @@ uint8_t peer_owner(const uint8_t *record, size_t record_len, uint64_t stripe, ui
         return PBM_DISK;
     struct stripe x = stripe_at(&a, (uint32_t)stripe);
     uint32_t e = (uint32_t)disk, lag = lag_on(&a, x, e), home = behind(&a, x, lag);
-    bool taken = (lag < a.n) & (is_moved(&a, x, lag) == (e >= a.n));
+    bool taken = is_taken(&a, x, e, lag);
     bool old = taken & (lag != 0), new = !taken & is_open(&a, x);
     uint32_t old_block = x.number * (a.n - 1) + a.n - 1 - home - (home < x.parity);
     uint32_t new_block = old_blocks(&a) + x.number * a.m + blanks_below(&a, x, e);
     *role = only_if(old | new, PBM_DATA) + only_if(taken & !old, PBM_PARITY);
     *block = only_if(old, old_block) + only_if(new, new_block);
     return PBM_DONE;
+}
+
+uint8_t peer_sweep(const uint8_t *record, size_t record_len, const uint8_t *images, size_t images_len, uint64_t *found,
+                   uint64_t *stripe, uint64_t *read)
+{
+    struct tests by = {cancel_places, places_are_zero};
+    return sweep_with(by, record, record_len, images, images_len, found, stripe, read);
 }
 
 static bool are_points(size_t from_len, size_t into_len) { return from_len % 2 == 0 && from_len == into_len; }

@@ -30,6 +30,8 @@ uint8_t peer_locate(const uint8_t *record, size_t record_len, uint64_t block, ui
                     uint64_t *parity_disk, uint64_t *moved);
 uint8_t peer_owner(const uint8_t *record, size_t record_len, uint64_t stripe, uint64_t disk, uint64_t *role,
                    uint64_t *block);
+uint8_t peer_sweep(const uint8_t *record, size_t record_len, const uint8_t *images, size_t images_len, uint64_t *found,
+                   uint64_t *stripe, uint64_t *read);
 uint8_t peer_points_pack(const uint8_t *points, size_t points_len, uint8_t *packed, size_t packed_len);
 uint8_t peer_points_unpack(const uint8_t *packed, size_t packed_len, uint8_t *points, size_t points_len);
 

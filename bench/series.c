@@ -67,7 +67,7 @@ static double target_of(const struct contestant *peer, const struct plan *plan)
 static void add_row(struct report *report, const struct series *x, const struct contestant *peer, const struct stage *s,
                     double *ratios, size_t rounds, double ns)
 {
-    struct row row = {.call = x->name, .peer = peer->name, .plan = s->plan, .images_len = s->images_len};
+    struct row row = {.call = x->name, .peer = peer->name, .plan = s->plan, .images_len = stage_lent(s).len};
     row.stripes = s->stripes;
     row.ns = ns;
     row.target = target_of(peer, &s->plan);

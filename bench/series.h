@@ -20,6 +20,7 @@ typedef uint8_t begin_call(uint8_t *, size_t, const uint8_t *, size_t, uint64_t)
 typedef uint8_t step_call(uint8_t *, size_t, uint8_t *, size_t, uint64_t, uint64_t *);
 typedef uint8_t locate_call(const uint8_t *, size_t, uint64_t, uint64_t *, uint64_t *, uint64_t *, uint64_t *);
 typedef uint8_t owner_call(const uint8_t *, size_t, uint64_t, uint64_t, uint64_t *, uint64_t *);
+typedef uint8_t sweep_call(const uint8_t *, size_t, const uint8_t *, size_t, uint64_t *, uint64_t *, uint64_t *);
 typedef uint8_t points_call(const uint8_t *, size_t, uint8_t *, size_t);
 
 struct contestant {
@@ -34,6 +35,7 @@ struct contestant {
     step_call *step; /* advance or continue */
     locate_call *locate;
     owner_call *owner;
+    sweep_call *sweep;
     points_call *points; /* pack or unpack */
     const uint8_t *record; /* of a read or write: another than the case lends; NULL: that one */
     bool in_place; /* of a restripe: not into a second image */

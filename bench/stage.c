@@ -38,6 +38,13 @@ static uint32_t groups_for(struct plan p)
     return groups > 0 ? (uint32_t)groups : 1;
 }
 
+static uint32_t groups_of(struct plan p)
+{
+    if (p.groups == NO_GROUP)
+        return 0;
+    return p.groups > 0 ? p.groups : groups_for(p);
+}
+
 static void fill_home(struct stage *s)
 {
     uint8_t refused = pbm_format(s->formatted, PBM_RECORD_LEN, s->home, s->home_len, s->plan.n, s->plan.block_len, s->stripes);
@@ -56,14 +63,16 @@ static void grow_to(struct stage *s, uint8_t record[PBM_RECORD_LEN], uint32_t mo
     memcpy(s->images, s->home, s->home_len);
     memcpy(record, s->formatted, PBM_RECORD_LEN);
     must(pbm_grow(record, PBM_RECORD_LEN, s->images, s->images_len, s->plan.m) == 0, "grow");
+    if (s->total == 0)
+        return; /* the growth is over */
     must(pbm_advance(record, PBM_RECORD_LEN, s->images, s->images_len, moves, &made) == 0 && made == moves, "advance");
 }
 
-/* Half of the zones are finished, and half of the moves of the next one made. */
+/* Half of the zones are finished, and half of the moves of the next one made, if there is one. */
 static uint32_t half_of(const struct stage *s)
 {
     uint32_t zone_moves = s->plan.n * s->plan.m, zones = s->total / zone_moves;
-    return zones / 2 * zone_moves + zone_moves / 2;
+    return zones > 0 ? zones / 2 * zone_moves + zone_moves / 2 : 0;
 }
 
 /* Stripes of OUT_DISK, by `rebuilding`. */
@@ -91,6 +100,13 @@ void stage_half(struct stage *s)
 }
 
 void stage_grown(struct stage *s) { grow_to(s, s->grown, s->total); }
+
+struct lent_images stage_lent(const struct stage *s)
+{
+    if (s->record[PBM_AT_M] == 0)
+        return (struct lent_images){s->home, s->home_len, s->plan.n};
+    return (struct lent_images){s->images, s->images_len, s->disks};
+}
 
 uint32_t capacity_by(const uint8_t record[PBM_RECORD_LEN])
 {
@@ -156,7 +172,7 @@ static struct visited choose_stripes(struct stage *s, choosing *fits)
 
 void stage_open(struct stage *s, struct plan plan, uint64_t seed)
 {
-    uint32_t groups = plan.groups > 0 ? plan.groups : groups_for(plan);
+    uint32_t groups = groups_of(plan);
     *s = (struct stage){.plan = plan, .disks = plan.n + plan.m, .random = {seed}};
     s->stripes = groups * group_len(plan) + plan.tail;
     s->total = groups * plan.n * plan.n * plan.m;

@@ -13,7 +13,7 @@ struct plan {
     uint32_t n, m, block_len;
     size_t images_len; /* wished for: the array has as many whole groups as fit it, or one */
     bool in_cache;
-    uint32_t groups; /* so many, whatever was wished for; 0: by the wish */
+    uint32_t groups; /* so many, whatever was wished for; 0: by the wish; NO_GROUP: none, and nothing moves */
     uint32_t tail;   /* stripes behind the whole groups */
 };
 
@@ -50,12 +50,23 @@ struct stage {
 
 enum { OUT_DISK = 1, DATA_BLOCKS = 16 };
 
+static const uint32_t NO_GROUP = UINT32_MAX;
+
 void stage_open(struct stage *s, struct plan plan, uint64_t seed);
 void stage_close(struct stage *s);
 
 /* The images as they are in the middle of the growth, which is inside a zone; as they are once all moves are made. */
 void stage_half(struct stage *s);
 void stage_grown(struct stage *s);
+
+/* What goes with the record that is lent: the images of n disks, if it is of before growth, or of n + m. */
+struct lent_images {
+    const uint8_t *bytes;
+    size_t len;
+    uint32_t disks;
+};
+
+struct lent_images stage_lent(const struct stage *s);
 
 /* Rebuilds OUT_DISK to its end, from the record that is lent, in which it is out or being rebuilt. */
 void stage_rebuild(struct stage *s);

@@ -80,11 +80,30 @@ uint64_t rebuilds(struct stage *s, const struct contestant *c, const uint32_t *i
 uint64_t checks(struct stage *s, const struct contestant *c, const uint32_t *items, size_t count)
 {
     (void)c, (void)items;
+    struct lent_images lent = stage_lent(s);
     bool held = true;
     uint64_t start = now_ns();
     for (size_t i = 0; i < count; i++)
-        held &= isal_check(s->images, s->disks, s->stripes, s->plan.block_len);
+        held &= isal_check(lent.bytes, lent.disks, s->stripes, s->plan.block_len);
     return since(start, !held, 0);
+}
+
+/* A sweep that stopped would be a fast one too. */
+uint64_t sweeps(struct stage *s, const struct contestant *c, const uint32_t *items, size_t count)
+{
+    (void)items;
+    struct lent_images lent = stage_lent(s);
+    uint8_t refused = 0;
+    uint64_t unsound = 0, seen = 0, start = now_ns();
+    for (size_t i = 0; i < count; i++) {
+        uint64_t found, stripe, read;
+        refused |= c->sweep(s->record, PBM_RECORD_LEN, lent.bytes, lent.len, &found, &stripe, &read);
+        unsound |= found;
+        seen += read;
+    }
+    uint64_t ns = since(start, refused, seen);
+    must(!unsound, "a sweep stopped");
+    return ns;
 }
 
 /* A whole growth, from the images of before, which are put back first and not timed. An item is the moves of one advance. */

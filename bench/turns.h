@@ -5,9 +5,9 @@
 #include "restripe.h"
 #include "series.h"
 
-turn reads, views, writes, rebuilds, growths, locates, owners, packs;
+turn reads, views, writes, rebuilds, growths, locates, owners, sweeps, packs;
 
-/* memcpy alone, from the same places; xor_check of every stripe; the conventional restripe. */
+/* memcpy alone, from the same places; xor_check of every stripe of what is lent; the conventional restripe. */
 turn copies, checks, restripes;
 
 struct restripe restripe_of(const struct stage *s, bool in_place);

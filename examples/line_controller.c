@@ -6,7 +6,9 @@
  * while the line runs; halfway it fails again, and is rebuilt from its first stripe on. New blocks are used as they come, with
  * each zone that is finished. The disks are of no round size: a tail is left behind the groups that move. Each block that the
  * saw reads is compared, point by point, with what the scanner last wrote to it, which this program keeps in a plain array of
- * its own. When a disk is lost, service is told for every block which drawer it is in, and in which its parity is.
+ * its own. When a disk is lost, service is told for every block which drawer it is in, and in which its parity is. Before the
+ * growth, in the middle of it, behind it and after each rebuild service sweeps the cabinet: all stripes must be sound. Where a
+ * drawer has changed a bit by itself, on a block or on a blank, the sweep must stop at just that stripe.
  *
  *     line_controller [seed]
  *
@@ -342,6 +344,64 @@ static void advance_is_refused(uint8_t wanted)
     must_be("moves of a refused advance", made, 0);
 }
 
+/* ---- service sweeps the cabinet */
+
+static void sweep_must_tell(uint64_t found, uint64_t stripe, uint64_t read)
+{
+    uint64_t is_found, first, were_read;
+    must("sweep", pbm_sweep(record, sizeof record, images, images_len, &is_found, &first, &were_read));
+    must_be("an unsound stripe is found", is_found, found);
+    must_be("the first unsound stripe", first, stripe);
+    must_be("stripes read", were_read, read);
+}
+
+static void all_is_sound(void)
+{
+    sweep_must_tell(0, 0, STRIPES);
+    printf("    all %d stripes are sound\n", STRIPES);
+}
+
+/* What is off in the cabinet is in this stripe alone. */
+static void sweep_stops_at(uint64_t stripe, const char *off)
+{
+    sweep_must_tell(1, stripe, stripe + 1);
+    printf("    %s: a sweep stops at stripe %" PRIu64 ", with %" PRIu64 " read\n", off, stripe, stripe + 1);
+}
+
+/* A drawer changes a bit by itself, here in the last byte of a place. A second flip puts it back. */
+static void flip(uint64_t stripe, uint64_t disk)
+{
+    images[disk * DISK + stripe * BLOCK + BLOCK - 1] ^= 1;
+}
+
+static void block_off_is_found(uint64_t block)
+{
+    struct place p = place_of(block);
+    flip(p.stripe, p.disk);
+    sweep_stops_at(p.stripe, "a block is off");
+    flip(p.stripe, p.disk);
+}
+
+/* In the first stripe with blanks on disks OLD and OLD + 1. With both off alike it xors to zero: only the blanks tell. */
+static void blanks_off_are_found(void)
+{
+    uint64_t stripe = 0;
+    while (owner_of(stripe, OLD).role != PBM_BLANK || owner_of(stripe, OLD + 1).role != PBM_BLANK) stripe++;
+    flip(stripe, OLD);
+    sweep_stops_at(stripe, "a blank is off");
+    flip(stripe, OLD + 1);
+    sweep_stops_at(stripe, "two blanks are off alike");
+    flip(stripe, OLD);
+    flip(stripe, OLD + 1);
+}
+
+static void sweep_is_refused(void)
+{
+    uint64_t found, stripe, read;
+    must_refuse("sweep", pbm_sweep(record, sizeof record, images, images_len, &found, &stripe, &read), PBM_DEGRADED);
+    must_be("numbers of a refused sweep", found | stripe | read, 0);
+}
+
 /* ---- a disk is lost, and rebuilt while the line runs */
 
 static void must_tell(uint64_t health, uint64_t disk, uint64_t rebuilt)
@@ -422,6 +482,7 @@ static void end_rebuild(uint64_t disk)
     rebuild_until(STRIPES);
     must_tell(PBM_HEALTH_WHOLE, 0, 0);
     printf("disk %" PRIu64 " is rebuilt\n", disk);
+    all_is_sound();
 }
 
 static void print_calls(const char *name, struct calls calls)
@@ -455,15 +516,20 @@ int main(int argc, char **argv)
     printf("%d disks are formatted: %d blocks of %d bytes\n", OLD, BLOCKS_BEFORE, BLOCK);
     blocks_come(0, BLOCKS_BEFORE);
     logs_pass(2000);
+    all_is_sound();
     saw_reads_all();
 
     grow();
     move_until(200);
     move_until(400);
+    all_is_sound();
+    block_off_is_found(status().capacity - 1);
+    blanks_off_are_found();
 
     next_new_block_is_refused();
     lose(2);
     advance_is_refused(PBM_DEGRADED);
+    sweep_is_refused();
     logs_pass(1000);
     saw_reads_all();
 
@@ -471,6 +537,7 @@ int main(int argc, char **argv)
     rebuild_until(100);
     rebuild_until(250);
     advance_is_refused(PBM_DEGRADED);
+    sweep_is_refused();
     saw_reads_all();
     lose(2); /* again, in the middle */
     saw_reads_all();
@@ -484,6 +551,7 @@ int main(int argc, char **argv)
     move_until(MOVES);
     advance_is_refused(PBM_NOTHING_TO_MOVE);
     printf("the growth is over: %d blocks\n", BLOCKS_AFTER);
+    all_is_sound();
     new_blocks_stay();
     saw_reads_all();
     logs_pass(2000);

@@ -74,26 +74,39 @@
  *   2. No pointer is null, not even that of a slice of length 0.
  *   3. No two things lent to one call overlap.
  *   4. While a call runs nothing else writes what it is lent, nor reads what it writes. So the calls on one array take
- *      turns, with a lock of the caller's if scanner and saw are threads. pbm_read, pbm_status, pbm_locate and pbm_owner
- *      only read record and images: any number of these four may run at once on one array, each with an `into` and
- *      numbers of its own, while none of the other seven does (a readers-writer lock). Calls on different arrays need no
- *      lock, nor do those of SCAN POINTS: there is nothing else that two calls share.
+ *      turns, with a lock of the caller's if scanner and saw are threads. pbm_read, pbm_status, pbm_locate, pbm_owner and
+ *      pbm_sweep only read record and images: any number of these five may run at once on one array, each with an `into`
+ *      and numbers of its own, while none of the other seven does (a readers-writer lock). Calls on different arrays need
+ *      no lock, nor do those of SCAN POINTS: there is nothing else that two calls share.
  *   5. Each call on an array is lent the record and the images as the last one left them. Between calls nothing else writes
  *      them, save the disk that is out and, of one that is being rebuilt, the stripes not yet done; and no older copy takes
  *      their place: an old record beside newer images is a good record, and a block read by it may be another block.
  *   6. A call that has begun runs to its end. See below what a kill leaves.
- *   7. There are 16 KiB of stack left for a call. (Measured, not proved: less than 5 KiB in pbm_continue, less than 1 KiB in
- *      all others; some 3 KiB more where the dynamic linker looks up memcpy, memmove or memset, at their first use. Signal
- *      handlers on the same stack need theirs beside it.)
+ *   7. There are 16 KiB of stack left for a call. (Measured, not proved: less than 5 KiB in pbm_continue and pbm_sweep, less
+ *      than 1 KiB in all others; some 3 KiB more where the dynamic linker looks up memcpy, memmove or memset, at their first
+ *      use. Signal handlers on the same stack need theirs beside it.)
  *   Where these are kept nothing else can go wrong: any numbers, and slices of any length, are answered, if by a refusal.
  *   Where 5 alone is broken a call still answers, whatever bytes the record holds, and stays within what it is lent, but
- *   what it reads and writes may be anything. The archive is for x86-64 and Linux.
+ *   what it reads and writes may be anything; pbm_sweep alone is made for such images (SOUND STRIPES). The archive is for
+ *   x86-64 and Linux.
+ *
+ * SOUND STRIPES
+ *   A stripe is sound if its N places xor to zero and its blanks, the places of role PBM_BLANK, are zero. Where the rules
+ *   above are kept all stripes of a whole array are sound. A drawer that has changed a byte by itself, an older copy of one,
+ *   or a call that was killed may break that: pbm_sweep finds the first stripe that is not sound, whatever the images hold
+ *   and wherever they come from.
+ *   - It goes by the record it is lent, which tells where the blanks are. In a finished zone there are none, nor are there
+ *     any before a growth or once it is over: there a stripe is sound if it xors to zero.
+ *   - It does not tell which disk is wrong. Where that is known, pbm_out, pbm_begin and pbm_continue make that disk, in all
+ *     stripes, what the others say it is, and all stripes are sound again if no other disk was wrong.
+ *   - Errors that cancel each other it does not find: the same bits off on two disks that have a block or the parity there,
+ *     or two such places exchanged. Off on a blank too, they are found.
  *
  * A CALL THAT IS KILLED
  *   A process may be killed in a call while record and images outlive it, as mapped files do. What is promised of them then
- *   is nothing: the proofs speak of calls that have ended, and no call can tell that one has not. What the library does
- *   today, tested by stopping calls inside: the record is written by the last few instructions of a call, once. Before
- *   those it is the old one, and images may be half changed; among them it may be a mix of old and new.
+ *   is nothing: the proofs speak of calls that have ended. What the library does today, tested by stopping calls inside: the
+ *   record is written by the last few instructions of a call, once. Before those it is the old one, and images may be half
+ *   changed; among them it may be a mix of old and new.
  *   - pbm_advance: some of its moves are made, and t counts none of them. In doubt is what these moves carry, k blocks and
  *     parities at most; all other places are as they were. So k bounds the damage: choose it small. Do not go on with such
  *     an array: by the old t what has moved reads as zeroes, and another advance would copy these zeroes over it.
@@ -101,9 +114,11 @@
  *   - pbm_format, pbm_grow, pbm_continue: the same call, made again, does it all, as long as the record is the old one.
  *     Behind a pbm_continue no block is in doubt then: what it has made is of stripes that count as not done. pbm_out and
  *     pbm_begin write the record alone, the other calls neither record nor images.
- *   Nothing here mends an array in doubt yet, or finds out that it is in doubt: a careful controller notes outside, before
- *   each write and advance, that it begins and with which numbers, and strikes that out behind it. If power is lost, memory
- *   and files may keep some writes and lose earlier ones, and none of this holds: power cuts are not covered yet.
+ *   Nothing here mends an array in doubt yet. That a whole one is in doubt pbm_sweep finds out, by the old record: a stripe
+ *   is not sound in which a pbm_advance has changed a byte, or a pbm_write some bytes and not all. What was to be done there
+ *   it does not tell: a careful controller notes outside, before each write and advance, that it begins and with which
+ *   numbers, and strikes that out behind it. If power is lost, memory and files may keep some writes and lose earlier ones,
+ *   and none of this holds: power cuts are not covered yet.
  *
  * SCAN POINTS
  *   A scanner's block is often a row of 16-bit points, least byte first, whose neighbours differ little. pbm_points_pack
@@ -126,7 +141,7 @@
  *
  *    1  record            not 20 bytes long: all calls; not good: all but format
  *    2  lost              health is lost: all but format, status, locate, owner
- *    3  degraded          a disk is out or being rebuilt: grow, advance
+ *    3  degraded          a disk is out or being rebuilt: grow, advance, sweep
  *    4  grown             m is not 0: grow
  *    5  nothing to move   m is 0, or t is the total: advance
  *    6  geometry          n, B or T outside its limits: format; m outside its limits: grow
@@ -329,6 +344,17 @@ uint8_t pbm_locate(const uint8_t *record, size_t record_len, uint64_t block, uin
  */
 uint8_t pbm_owner(const uint8_t *record, size_t record_len, uint64_t stripe, uint64_t disk,
                   uint64_t *role, uint64_t *block);
+
+/*
+ * Reads stripe after stripe up to the first that is not sound (SOUND STRIPES), and stops there: no byte of a stripe behind
+ * it is read (tested, not proved). Sets `found` to 1 and `stripe` to that one, or both to 0 if all are sound; and `read` to
+ * the stripes read: that one's number plus 1, or T. Where all are sound it reads all of the images, and a pbm_write has to
+ * wait as long (rule 4).
+ * Lent: record and images, read; the three numbers, written.
+ * Refusals: 1 record, 2 lost, 3 degraded, 7 images.
+ */
+uint8_t pbm_sweep(const uint8_t *record, size_t record_len, const uint8_t *images, size_t images_len,
+                  uint64_t *found, uint64_t *stripe, uint64_t *read);
 
 /*
  * Fills `packed` with the points packed (SCAN POINTS).

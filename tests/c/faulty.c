@@ -11,7 +11,8 @@ enum {
     NONE,
     LOST_WRITE,   /* a write to a block that was moved is dropped: the next read gives the preceding log's outline */
     OLD_RECORD,   /* reads go by the record of one move earlier, if the block was there then */
-    OLD_PARITY,   /* a write leaves the parity as it was, which shows only when a disk is lost */
+    OLD_PARITY,   /* a write leaves the parity as it was, which a sweep finds */
+    OUT_PARITY,   /* the same while a disk is out, when nothing is swept: what that disk held is read wrong */
     PLACE_LEFT,   /* some moves leave the old bytes in the place left */
     MADE_UP,      /* advance reports one move more than it made */
     NOT_MADE,     /* continue counts its last stripe, and has not written it */
@@ -30,6 +31,10 @@ enum {
     OLD_LIGHT,    /* locate tells the disk on which the parity stood before the growth */
     NOT_TOLD,     /* locate tells of no block that it was moved */
     BY_PARITY,    /* locate tells that a block was moved if its parity alone was */
+    NEVER_FOUND,  /* sweep holds every stripe as sound */
+    NEXT_STRIPE,  /* sweep tells the stripe behind the unsound one, and counts it as read */
+    NO_BLANKS,    /* sweep looks at no blank: it takes each for zero */
+    SUM_ALONE,    /* sweep asks only if a stripe xors to zero, as if the growth were over */
     NO_CARRY,     /* points unpack sums the low bytes and the high bytes each by themselves */
     RUN_ON,       /* points unpack takes the first point from the last one of the call before, not from 0 */
     TURNED,       /* points pack takes each point from the one before it, and points unpack undoes that */
@@ -43,6 +48,7 @@ uint8_t __real_pbm_out(uint8_t *, size_t, uint64_t);
 uint8_t __real_pbm_continue(uint8_t *, size_t, uint8_t *, size_t, uint64_t, uint64_t *);
 uint8_t __real_pbm_status(const uint8_t *, size_t, uint64_t *, uint64_t *, uint64_t *, uint64_t *, uint64_t *, uint64_t *);
 uint8_t __real_pbm_locate(const uint8_t *, size_t, uint64_t, uint64_t *, uint64_t *, uint64_t *, uint64_t *);
+uint8_t __real_pbm_sweep(const uint8_t *, size_t, const uint8_t *, size_t, uint64_t *, uint64_t *, uint64_t *);
 uint8_t __real_pbm_points_pack(const uint8_t *, size_t, uint8_t *, size_t);
 uint8_t __real_pbm_points_unpack(const uint8_t *, size_t, uint8_t *, size_t);
 
@@ -57,9 +63,10 @@ static uint64_t number(const uint8_t *record, int at, int bytes)
 static uint64_t moves(const uint8_t *record) { return number(record, PBM_AT_MOVES, 4); }
 static uint64_t rebuilt(const uint8_t *record) { return number(record, PBM_AT_REBUILT, 4); }
 static int is_rebuilding(const uint8_t *record) { return record[PBM_AT_HEALTH] == PBM_HEALTH_REBUILDING; }
-static uint64_t old_blocks(const uint8_t *record) { return number(record, PBM_AT_STRIPES, 4) * (record[PBM_AT_N] - 1); }
+static uint64_t all_stripes(const uint8_t *record) { return number(record, PBM_AT_STRIPES, 4); }
+static uint64_t old_blocks(const uint8_t *record) { return all_stripes(record) * (record[PBM_AT_N] - 1); }
 static size_t block_len(const uint8_t *record) { return number(record, PBM_AT_BLOCK_LEN, 2); }
-static size_t disk_len(const uint8_t *record) { return number(record, PBM_AT_STRIPES, 4) * block_len(record); }
+static size_t disk_len(const uint8_t *record) { return all_stripes(record) * block_len(record); }
 
 /* The moves of a zone, and its new blocks. */
 static uint64_t zone_moves(const uint8_t *record) { return record[PBM_AT_N] * record[PBM_AT_M]; }
@@ -137,6 +144,7 @@ uint8_t __wrap_pbm_write(const uint8_t *record, size_t record_len, uint8_t *imag
 {
     struct place p;
     uint8_t answer, *parity, *copy, by[PBM_RECORD_LEN];
+    int leaves = FAULT == OLD_PARITY || (FAULT == OUT_PARITY && record[PBM_AT_HEALTH] == PBM_HEALTH_OUT);
     block = meant(record, block);
     locate(record, block, &p);
     if (FAULT == LOST_WRITE && p.moved) return PBM_DONE;
@@ -144,7 +152,7 @@ uint8_t __wrap_pbm_write(const uint8_t *record, size_t record_len, uint8_t *imag
     copy = copy_of(parity, block_len(record));
     meant_record(by, record, p.stripe, FAULT == SKIPPED, FAULT == COUNTED_ON);
     answer = __real_pbm_write(by, record_len, images, images_len, block, data, data_len);
-    if (FAULT == OLD_PARITY) memcpy(parity, copy, block_len(record));
+    if (leaves) memcpy(parity, copy, block_len(record));
     free(copy);
     return answer;
 }
@@ -214,6 +222,35 @@ uint8_t __wrap_pbm_locate(const uint8_t *record, size_t record_len, uint64_t blo
     if (FAULT == OLD_LIGHT) *parity_disk = *stripe % record[PBM_AT_N];
     if (FAULT == NOT_TOLD) *moved = 0;
     if (FAULT == BY_PARITY) *moved |= *parity_disk >= record[PBM_AT_N];
+    return answer;
+}
+
+static void zero_blanks(const uint8_t *record, uint8_t *images)
+{
+    uint64_t role, block, places = (record[PBM_AT_N] + record[PBM_AT_M]) * all_stripes(record);
+    for (uint64_t i = 0; i < places; i++) {
+        pbm_owner(record, PBM_RECORD_LEN, i % all_stripes(record), i / all_stripes(record), &role, &block);
+        if (role == PBM_BLANK) memset(images + i * block_len(record), 0, block_len(record));
+    }
+}
+
+static void end_growth(uint8_t *record)
+{
+    uint64_t total = figures(record).total;
+    for (int i = 0; i < 4; i++) record[PBM_AT_MOVES + i] = (uint8_t)(total >> 8 * i);
+}
+
+uint8_t __wrap_pbm_sweep(const uint8_t *record, size_t record_len, const uint8_t *images, size_t images_len, uint64_t *found,
+                         uint64_t *stripe, uint64_t *read)
+{
+    uint8_t answer, by[PBM_RECORD_LEN], *copy = copy_of(images, images_len);
+    memcpy(by, record, sizeof by);
+    if (FAULT == NO_BLANKS) zero_blanks(record, copy);
+    if (FAULT == SUM_ALONE) end_growth(by);
+    answer = __real_pbm_sweep(by, record_len, copy, images_len, found, stripe, read);
+    if (FAULT == NEVER_FOUND && *found) *found = 0, *stripe = 0, *read = all_stripes(record);
+    if (FAULT == NEXT_STRIPE && *found) ++*stripe, ++*read;
+    free(copy);
     return answer;
 }
 

@@ -89,6 +89,23 @@ static void show_continue(uint64_t k)
     printf("continue %d: %d made %d\n", (int)k, answer, (int)made);
 }
 
+static void show_sweep(void)
+{
+    uint64_t found = 9, stripe = 9, read = 9;
+    int answer = pbm_sweep(record, PBM_RECORD_LEN, images, images_len, &found, &stripe, &read);
+    printf("sweep: %d found %d, stripe %d, read %d\n", answer, (int)found, (int)stripe, (int)read);
+}
+
+/* With a bit off at the end of this place; then it is right again. */
+static void show_sweep_off(uint64_t stripe, uint64_t disk)
+{
+    uint8_t *last = images + disk * DISK + stripe * BLOCK + BLOCK - 1;
+    *last ^= 4;
+    printf("(%d, %d) off, ", (int)stripe, (int)disk);
+    show_sweep();
+    *last ^= 4;
+}
+
 /* What a disk that is out holds is of no matter: without a value to memcheck. */
 static void lose(uint64_t disk)
 {
@@ -102,17 +119,18 @@ static void lose(uint64_t disk)
 static void show_lengths(const char *when, uint64_t len, uint64_t grown_len)
 {
     uint8_t *spare = take(grown_len + 1);
-    uint64_t made = 9, wrong[2];
+    uint64_t made = 9, found = 9, stripe = 9, read = 9, wrong[2];
     int i;
     wrong[0] = len - 1, wrong[1] = len + 1;
     printf("%s: images of %d bytes, grown by 2 disks %d\n", when, (int)len, (int)grown_len);
     for (i = 0; i < 2; i++) {
-        printf("%d bytes: read %d, write %d, advance %d, begin %d, continue %d\n", (int)wrong[i],
+        printf("%d bytes: read %d, write %d, advance %d, begin %d, continue %d, sweep %d\n", (int)wrong[i],
                pbm_read(record, PBM_RECORD_LEN, spare, wrong[i], 0, block, BLOCK),
                pbm_write(record, PBM_RECORD_LEN, spare, wrong[i], 0, block, BLOCK),
                pbm_advance(record, PBM_RECORD_LEN, spare, wrong[i], 0, &made),
                pbm_begin(record, PBM_RECORD_LEN, spare, wrong[i], 0),
-               pbm_continue(record, PBM_RECORD_LEN, spare, wrong[i], 0, &made));
+               pbm_continue(record, PBM_RECORD_LEN, spare, wrong[i], 0, &made),
+               pbm_sweep(record, PBM_RECORD_LEN, spare, wrong[i], &found, &stripe, &read));
         printf("%d bytes: grow %d\n", (int)(grown_len - 1 + 2 * i),
                pbm_grow(record, PBM_RECORD_LEN, spare, grown_len - 1 + 2 * i, 2));
     }
@@ -188,6 +206,7 @@ static void show_rebuild(void)
     show_write(4, "FOUR");
     show_record();
     show_advance(1);
+    show_sweep();
     lose(3);
     show_record();
     show_read(4);
@@ -269,6 +288,7 @@ static void show_growth_at_once(void)
     show_place(57);
     show_place(75);
     show_owner(18, 4);
+    show_sweep();
     show_record();
 }
 
@@ -324,6 +344,9 @@ int main(void)
     printf("read, record a byte short: %d\n", pbm_read(record, PBM_RECORD_LEN - 1, images, images_len, 4, block, BLOCK));
     printf("read, record of 16 bytes: %d\n", pbm_read(record, 16, images, images_len, 4, block, BLOCK));
     show_advance(1);
+    show_sweep();
+    show_sweep_off(0, 0);
+    show_sweep_off(14, 2);
 
     grow();
     show_lengths("grown", pbm_images_len_by(record, 0), pbm_images_len_by(record, 2));
@@ -337,11 +360,15 @@ int main(void)
     show_place(4);
     show_place(6);
     show_place(30);
+    show_sweep();
+    show_sweep_off(3, 0); /* a blank that a move has left */
+    show_sweep_off(14, 4); /* a blank of a zone that is not begun */
 
     lose(3);
     show_read(4);
     show_write(4, "FOUR");
     show_advance(1);
+    show_sweep();
     show_out(3);
     show_rebuild();
     show_read(4);
@@ -351,6 +378,8 @@ int main(void)
     show_advance(100);
     show_advance(100);
     show_status();
+    show_sweep();
+    show_sweep_off(14, 4);
     show_place(30);
     show_read(35);
     show_owner(1, 2);
@@ -363,6 +392,7 @@ int main(void)
     lose(1);
     show_read(59);
     show_continue(1);
+    show_sweep();
     show_status();
     show_place(59);
 

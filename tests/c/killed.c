@@ -102,6 +102,18 @@ static void stop_at(int p, int access, void (*call)(void))
 
 static int is_as(array_t a, int p) { return memcmp((*images)[p], a[p], BLOCK) == 0; }
 
+/* Does a sweep, by the record left, find a stripe? It is to be the first that has changed. (No byte is stored that was there before.) */
+static int sweep_finds_it(void)
+{
+    uint64_t found, stripe, read, first = STRIPES;
+    for (uint64_t p = 0; p < PLACES; p++)
+        if (!is_as(before, (int)p) && p % STRIPES < first) first = p % STRIPES;
+    done(pbm_sweep(record, PBM_RECORD_LEN, **images, len_of(DISKS), &found, &stripe, &read));
+    if (first < STRIPES) must(found == 1 && stripe == first && read == first + 1, "the first stripe that has changed is found");
+    else must(found == 0 && stripe == 0 && read == STRIPES, "nothing has changed, and nothing is found");
+    return found == 1;
+}
+
 /* So many moves, made on a copy. */
 static void make_moves(array_t copy, uint64_t moves)
 {
@@ -111,8 +123,8 @@ static void make_moves(array_t copy, uint64_t moves)
     done(pbm_advance(new_record, PBM_RECORD_LEN, *copy, len_of(DISKS), moves, &made));
 }
 
-/* An advance by k from t on, stopped in its move j, at the copy or at the zeroes. */
-static void kill_advance(uint64_t t, uint64_t k, uint64_t j, int at_zeroes)
+/* An advance by k from t on, stopped in its move j, at the copy or at the zeroes. Is it found to be in doubt? */
+static int kill_advance(uint64_t t, uint64_t k, uint64_t j, int at_zeroes)
 {
     int from = -1, to = -1, changed = 0;
     prepare(t);
@@ -129,22 +141,23 @@ static void kill_advance(uint64_t t, uint64_t k, uint64_t j, int at_zeroes)
         changed += !is_as(before, p);
     }
     must((uint64_t)changed <= 2 * k, "at most two places for each of the k moves");
+    return sweep_finds_it();
 }
 
 static void kill_advances(void)
 {
-    int kills = 0;
+    int kills = 0, found = 0;
     for (uint64_t t = 0; t < MOVES; t += 5)
         for (uint64_t k = 1; k <= MOVES; k += 4)
             for (uint64_t j = 0; j < k && t + j < MOVES; j++)
-                for (int at_zeroes = 0; at_zeroes < 2; at_zeroes++, kills++) kill_advance(t, k, j, at_zeroes);
-    printf("advance, stopped %d times: the old record, at most k moves in doubt\n", kills);
+                for (int at_zeroes = 0; at_zeroes < 2; at_zeroes++, kills++) found += kill_advance(t, k, j, at_zeroes);
+    printf("advance, stopped %d times: the old record, at most k moves in doubt; a sweep finds what has changed, %d times\n", kills, found);
 }
 
 /* Stopped at the parity or at the data: no other place has changed. */
 static void kill_writes(void)
 {
-    int kills = 0;
+    int kills = 0, found = 0;
     uint64_t blocks = STRIPES * (OLD - 1) + 10; /* after 9 moves */
     for (number = 0; number < blocks; number++)
         for (int at_data = 0; at_data < 2; at_data++, kills++) {
@@ -155,8 +168,10 @@ static void kill_writes(void)
             stop_at(place(stripe, at_data ? disk : parity), PROT_READ, write_block);
             for (int p = 0; p < PLACES; p++)
                 must(is_as(before, p) || p == place(stripe, disk) || p == place(stripe, parity), "only block and parity have changed");
+            found += sweep_finds_it();
         }
-    printf("write, stopped %d times: the old record, one block and its parity in doubt\n", kills);
+    printf("write, stopped %d times: the old record, one block and its parity in doubt; a sweep finds what has changed, %d times\n", kills,
+           found);
 }
 
 static void read_all(void)

@@ -1,6 +1,6 @@
 /*
- * Calls that only read, many at once on one array (pbm.h, rule 4): four threads read every block and ask all that can be asked,
- * and compare with what was written and with what one thread was told before. Record and images are protected against writing,
+ * Calls that only read, many at once on one array (pbm.h, rule 4): four threads read every block, sweep and ask all that can be
+ * asked, and compare with what was written and with what one thread was told before. Record and images are protected against writing,
  * a disk that is out, and one that is being rebuilt in the stripes not yet done, against all. Of 3 zones one is finished, so that 10
  * new blocks are among those read. Scan points, which are lent to all threads, are packed and unpacked meanwhile.
  */
@@ -40,12 +40,12 @@ static void fill(uint8_t *block, uint64_t number)
     for (int i = 0; i < BLOCK; i++) block[i] = (uint8_t)(number * 37 + i);
 }
 
-/* All that status, locate and owner tell. */
-struct told { uint64_t status[6], places[BLOCKS][4], owners[STRIPES][DISKS][2]; } first;
+/* All that status, locate and owner tell, and what a sweep returns and tells. */
+struct told { uint64_t status[6], places[BLOCKS][4], owners[STRIPES][DISKS][2], swept[4]; } first;
 
 static void ask(struct told *told)
 {
-    uint64_t *s = told->status;
+    uint64_t *s = told->status, *x = told->swept;
     done(pbm_status(record, PBM_RECORD_LEN, s, s + 1, s + 2, s + 3, s + 4, s + 5));
     for (int b = 0; b < BLOCKS; b++) {
         uint64_t *p = told->places[b];
@@ -54,6 +54,7 @@ static void ask(struct told *told)
     for (int i = 0; i < STRIPES; i++)
         for (int d = 0; d < DISKS; d++)
             done(pbm_owner(record, PBM_RECORD_LEN, i, d, &told->owners[i][d][0], &told->owners[i][d][1]));
+    x[0] = pbm_sweep(record, PBM_RECORD_LEN, images, DISKS * DISK, x + 1, x + 2, x + 3);
 }
 
 static void *reader(void *from)
@@ -81,9 +82,11 @@ static void *reader(void *from)
 static void readers(const char *when)
 {
     pthread_t threads[THREADS];
-    int from[THREADS];
+    int from[THREADS], is_whole = record[PBM_AT_HEALTH] == PBM_HEALTH_WHOLE;
     ask(&first);
     must(first.status[0] == BLOCKS, "the capacity");
+    must(first.swept[0] == (is_whole ? PBM_DONE : PBM_DEGRADED), "a whole array is swept");
+    must(first.swept[1] == 0 && first.swept[2] == 0 && first.swept[3] == (is_whole ? STRIPES : 0), "all its stripes are sound");
     for (int i = 0; i < THREADS; i++) {
         from[i] = i * BLOCKS / THREADS;
         must(pthread_create(&threads[i], NULL, reader, &from[i]) == 0, "a thread starts");

@@ -91,6 +91,16 @@ static void owner_new(void)
     if (numbers[2] != PBM_DATA || numbers[3] != NEWEST) exit(3);
 }
 
+/* Over all stripes: zone 0 is finished, zone 1 begun; and before the growth. Up to the last stripe, whose last place is a blank. */
+static void sweep_by(uint64_t found)
+{
+    answer = pbm_sweep(record, sizeof record, images, images_len, numbers, numbers + 1, numbers + 2);
+    if (numbers[0] != found || numbers[1] != found * (STRIPES - 1) || numbers[2] != STRIPES) exit(3);
+}
+static void sweep_whole(void) { set_zone(); record[PBM_AT_MOVES] = 7; sweep_by(0); }
+static void sweep_home(void) { set(OLD, 0, 0, 0); record[PBM_AT_MOVES] = record[PBM_AT_MOVES + 1] = 0; sweep_by(0); }
+static void sweep_unsound(void) { sweep_whole(); images[images_len - 1] = 1; sweep_by(1); images[images_len - 1] = 0; }
+
 /* 2047 points, zero, so that lanes of 16 have a rest. */
 static void points_pack(void) { answer = pbm_points_pack(images, BLOCK - 1, block, BLOCK - 1); }
 static void points_unpack(void) { answer = pbm_points_unpack(images, BLOCK - 1, block, BLOCK - 1); }
@@ -158,6 +168,9 @@ int main(void)
     tell("write, a new block", write_new);
     tell("locate, a new block", locate_new);
     tell("owner, a new block", owner_new);
+    tell("sweep", sweep_whole);
+    tell("sweep, before a growth", sweep_home);
+    tell("sweep, an unsound stripe", sweep_unsound);
     tell("points pack", points_pack);
     tell("points unpack", points_unpack);
     return 0;

@@ -1,8 +1,8 @@
 /*
  * Calls for a memory trace: tests/tests/stores.rs runs this under valgrind's lackey, which tells every load and store. Each argument
- * is `w` or `c`, a record of 40 hexadecimal digits, a colon and a number: write the block of that number, or continue a rebuild by so
- * many stripes. Just before a call `begin` is stored to, just behind it `end`. Prints where these stand, and what is lent, and where
- * the stack of the calls ends.
+ * is `w`, `c` or `s`, a record of 40 hexadecimal digits, a colon and a number: write the block of that number, continue a rebuild by
+ * so many stripes, or sweep, with so many bytes of the images that are not zero, each of which follows behind a comma. Just before a
+ * call `begin` is stored to, just behind it `end`. Prints where these stand, and what is lent, and where the stack of the calls ends.
  */
 #include "pbm.h"
 
@@ -14,7 +14,7 @@ enum { BLOCK = 4096, MOST = 8 * 41 * BLOCK };
 
 /* Zeroes are an array after any number of moves. */
 static uint8_t record[PBM_RECORD_LEN], images[MOST], data[BLOCK];
-static uint64_t made;
+static uint64_t made, swept[3];
 static volatile uint8_t begin, end, helped;
 
 /*
@@ -51,9 +51,22 @@ static uint8_t call(char name, uint64_t of)
     if (images_len > sizeof images) exit(2);
     begin = 1;
     if (name == 'w') answer = pbm_write(record, sizeof record, images, images_len, of, data, data_len);
-    else answer = pbm_continue(record, sizeof record, images, images_len, of, &made);
+    else if (name == 'c') answer = pbm_continue(record, sizeof record, images, images_len, of, &made);
+    else answer = pbm_sweep(record, sizeof record, images, images_len, swept, swept + 1, swept + 2);
     end = 1;
     return answer;
+}
+
+/* Sets the bytes of a list, each behind a comma. */
+static void set(const char *list, uint8_t value)
+{
+    while (*list == ',') {
+        char *behind;
+        uint64_t at = strtoull(list + 1, &behind, 10);
+        if (at >= sizeof images) exit(2);
+        images[at] = value;
+        list = behind;
+    }
 }
 
 static void tell(const char *name, const volatile void *where) { printf("%s %lx\n", name, (unsigned long)where); }
@@ -63,13 +76,19 @@ int main(int count, char **arguments)
     int i;
     size_t j;
     tell("begin", &begin), tell("end", &end);
-    tell("record", record), tell("images", images), tell("made", &made), tell("helped", &helped);
+    tell("record", record), tell("images", images), tell("made", &made), tell("swept", swept), tell("helped", &helped);
     tell("stack", __builtin_frame_address(0));
     for (i = 1; i < count; i++) {
         const char *argument = arguments[i], *colon = strchr(argument, ':');
+        char *list;
+        uint64_t of;
         for (j = 0; j < sizeof record; j++)
             if (sscanf(argument + 1 + 2 * j, "%2hhx", &record[j]) != 1) return 4;
-        if (colon == NULL || call(argument[0], strtoull(colon + 1, NULL, 10)) != PBM_DONE) return 3;
+        if (colon == NULL) return 4;
+        of = strtoull(colon + 1, &list, 10);
+        set(list, 1);
+        if (call(argument[0], of) != PBM_DONE) return 3;
+        set(list, 0);
     }
     return 0;
 }

@@ -68,6 +68,10 @@ impl Array {
         self.call(Call::Owner { stripe, disk })
     }
 
+    pub fn sweep(&mut self) -> Answer {
+        self.call(Call::Sweep)
+    }
+
     pub fn read(&mut self, block: u64) -> Vec<u8> {
         assert_eq!(self.call(Call::Read { block }), Answer::done(&[]));
         self.0.block.clone()

@@ -1,8 +1,8 @@
-//! What an accepted call answers and leaves, byte for byte as "Calls" of document 01 and requests (d) and (f) of document 02 say it,
-//! on any bytes: here nothing rests on stripes that are sound.
+//! What an accepted call answers and leaves, byte for byte as "Calls" of document 01 and requests (d), (f) and (g) of document 02 say
+//! it, on any bytes: here nothing rests on stripes that are sound.
 
-use crate::flat::{located, owned};
-use crate::images::{disk, place, xor};
+use crate::flat::{located, owned, swept};
+use crate::images::{disk, place, unsound, xor};
 use crate::layout::Layout;
 use crate::moves::of_growth;
 use crate::pbm::{Answer, Bytes, Call};
@@ -67,6 +67,10 @@ impl Bytewise {
             Call::Locate { block } => answer = located(self.layout(&record), block),
             Call::Owner { stripe, disk } => {
                 answer = owned(self.layout(&record).owner(stripe, disk));
+            }
+            Call::Sweep => {
+                let mut unsound = unsound(images, &record, self.layout(&record));
+                answer = swept(unsound.next(), record.stripes);
             }
         }
         // the other calls leave the record's bytes, which are good, as they are

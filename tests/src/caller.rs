@@ -16,14 +16,14 @@ pub struct Caller {
     written: [u64; 24],
 }
 
-/// How often each call of `NAMES` is drawn: format, read, write, grow, advance, out, begin, continue, status, locate, owner.
+/// How often each call of `NAMES` is drawn: format, read, write, grow, advance, out, begin, continue, status, locate, owner, sweep.
 type Weights = [u64; NAMES.len()];
-const HOME: Weights = [1, 15, 20, 12, 4, 4, 1, 1, 2, 5, 5];
-const GROWING: Weights = [1, 20, 25, 2, 25, 4, 1, 1, 2, 6, 6];
-const GROWN: Weights = [3, 30, 30, 2, 3, 5, 1, 1, 2, 8, 8];
-const DEGRADED: Weights = [1, 30, 30, 3, 4, 3, 20, 1, 2, 6, 6];
-const REBUILDING: Weights = [1, 30, 30, 3, 4, 4, 2, 16, 2, 6, 6];
-const LOST: Weights = [12, 4, 4, 4, 4, 4, 2, 2, 4, 4, 4];
+const HOME: Weights = [1, 15, 20, 12, 4, 4, 1, 1, 2, 5, 5, 3];
+const GROWING: Weights = [1, 20, 25, 2, 25, 4, 1, 1, 2, 6, 6, 8];
+const GROWN: Weights = [3, 30, 30, 2, 3, 5, 1, 1, 2, 8, 8, 5];
+const DEGRADED: Weights = [1, 30, 30, 3, 4, 3, 20, 1, 2, 6, 6, 3];
+const REBUILDING: Weights = [1, 30, 30, 3, 4, 4, 2, 16, 2, 6, 6, 3];
+const LOST: Weights = [12, 4, 4, 4, 4, 4, 2, 2, 4, 4, 4, 4];
 
 /// The images of most shapes, grown, have at most so many bytes.
 const SMALL: u64 = 1 << 15;
@@ -103,10 +103,11 @@ impl Caller {
             9 => Call::Locate {
                 block: self.block(flat),
             },
-            _ => Call::Owner {
+            10 => Call::Owner {
                 stripe: self.below_or_odd(numbers.stripes),
                 disk: self.disk(&numbers),
             },
+            _ => Call::Sweep,
         };
         self.remember(call);
         call

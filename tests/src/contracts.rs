@@ -222,6 +222,7 @@ const MADE: &[(&str, &[&str])] = &[
     ("Report", &["reportAnswer"]),
     ("Located", &["locatedAnswer"]),
     ("Owned", &["ownedAnswer"]),
+    ("Swept", &["sweptAnswer"]),
     ("Lane", &["laneBytes"]),
     ("Quad", &["quadBytes"]),
 ];

@@ -82,6 +82,8 @@ impl Flat {
             Call::Status => return self.status(),
             Call::Locate { block } => return located(&self.layout, block),
             Call::Owner { stripe, disk } => return owned(self.layout.owner(stripe, disk)),
+            // it has no stripe that could be unsound
+            Call::Sweep => return swept(None, numbers.stripes),
         }
         Answer::done(&[])
     }
@@ -134,6 +136,15 @@ pub fn located(layout: &Layout, block: u64) -> Answer {
     let (stripe, disk) = layout.place(block);
     let moved = layout.is_moved(block);
     Answer::done(&[stripe, disk, layout.parity(stripe), moved.into()])
+}
+
+/// The answer of sweep, by the first unsound stripe of so many: if there is one, which it is, and "the stripes read (its number plus
+/// 1, or T where there is none)".
+pub fn swept(first: Option<u64>, stripes: u64) -> Answer {
+    match first {
+        Some(stripe) => Answer::done(&[1, stripe, stripe + 1]),
+        None => Answer::done(&[0, 0, stripes]),
+    }
 }
 
 /// The answer of owner.

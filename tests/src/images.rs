@@ -64,24 +64,35 @@ pub fn parity_values(images: &[u8], record: &Record, layout: &Layout) -> Vec<u8>
         .collect()
 }
 
-/// "A stripe is sound if its N places xor to zero and its blanks are zero", for all stripes, "the out disk taken as the xor
-/// of the others", where it counts as out.
-pub fn are_sound(images: &[u8], record: &Record, layout: &Layout) -> bool {
+/// "A stripe is sound if its N places xor to zero and its blanks are zero", "the out disk taken as the xor of the others", where it
+/// counts as out.
+fn is_sound(images: &[u8], record: &Record, layout: &Layout, stripe: u64) -> bool {
     let zero = |bytes: &[u8]| bytes.iter().all(|&b| b == 0);
+    let is_out = |d: u64| record.health.is_out(stripe, d);
     let mut sum = vec![0; record.block_len as usize];
-    (0..record.stripes).all(|stripe| {
-        let is_out = |d: u64| record.health.is_out(stripe, d);
-        sum.fill(0);
-        for d in (0..record.disks()).filter(|&d| !is_out(d)) {
-            xor(&mut sum, &images[place(record, stripe, d)]);
-        }
-        let seen = |d: u64| match is_out(d) {
-            true => &sum[..],
-            false => &images[place(record, stripe, d)],
-        };
-        let blanks_zero = (0..record.disks())
-            .filter(|&d| layout.owner(stripe, d) == Owner::Blank)
-            .all(|d| zero(seen(d)));
-        ((0..record.disks()).any(is_out) || zero(&sum)) && blanks_zero
-    })
+    for d in (0..record.disks()).filter(|&d| !is_out(d)) {
+        xor(&mut sum, &images[place(record, stripe, d)]);
+    }
+    let seen = |d: u64| match is_out(d) {
+        true => &sum[..],
+        false => &images[place(record, stripe, d)],
+    };
+    let blanks_zero = (0..record.disks())
+        .filter(|&d| layout.owner(stripe, d) == Owner::Blank)
+        .all(|d| zero(seen(d)));
+    ((0..record.disks()).any(is_out) || zero(&sum)) && blanks_zero
+}
+
+/// "the list of all unsound stripes"
+pub fn unsound<'a>(
+    images: &'a [u8],
+    record: &'a Record,
+    layout: &'a Layout,
+) -> impl Iterator<Item = u64> + 'a {
+    (0..record.stripes).filter(|&stripe| !is_sound(images, record, layout, stripe))
+}
+
+/// All stripes are sound.
+pub fn are_sound(images: &[u8], record: &Record, layout: &Layout) -> bool {
+    unsound(images, record, layout).next().is_none()
 }

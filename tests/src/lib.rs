@@ -1,5 +1,5 @@
-//! What the proved crates are held to when they are run: models written from document 01 and from requests (a), (b), (d), (e) and
-//! (f) of document 02, that share no code and no formula with them, and the little that the tests need to run a program, to lend
+//! What the proved crates are held to when they are run: models written from document 01 and from requests (a), (b), (d), (e), (f)
+//! and (g) of document 02, that share no code and no formula with them, and the little that the tests need to run a program, to lend
 //! memory and to draw random numbers.
 
 pub mod array;

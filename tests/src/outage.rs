@@ -10,7 +10,7 @@ use std::collections::{BTreeMap, BTreeSet};
 pub struct Outage {
     /// The disk failed again while it was being rebuilt.
     failed_again: bool,
-    /// Grow or advance, if it was refused because of a rebuild.
+    /// Grow, advance or sweep, if it was refused because of a rebuild.
     refused: BTreeSet<&'static str>,
     /// The blocks of the disk that were last written while it was being rebuilt, and whether their stripes were done then.
     written: BTreeMap<u64, bool>,
@@ -42,14 +42,20 @@ impl Outage {
             }
             // an advance of no moves does not count
             Call::Grow { .. } | Call::Advance { .. } if flat.numbers != *before => {
-                let goes_on = self.refused.remove(call.name());
-                let words = "the rebuild over in which it was refused";
-                tally.sights(call, &[(goes_on, words)]);
+                self.comes_again(call, tally)
             }
+            Call::Sweep => self.comes_again(call, tally),
             Call::Write { block } => self.write(block, flat),
             Call::Read { block } => self.read(call, block, flat, tally),
             _ => {}
         }
+    }
+
+    /// A call that a rebuild may have refused.
+    fn comes_again(&mut self, call: Call, tally: &mut Tally) {
+        let was_refused = self.refused.remove(call.name());
+        let words = "the rebuild over in which it was refused";
+        tally.sights(call, &[(was_refused, words)]);
     }
 
     fn write(&mut self, block: u64, flat: &Flat) {

@@ -1,4 +1,4 @@
-//! The eleven calls of include/pbm.h on an array, and its two on scan points, on memory that is lent to them.
+//! The twelve calls of include/pbm.h on an array, and its two on scan points, on memory that is lent to them.
 
 use crate::memory::{Guarded, Memory, Side};
 
@@ -39,12 +39,13 @@ pub enum Call {
         stripe: u64,
         disk: u64,
     },
+    Sweep,
 }
 
 /// The calls on an array in the order of include/pbm.h.
-pub const NAMES: [&str; 11] = [
+pub const NAMES: [&str; 12] = [
     "format", "read", "write", "grow", "advance", "out", "begin", "continue", "status", "locate",
-    "owner",
+    "owner", "sweep",
 ];
 
 /// The name of a call's function in `array` and `lent`: `continue` is a word of the language.
@@ -71,6 +72,7 @@ impl Call {
             Call::Status => 8,
             Call::Locate { .. } => 9,
             Call::Owner { .. } => 10,
+            Call::Sweep => 11,
         }
     }
 
@@ -237,6 +239,11 @@ impl<M: Memory> Loan<M> {
                         2,
                     )
                 }
+                Call::Sweep => {
+                    let (record, images) = (record.shared(), images.shared());
+                    let (r, x) = (record.as_ptr(), images.as_ptr());
+                    (pbm_sweep(r, record.len(), x, images.len(), a, b, c), 3)
+                }
             }
         }
     }
@@ -356,6 +363,15 @@ extern "C" {
         disk: u64,
         role: *mut u64,
         block: *mut u64,
+    ) -> u8;
+    fn pbm_sweep(
+        record: *const u8,
+        record_len: usize,
+        images: *const u8,
+        images_len: usize,
+        found: *mut u64,
+        stripe: *mut u64,
+        read: *mut u64,
     ) -> u8;
     fn pbm_points_pack(
         points: *const u8,

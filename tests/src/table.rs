@@ -1,5 +1,6 @@
 //! Document 01's table of refusals, row by row, 1 and 6 as request (a) of document 02 leaves them, 8 with the capacity of
-//! request (b), with the record, the health and the calls of request (d), and with row 11 of request (e).
+//! request (b), with the record, the health and the calls of request (d), with row 11 of request (e), and with the call of request
+//! (g).
 
 use crate::pbm::Call::{self, *};
 use crate::record::{Health, Record, RECORD_LEN};
@@ -29,6 +30,7 @@ pub fn rows(name: &str) -> &'static [u8] {
         "status" => &[1],
         "locate" => &[1, 8],
         "owner" => &[1, 8, 10],
+        "sweep" => &[1, 2, 3, 7],
         _ => panic!("no call {name}"),
     }
 }
@@ -42,7 +44,7 @@ pub fn holds(row: u8, record: &Record, call: Call, lent: &Lent) -> bool {
         (1, _) => lent.record_len != RECORD_LEN || !lent.good,
         (2, Format { .. } | Status | Locate { .. } | Owner { .. }) => false,
         (2, _) => record.health == Health::Lost,
-        (3, Grow { .. } | Advance { .. }) => is_degraded,
+        (3, Grow { .. } | Advance { .. } | Sweep) => is_degraded,
         (4, Grow { .. }) => record.m != 0,
         (5, Advance { .. }) => record.m == 0 || record.moves == record.total(),
         (
@@ -70,12 +72,13 @@ pub fn holds(row: u8, record: &Record, call: Call, lent: &Lent) -> bool {
             lent.images_len,
             &[record.n.saturating_add(m), record.stripes, record.block_len],
         ),
-        (7, Read { .. } | Write { .. } | Advance { .. } | Begin { .. } | Continue { .. }) => {
-            differs(
-                lent.images_len,
-                &[record.disks(), record.stripes, record.block_len],
-            )
-        }
+        (
+            7,
+            Read { .. } | Write { .. } | Advance { .. } | Begin { .. } | Continue { .. } | Sweep,
+        ) => differs(
+            lent.images_len,
+            &[record.disks(), record.stripes, record.block_len],
+        ),
         (8, Read { block } | Write { block } | Locate { block }) => block >= record.capacity(),
         (8, Owner { stripe, .. }) => stripe >= record.stripes,
         (9, Read { .. } | Write { .. }) => lent.block_len as u64 != record.block_len,

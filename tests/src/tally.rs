@@ -118,6 +118,28 @@ const SIGHTS: &[&str] = &[
     "read: neither block nor parity of the disk being rebuilt, its stripe done",
     "read: neither block nor parity of the disk being rebuilt, its stripe not done",
     "read: the growth is under way",
+    "sweep: 16 + 16 disks",
+    "sweep: 3 + 1 disks",
+    "sweep: a tail that is not zero",
+    "sweep: a zone finished but for a move",
+    "sweep: a zone just finished, the growth under way",
+    "sweep: a zone with a move made",
+    "sweep: before a growth",
+    "sweep: blocks of 1 byte",
+    "sweep: blocks of 4,096 bytes",
+    "sweep: blocks that are not zero",
+    "sweep: more than 16 disks",
+    "sweep: new blocks that are not zero, the growth under way",
+    "sweep: no move made, the growth begun",
+    "sweep: no whole group",
+    "sweep: refused 3, a disk is being rebuilt",
+    "sweep: refused 3, a disk is out",
+    "sweep: the growth is complete",
+    "sweep: the growth is under way",
+    "sweep: the growth is under way with new blocks",
+    "sweep: the growth with a tail is complete",
+    "sweep: the growth with a tail is under way",
+    "sweep: the rebuild over in which it was refused",
     "write: a block of the disk being rebuilt, its stripe done",
     "write: a block of the disk being rebuilt, its stripe done, a new block, the growth under way",
     "write: a block of the disk being rebuilt, its stripe done, in the tail",
@@ -196,6 +218,7 @@ impl Tally {
                 self.note_rebuilding(call, block, flat);
             }
             Call::Locate { block } => self.note_located(call, block, flat),
+            Call::Sweep => self.note_swept(call, flat),
             _ => {}
         }
     }
@@ -203,9 +226,12 @@ impl Tally {
     /// Notes what is remarkable about a refused one.
     pub fn note_refused(&mut self, call: Call, number: u8, numbers: &Record) {
         let words = match (call, number, numbers.health) {
-            (Call::Grow { .. } | Call::Advance { .. }, 3, Health::Rebuilding { .. }) => {
-                "a disk is being rebuilt"
-            }
+            (
+                Call::Grow { .. } | Call::Advance { .. } | Call::Sweep,
+                3,
+                Health::Rebuilding { .. },
+            ) => "a disk is being rebuilt",
+            (Call::Sweep, 3, _) => "a disk is out",
             (Call::Begin { .. }, 7, Health::Out(_)) => "a disk is out",
             (Call::Continue { .. }, 7, Health::Rebuilding { .. }) => "a disk is being rebuilt",
             (Call::Out { disk } | Call::Begin { disk }, 10, _) if disk >= numbers.disks() => {
@@ -410,6 +436,43 @@ impl Tally {
                 (health == Health::Out(disk), "a block of the disk out"),
                 (health == Health::Out(parity), "a parity of the disk out"),
                 (health == Health::Lost, "the array is lost"),
+            ],
+        );
+    }
+
+    /// By a sweep: how far the growth is, and what is there to be summed.
+    fn note_swept(&mut self, call: Call, flat: &Flat) {
+        let numbers = &flat.numbers;
+        let Record { n, m, moves, .. } = *numbers;
+        let is_growing = m > 0 && !numbers.is_grown();
+        let made_of_zone = moves % (n * m).max(1);
+        let is_written = |block: u64| flat.block(block).iter().any(|&byte| byte != 0);
+        let is_tail = |&block: &u64| is_in_tail(numbers, flat.layout.place(block).0);
+        let (old, all) = (numbers.old_capacity(), flat.capacity());
+        self.sights(
+            call,
+            &[
+                (m == 0, "before a growth"),
+                (is_growing && moves == 0, "no move made, the growth begun"),
+                (is_growing && made_of_zone == 1, "a zone with a move made"),
+                (
+                    is_growing && made_of_zone + 1 == n * m,
+                    "a zone finished but for a move",
+                ),
+                (
+                    is_growing && moves > 0 && made_of_zone == 0,
+                    "a zone just finished, the growth under way",
+                ),
+                (numbers.disks() > 16, "more than 16 disks"),
+                ((0..all).any(is_written), "blocks that are not zero"),
+                (
+                    is_growing && (old..all).any(is_written),
+                    "new blocks that are not zero, the growth under way",
+                ),
+                (
+                    (0..all).filter(is_tail).any(is_written),
+                    "a tail that is not zero",
+                ),
             ],
         );
     }

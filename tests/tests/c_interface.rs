@@ -60,9 +60,9 @@ format: 0
 record {formatted}
 status 0: capacity 30, moves 0 of 0, health 0, out 0, rebuilt 0
 formatted: images of 180 bytes, grown by 2 disks 300
-179 bytes: read 7, write 7, advance 5, begin 7, continue 7
+179 bytes: read 7, write 7, advance 5, begin 7, continue 7, sweep 7
 299 bytes: grow 7
-181 bytes: read 7, write 7, advance 5, begin 7, continue 7
+181 bytes: read 7, write 7, advance 5, begin 7, continue 7, sweep 7
 301 bytes: grow 7
 180 bytes: read 0
 locate 5: 0 (2, 0), parity on 2, moved 0
@@ -74,14 +74,17 @@ read, 3 bytes: 9
 read, record a byte short: 1
 read, record of 16 bytes: 1
 advance 1: 5 made 0
+sweep: 0 found 0, stripe 0, read 15
+(0, 0) off, sweep: 0 found 1, stripe 0, read 1
+(14, 2) off, sweep: 0 found 1, stripe 14, read 15
 grow, images of 3 disks: 7
 grow: 0
 grow again: 4
 status 0: capacity 30, moves 0 of 18, health 0, out 0, rebuilt 0
 grown: images of 300 bytes, grown by 2 disks 420
-299 bytes: read 7, write 7, advance 7, begin 7, continue 7
+299 bytes: read 7, write 7, advance 7, begin 7, continue 7, sweep 7
 419 bytes: grow 4
-301 bytes: read 7, write 7, advance 7, begin 7, continue 7
+301 bytes: read 7, write 7, advance 7, begin 7, continue 7, sweep 7
 421 bytes: grow 4
 300 bytes: read 0
 owner (3, 0): 0 role 1, block 0
@@ -94,10 +97,14 @@ owner (0, 5): 10 role 0, block 0
 locate 4: 0 (2, 3), parity on 2, moved 1
 locate 6: 0 (3, 2), parity on 3, moved 0
 locate 30: 8 (0, 0), parity on 0, moved 0
+sweep: 0 found 0, stripe 0, read 15
+(3, 0) off, sweep: 0 found 1, stripe 3, read 4
+(14, 4) off, sweep: 0 found 1, stripe 14, read 15
 out 3: 0
 read 4: 0 four
 write 4: 0
 advance 1: 3 made 0
+sweep: 3 found 0, stripe 0, read 0
 out 3: 10
 continue 1: 10 made 0
 begin 2: 10
@@ -112,6 +119,7 @@ read 4: 0 Four
 write 4: 0
 record {rebuilding}
 advance 1: 3 made 0
+sweep: 3 found 0, stripe 0, read 0
 out 3: 0
 record {out_again}
 read 4: 0 FOUR
@@ -153,6 +161,8 @@ record {finished}
 advance 100: 0 made 10
 advance 100: 5 made 0
 status 0: capacity 60, moves 18 of 18, health 0, out 0, rebuilt 0
+sweep: 0 found 0, stripe 0, read 15
+(14, 4) off, sweep: 0 found 1, stripe 14, read 15
 locate 30: 0 (0, 3), parity on 0, moved 0
 read 35: 0 new!
 owner (1, 2): 0 role 2, block 32
@@ -165,6 +175,7 @@ continue 3: 0 made 3
 out 1: 0
 read 59: 2 FIVE
 continue 1: 2 made 0
+sweep: 2 found 0, stripe 0, read 0
 status 0: capacity 60, moves 18 of 18, health 2, out 0, rebuilt 0
 locate 59: 0 (14, 3), parity on 4, moved 0
 format, 4 disks of 19 blocks: 0
@@ -182,6 +193,7 @@ read 56: 0 old!
 locate 57: 0 (0, 4), parity on 0, moved 0
 locate 75: 0 (18, 4), parity on 2, moved 0
 owner (18, 4): 0 role 2, block 75
+sweep: 0 found 0, stripe 0, read 19
 record {at_once}
 pack, 6 bytes into 6: 0, 100 3 254 0 0 255
 unpack, 6 bytes into 6: 0, 100 0 103 0 101 0
@@ -242,7 +254,7 @@ fn the_words_are_those_of_the_headers_table() {
 }
 
 #[test]
-fn the_archive_has_the_thirteen_functions() {
+fn the_archive_has_the_fourteen_functions() {
     let output = run(Command::new("nm")
         .args(["--extern-only", "--defined-only"])
         .arg(archive()));
@@ -284,13 +296,14 @@ fn the_stack_of_a_call() {
     let output = run(&mut Command::new(program("stack", C, &["tests/c/stack.c"])));
     let printed = text(&output.stdout);
     print!("{printed}");
-    assert_eq!(printed.lines().count(), 25);
+    assert_eq!(printed.lines().count(), 28);
     for line in printed.lines() {
         let (call, depths) = line.split_once(": ").unwrap();
         let (first, then) = depths.split_once(", then ").unwrap();
         let (first, then): (u64, u64) = (first.parse().unwrap(), then.parse().unwrap());
         let limit = match call {
             "continue" | "continue, a part" => 5 * 1024,
+            "sweep" | "sweep, an unsound stripe" | "sweep, before a growth" => 5 * 1024,
             _ => 1024,
         };
         assert!(then < limit && first <= 16 * 1024, "{line}");
@@ -322,8 +335,8 @@ fn a_call_that_is_killed() {
         &["tests/c/killed.c"],
     )));
     let printed = "\
-advance, stopped 258 times: the old record, at most k moves in doubt
-write, stopped 88 times: the old record, one block and its parity in doubt
+advance, stopped 258 times: the old record, at most k moves in doubt; a sweep finds what has changed, 238 times
+write, stopped 88 times: the old record, one block and its parity in doubt; a sweep finds what has changed, 44 times
 continue, stopped 42 times: the old record, by which every block is read, and right when made again
 grow and format, each stopped 17 times: the old record, and right when made again
 ";

@@ -363,7 +363,7 @@ fn the_rebuild_of_the_header() {
          disk out.",
     );
     header_says("1  record  not 20 bytes long: all calls; not good: all but format");
-    header_says("3  degraded  a disk is out or being rebuilt: grow, advance");
+    header_says("3  degraded  a disk is out or being rebuilt: grow, advance, sweep");
     header_says(
         "10  disk  not below N, or out already and not being rebuilt: out; not out, or being rebuilt already: begin; no \
          disk is being rebuilt: continue; not below N: owner",

@@ -19,20 +19,27 @@ seed 1
 points are packed: 100, 103, 101 as 100, 3, -2
     a pack of two points and a half is refused: 11 points
 5 disks are formatted: 1668 blocks of 4096 bytes
+    all 417 stripes are sound
     all 1668 blocks are as last written
 3 disks are added: 750 moves to make
     a read with the old disks alone is refused: 7 images
     a read of the next new block is refused: 8 past the end
     200 of 750 moves, 1980 blocks, 2260 logs so far
     400 of 750 moves, 2292 blocks, 2523 logs so far
+    all 417 stripes are sound
+    a block is off: a sweep stops at stripe 207, with 208 read
+    a blank is off: a sweep stops at stripe 208, with 209 read
+    two blanks are off alike: a sweep stops at stripe 208, with 209 read
     a read of the next new block is refused: 8 past the end
 disk 2 is lost
     advance is refused: 3 degraded
+    sweep is refused: 3 degraded
     all 2292 blocks are as last written
     rebuilding disk 2: [..........] 0 of 417 stripes, 3523 logs so far
     rebuilding disk 2: [##........] 100 of 417 stripes, 3589 logs so far
     rebuilding disk 2: [#####.....] 250 of 417 stripes, 3688 logs so far
     advance is refused: 3 degraded
+    sweep is refused: 3 degraded
     all 2292 blocks are as last written
 disk 2 is lost, and with it the 250 stripes rebuilt
     all 2292 blocks are as last written
@@ -41,11 +48,13 @@ disk 2 is lost, and with it the 250 stripes rebuilt
     rebuilding disk 2: [#######...] 300 of 417 stripes, 3910 logs so far
     rebuilding disk 2: [##########] 417 of 417 stripes, 3987 logs so far
 disk 2 is rebuilt
+    all 417 stripes are sound
     all 2292 blocks are as last written
     600 of 750 moves, 2628 blocks, 4256 logs so far
     750 of 750 moves, 2919 blocks, 4480 logs so far
     advance is refused: 5 nothing to move
 the growth is over: 2919 blocks
+    all 417 stripes are sound
     all 1251 new blocks stand where they stood when they came
     all 2919 blocks are as last written
     all 51 new blocks of the tail are written and read
@@ -55,13 +64,14 @@ disk 5 is lost
     rebuilding disk 5: [..........] 0 of 417 stripes, 6582 logs so far
     rebuilding disk 5: [##########] 417 of 417 stripes, 6848 logs so far
 disk 5 is rebuilt
+    all 417 stripes are sound
     all 2919 blocks are as last written
 writes 6848, of these 211 of blocks on a lost disk, 1005 of new blocks in mid-growth
     while a disk was rebuilt: 363 in stripes done, 363 in the others
 reads 32700, of these 1588 of blocks on a lost disk, 4466 of new blocks in mid-growth
     while a disk was rebuilt: 2101 in stripes done, 1159 in the others
 points compared 66969600
-moves 750, refusals met 7
+moves 750, refusals met 9
 every read gave what was last written
 ";
 
@@ -161,10 +171,12 @@ fn readme_shows_what_is_printed() {
 #[test]
 fn a_line_notices_faults() {
     let stale = "is not what was last written";
+    let missed = "an unsound stripe is found: 0; it must be 1";
     let faults = [
         ("LOST_WRITE", stale),
         ("OLD_RECORD", stale),
-        ("OLD_PARITY", stale),
+        ("OLD_PARITY", "an unsound stripe is found: 1; it must be 0"),
+        ("OUT_PARITY", stale),
         ("PLACE_LEFT", stale),
         ("MADE_UP", "moves done"),
         ("NOT_MADE", stale),
@@ -189,6 +201,13 @@ fn a_line_notices_faults() {
         ),
         ("NOT_TOLD", "a block is moved: 0; it must be 1"),
         ("BY_PARITY", "a block is moved: 1; it must be 0"),
+        ("NEVER_FOUND", missed),
+        (
+            "NEXT_STRIPE",
+            "the first unsound stripe: 208; it must be 207",
+        ),
+        ("NO_BLANKS", missed),
+        ("SUM_ALONE", missed),
         ("NO_CARRY", stale),
         ("RUN_ON", stale),
         ("TURNED", "a byte of packed points: 156; it must be 100"),
@@ -223,6 +242,7 @@ fn faulty(fault: &str) -> PathBuf {
         "continue",
         "status",
         "locate",
+        "sweep",
         "points_pack",
         "points_unpack",
     ];

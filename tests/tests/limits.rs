@@ -49,8 +49,22 @@ fn write_new(array: &mut Array, first: u64) {
     write_all(array, new);
 }
 
+/// A sweep finds nothing; and with one bit off that stripe: the last one, behind all others, or one in the middle.
+fn sweeps(array: &mut Array) {
+    let record = array.record();
+    let Record { stripes, .. } = record;
+    assert_eq!(array.sweep(), Answer::done(&[0, 0, stripes]), "{record:?}");
+    for stripe in [stripes - 1, stripes / 2] {
+        let last = place(&record, stripe, record.disks() - 1).end - 1;
+        array.0.images[last] ^= 0x80;
+        let found = Answer::done(&[1, stripe, stripe + 1]);
+        assert_eq!(array.sweep(), found, "{record:?}");
+        array.0.images[last] ^= 0x80;
+    }
+}
+
 /// Grows by these budgets, the last of which must complete it (none where grow does), behind each of which the capacity is the one
-/// beside it; writes the new blocks as they come, and reads every block; then loses and rebuilds the first and the last disk.
+/// beside it; writes the new blocks as they come, reads every block, and sweeps; then loses and rebuilds the first and the last disk.
 fn grows(home: Record, m: u64, budgets: &[(u64, u64)]) {
     let mut array = Array::format(home.n, home.block_len, home.stripes);
     write_all(&mut array, 0..home.capacity());
@@ -67,23 +81,27 @@ fn grows(home: Record, m: u64, budgets: &[(u64, u64)]) {
         assert_eq!(array.call(Call::Status), status);
         write_new(&mut array, before);
         read_all(&mut array);
+        sweeps(&mut array);
     }
     assert!(record.is_grown());
     assert_eq!(record.capacity(), record.stripes * (record.disks() - 1));
     read_all(&mut array);
+    sweeps(&mut array);
     for disk in [0, record.disks() - 1] {
         loses(&mut array, disk);
         assert_eq!(array.0.record, record.bytes());
     }
 }
 
-/// All blocks can be read with the disk out, whatever it holds, with two thirds of it rebuilt, and once all of it is.
+/// All blocks can be read with the disk out, whatever it holds, with two thirds of it rebuilt, and once all of it is. Then they can be
+/// swept.
 fn loses(array: &mut Array, disk: u64) {
     let record = array.record();
     assert_eq!(array.out(disk), Answer::done(&[]));
     let len = (record.stripes * record.block_len) as usize;
     array.0.images[disk as usize * len..][..len].fill(0xff);
     read_all(array);
+    assert_eq!(array.sweep(), Answer::refused(3));
     assert_eq!(array.begin(disk), Answer::done(&[]));
     let done = record.stripes * 2 / 3;
     assert_eq!(array.proceed(done), Answer::done(&[done]));
@@ -92,9 +110,11 @@ fn loses(array: &mut Array, disk: u64) {
     let place = place(&record, done, disk);
     assert!(array.0.images[place].iter().all(|&byte| byte == 0xff));
     read_all(array);
+    assert_eq!(array.sweep(), Answer::refused(3));
     let left = record.stripes - done;
     assert_eq!(array.proceed(u64::MAX), Answer::done(&[left]));
     read_all(array);
+    sweeps(array);
 }
 
 #[test]
@@ -103,6 +123,7 @@ fn the_most_stripes() {
     assert_eq!(array.0.record, Record::new(3, 1, 1_048_576).bytes());
     write_all(&mut array, 0..2_097_152);
     read_all(&mut array);
+    sweeps(&mut array);
     let last_at = Answer::done(&[1_048_575, 1, 0, 0]);
     assert_eq!(array.locate(2_097_151), last_at);
     assert_eq!(array.locate(2_097_152), Answer::refused(8));
@@ -177,6 +198,7 @@ fn places_beyond_32_bits() {
             assert_eq!(loan.call(Call::Read { block }), Answer::done(&[]));
             assert!(loan.block.bytes() == data, "block {block}");
         }
+        finds_the_last_bit(&mut loan);
     }
 
     // the last new block is on the last place of all, in the stripe of the last old one
@@ -211,4 +233,17 @@ fn places_beyond_32_bits() {
     assert_eq!(loan.record.bytes(), whole);
     assert!(loan.images.bytes()[place(&record, stripe, 3)] == data(new, 4096));
     assert_eq!(loan.images.bytes()[place(&record, stripe - 1, 3)][0], 0);
+
+    let none = Answer::done(&[0, 0, 1_048_576]);
+    assert_eq!(loan.call(Call::Sweep), none);
+    finds_the_last_bit(&mut loan);
+}
+
+/// With the last bit of all off, which is of a blank until the growth is over, a sweep finds the last of the most stripes, and so no
+/// other one.
+fn finds_the_last_bit(loan: &mut Loan<Guarded>) {
+    *loan.images.exclusive().last_mut().unwrap() ^= 0x80;
+    let found = Answer::done(&[1, 1_048_575, 1_048_576]);
+    assert_eq!(loan.call(Call::Sweep), found);
+    *loan.images.exclusive().last_mut().unwrap() ^= 0x80;
 }

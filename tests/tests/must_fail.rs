@@ -87,6 +87,16 @@ const COMPUTED: &[(&str, &str, &[&str])] = &[
         ],
     ),
     (
+        "/proofs/Cases/Sweeps.antt:",
+        "`flipped`",
+        &[
+            "calls/blanks_not_looked_at",
+            "calls/count_is_the_stripe",
+            "calls/last_stripe_not_read",
+            "calls/last_unsound_first",
+        ],
+    ),
+    (
         "/proofs/Cases/Sample.antt:",
         "`sample`",
         &[

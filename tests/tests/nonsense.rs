@@ -104,6 +104,7 @@ fn calls(record: &Record) -> [Call; NAMES.len()] {
             stripe: record.stripes - 1,
             disk: record.disks() - 1,
         },
+        Call::Sweep,
     ]
 }
 
@@ -205,7 +206,7 @@ fn good_records_with_one_bit_off() {
     println!("{still_good} calls on good records, {bad} on others");
     assert!(still_good > 1000 && bad > 5000);
     let formats = (records().len() * 8 * RECORD_LEN) as u64; // which is lent any bytes
-    desk.assert_accepted([formats, 140, 123, 2, 29, 818, 37, 54, 900, 836, 862]);
+    desk.assert_accepted([formats, 140, 123, 2, 29, 818, 37, 54, 900, 836, 862, 31]);
 }
 
 /// A record of n = 3, m = 2, B = 4, T = 258 and t = 5, which is good but for health, disk and the stripes done: these three are given.
@@ -303,6 +304,7 @@ fn every_value_of_every_byte_of_a_record() {
                     Call::Out { disk: 1 },
                     Call::Continue { k: 3 },
                     Call::Status,
+                    Call::Sweep,
                 ] {
                     let mut lent = bytes(call, &record);
                     lent.record[at] = value;
@@ -337,7 +339,7 @@ fn random_records() {
     }
     println!("{accepted} accepted, {refused} refused");
     assert!(accepted > 10_000 && refused > 10_000);
-    desk.assert_accepted([2000, 300, 300, 20, 100, 500, 20, 100, 1000, 1000, 1000]);
+    desk.assert_accepted([2000, 300, 300, 20, 100, 500, 20, 100, 1000, 1000, 1000, 150]);
 }
 
 fn random_record(random: &mut Random) -> [u8; RECORD_LEN] {
@@ -471,7 +473,9 @@ fn accepted_calls_on_any_bytes() {
             early += (number == 0 && is_early(call, &record)) as u32;
         }
     }
-    desk.assert_accepted([4000, 3000, 3000, 200, 500, 2000, 500, 700, 4000, 4000, 4000]);
+    desk.assert_accepted([
+        4000, 3000, 3000, 200, 500, 2000, 500, 700, 4000, 4000, 4000, 1500,
+    ]);
     println!("{early} accepted on new blocks in a growth");
     assert!(early > 400);
 }
@@ -531,7 +535,7 @@ fn random_calls(random: &mut Random, record: &Record) -> [Call; NAMES.len()] {
                 (*stripe, *disk) = (random.below(record.stripes), random.below(record.disks()))
             }
             Call::Continue { k } => *k = random.below(40),
-            Call::Format { .. } | Call::Begin { .. } | Call::Status => {}
+            Call::Format { .. } | Call::Begin { .. } | Call::Status | Call::Sweep => {}
         }
     }
     calls

@@ -292,6 +292,7 @@ fn another_disk_at_every_count() {
                 Call::Out { disk },
                 Call::Begin { disk },
                 Call::Continue { k: 1 },
+                Call::Sweep,
             ] {
                 assert_eq!(array.call(call), Answer::refused(2), "{call:?}");
             }
@@ -299,7 +300,8 @@ fn another_disk_at_every_count() {
     });
 }
 
-/// "Grow and advance still see degraded." Behind the rebuild the growth goes on, and ends as one that had no disk out.
+/// "Grow and advance still see degraded.", and of a sweep request (g) says: "3 also while rebuilding". Behind the rebuild the growth goes
+/// on, and ends as one that had no disk out.
 #[test]
 fn a_growth_stands_still_at_every_count() {
     for_each_disk(|random, shape, disk| {
@@ -310,6 +312,7 @@ fn a_growth_stands_still_at_every_count() {
                 Call::Advance { k: 0 },
                 Call::Advance { k: 1 },
                 Call::Grow { m: 1 },
+                Call::Sweep,
             ] {
                 assert_eq!(rebuild.array.call(call), Answer::refused(3), "{call:?}");
             }

@@ -1,8 +1,8 @@
 //! Every row of document 01's table of refusals, 1 and 6 as request (a) of document 02 leaves them, 8 with the capacity of
-//! request (b), and with the record, the health and the calls of request (d), for every call that it names: alone, and with a
-//! lower row's condition holding as well, which then wins; and every call in every health. A refused call changes no byte and sets
-//! every number beside its answer to 0. What an accepted one answers and leaves is held to a model that goes by the bytes. (Row 11 names
-//! no call on an array: points.rs has it.)
+//! request (b), with the record, the health and the calls of request (d), and with the call of request (g), for every call that it
+//! names: alone, and with a lower row's condition holding as well, which then wins; and every call in every health. A refused call
+//! changes no byte and sets every number beside its answer to 0. What an accepted one answers and leaves is held to a model that goes
+//! by the bytes. (Row 11 names no call on an array: points.rs has it.)
 
 use std::collections::HashSet;
 use yuzkamide_tests::bytewise::Bytewise;
@@ -62,6 +62,7 @@ fn accepted(name: &str) -> Case {
         "status" => case(Call::Status, GROWING, 0),
         "locate" => case(Call::Locate { block: 4 }, GROWING, 0),
         "owner" => case(Call::Owner { stripe: 2, disk: 1 }, GROWING, 0),
+        "sweep" => case(Call::Sweep, GROWING, 300),
         _ => panic!("no call {name}"),
     }
 }
@@ -95,16 +96,18 @@ const fn spoil(
 const ALL: &[&str] = &NAMES;
 const BUT_FORMAT: &[&str] = &[
     "read", "write", "grow", "advance", "out", "begin", "continue", "status", "locate", "owner",
+    "sweep",
 ];
 const ON_BLOCKS: &[&str] = &["read", "write"];
 const ON_NUMBERED: &[&str] = &["read", "write", "locate"];
 const ON_DISKS: &[&str] = &["out", "begin", "owner"];
 const ON_IMAGES: &[&str] = &[
-    "format", "read", "write", "grow", "advance", "begin", "continue",
+    "format", "read", "write", "grow", "advance", "begin", "continue", "sweep",
 ];
 const IN_HEALTH: &[&str] = &[
-    "read", "write", "grow", "advance", "out", "begin", "continue",
+    "read", "write", "grow", "advance", "out", "begin", "continue", "sweep",
 ];
+const ON_WHOLE: &[&str] = &["grow", "advance", "sweep"];
 
 const SPOILS: &[Spoil] = &[
     spoil(ALL, 1, "no record", |c| c.damage = Some(|r| r.clear())),
@@ -205,23 +208,30 @@ const SPOILS: &[Spoil] = &[
         })
     }),
     spoil(IN_HEALTH, 2, "lost", |c| c.record.health = Health::Lost),
-    spoil(&["grow", "advance"], 3, "disk 0 out", |c| {
+    spoil(ON_WHOLE, 3, "disk 0 out", |c| {
         c.record.health = Health::Out(0)
     }),
-    spoil(&["grow", "advance"], 3, "disk 2 out", |c| {
+    spoil(ON_WHOLE, 3, "disk 2 out", |c| {
         c.record.health = Health::Out(2)
     }),
+    spoil(ON_WHOLE, 3, "the rebuild of disk 0 begun", |c| {
+        c.record.health = rebuilding(0, 0)
+    }),
+    spoil(ON_WHOLE, 3, "disk 2 rebuilt but for a stripe", |c| {
+        c.record.health = rebuilding(2, 14)
+    }),
+    spoil(&["sweep"], 3, "disk 4 out, before a growth of 5", |c| {
+        (c.record.n, c.record.m, c.record.moves) = (5, 0, 0);
+        c.record.health = Health::Out(4)
+    }),
+    spoil(&["sweep"], 3, "disk 4 out, the growth over", |c| {
+        (c.record.moves, c.record.health) = (18, Health::Out(4))
+    }),
     spoil(
-        &["grow", "advance"],
+        &["sweep"],
         3,
-        "the rebuild of disk 0 begun",
-        |c| c.record.health = rebuilding(0, 0),
-    ),
-    spoil(
-        &["grow", "advance"],
-        3,
-        "disk 2 rebuilt but for a stripe",
-        |c| c.record.health = rebuilding(2, 14),
+        "disk 4 being rebuilt, the growth over",
+        |c| (c.record.moves, c.record.health) = (18, rebuilding(4, 7)),
     ),
     spoil(&["grow"], 4, "m = 2", |c| c.record.m = 2),
     spoil(&["grow"], 4, "m = 2, under way", |c| {
@@ -303,11 +313,22 @@ const SPOILS: &[Spoil] = &[
         c.images_len = c.images_len.saturating_sub(60)
     }),
     spoil(
-        &["read", "write", "grow", "advance", "begin", "continue"],
+        &[
+            "read", "write", "grow", "advance", "begin", "continue", "sweep",
+        ],
         7,
         "n disks",
         |c| c.images_len = 180,
     ),
+    spoil(&["sweep"], 7, "n + m disks before a growth", |c| {
+        (c.record.m, c.record.moves) = (0, 0)
+    }),
+    spoil(&["sweep"], 7, "n disks, the growth over", |c| {
+        (c.record.moves, c.images_len) = (18, 180)
+    }),
+    spoil(&["sweep"], 7, "whole groups alone, with a tail", |c| {
+        c.record.stripes = 29
+    }),
     spoil(ON_NUMBERED, 8, "the capacity", |c| number(c, 30)),
     spoil(ON_NUMBERED, 8, "a block that comes later", |c| {
         number(c, 59)
@@ -533,6 +554,7 @@ fn every_call_in_every_health() {
         (Call::Status, [0, 0, 0, 0]),
         (of("locate"), [0, 0, 0, 0]),
         (of("owner"), [0, 0, 0, 0]),
+        (Call::Sweep, [0, 3, 3, 2]),
     ];
     for (call, [whole, out, being_rebuilt, lost]) in table {
         let mut healths = vec![
@@ -566,6 +588,34 @@ fn every_growth_is_accepted() {
             case.gives(0, "any T");
         }
     }
+}
+
+/// "1, 2, 3, 7 as for advance", and so none where an advance is refused 5: before a growth, at every t up to the total, with a tail,
+/// and with no whole group.
+#[test]
+fn a_sweep_needs_nothing_to_move() {
+    let growths = [(3, 0, 15), (3, 2, 15), (3, 2, 29), (3, 2, 14), (4, 1, 19)];
+    let mut idle = 0;
+    for (n, m, stripes) in growths {
+        let home = Record::new(n, 4, stripes);
+        for moves in 0..=(Record { m, ..home }).total() {
+            let record = Record { m, moves, ..home };
+            let case = |name| Case {
+                record,
+                images_len: record.images_len(),
+                ..accepted(name)
+            };
+            let refusals = match m == 0 || record.is_grown() {
+                true => vec![5],
+                false => vec![],
+            };
+            assert_eq!(case("advance").holding(), refusals, "{record:?}");
+            assert_eq!(case("sweep").holding(), [], "{record:?}");
+            case("sweep").gives(0, "at every t");
+            idle += refusals.len();
+        }
+    }
+    assert_eq!(idle, growths.len());
 }
 
 /// A new block is past the end until its zone is finished, one of the tail until the last move is made.

@@ -1,5 +1,6 @@
 //! What no contract of a write can say, as it sees only entry and exit: which bytes are loaded and stored meanwhile, how often and in
-//! which order. Read off a memory trace of tests/c/stores.c, by valgrind's lackey.
+//! which order; and of a sweep, which stripes it reads, and that it stores nothing. Read off a memory trace of tests/c/stores.c, by
+//! valgrind's lackey.
 
 use std::collections::{BTreeMap, BTreeSet};
 use std::ops::Range;
@@ -7,7 +8,7 @@ use std::process::Command;
 use std::sync::OnceLock;
 use yuzkamide_tests::compile::{program, run, text};
 use yuzkamide_tests::images::place;
-use yuzkamide_tests::layout::Layout;
+use yuzkamide_tests::layout::{Layout, Owner};
 use yuzkamide_tests::out::{self, Disk, Out};
 use yuzkamide_tests::record::{Health, Record, RECORD_LEN};
 use yuzkamide_tests::trace::{calls, Access};
@@ -124,11 +125,15 @@ impl Case {
         behind.all(|at| data.contains(at))
     }
 
-    /// A call as tests/c/stores.c reads it.
     fn argument(&self, name: char, number: u64) -> String {
-        let digits = self.record.bytes().map(|byte| format!("{byte:02x}"));
-        format!("{name}{}:{number}", digits.concat())
+        argument(&self.record, name, number)
     }
+}
+
+/// A call as tests/c/stores.c reads it.
+fn argument(record: &Record, name: char, number: u64) -> String {
+    let digits = record.bytes().map(|byte| format!("{byte:02x}"));
+    format!("{name}{}:{number}", digits.concat())
 }
 
 /// How often bytes of the images occurred.
@@ -153,6 +158,8 @@ struct Addresses {
     images: u64,
     /// The count of a continue.
     made: u64,
+    /// The three numbers of a sweep.
+    swept: u64,
     /// Stored to by what stands for the C library's functions.
     helped: u64,
     stack: u64,
@@ -223,6 +230,7 @@ fn traced(name: &str, arguments: &[String]) -> (Addresses, Vec<Vec<Access>>) {
         record: address("record"),
         images: address("images"),
         made: address("made"),
+        swept: address("swept"),
         helped: address("helped"),
         stack: address("stack"),
     };
@@ -331,6 +339,107 @@ fn stores(call: &[Access], bytes: Range<u64>) -> impl Iterator<Item = usize> + '
     (0..call.len()).filter(move |&at| is_there(&call[at]))
 }
 
+// ---- sweeps
+
+/// n, m, T and t: before a growth; in a growth with a tail, of few disks and of more than are summed at once, a zone finished and the
+/// next one begun; behind a growth that grow itself has ended.
+const SWEPT: [(u64, u64, u64, u64); 4] = [
+    (3, 0, 3, 0),
+    (5, 3, 41, 22),
+    (3, 16, 59, 50),
+    (16, 16, 3, 0),
+];
+
+const SWEPT_LENGTHS: [u64; 3] = [1, 65, 300];
+
+/// A sweep over zeroes but for some bytes.
+#[derive(Debug)]
+struct Sweep {
+    record: Record,
+    not_zero: Vec<usize>,
+    /// The one stripe that they make unsound, if there are any.
+    unsound: Option<u64>,
+}
+
+impl Sweep {
+    fn argument(&self) -> String {
+        let bytes = self.not_zero.iter().map(|at| format!(",{at}"));
+        let list: String = bytes.collect();
+        argument(&self.record, 's', self.not_zero.len() as u64) + &list
+    }
+
+    /// How many stripes it is to read.
+    fn read(&self) -> u64 {
+        self.unsound
+            .map_or(self.record.stripes, |stripe| stripe + 1)
+    }
+
+    fn stripe_of(&self, at: usize) -> u64 {
+        at as u64 / self.record.block_len % self.record.stripes
+    }
+}
+
+/// With no byte off; and with one off in the first stripe, in one of the middle or in the last one: on the highest disk, or on a blank
+/// and on the parity's disk too, so that the sum is zero.
+fn sweeps() -> Vec<Sweep> {
+    let mut all = Vec::new();
+    for ((n, m, stripes, moves), block_len) in
+        SWEPT.iter().flat_map(|s| SWEPT_LENGTHS.map(|b| (*s, b)))
+    {
+        let home = Record::new(n, block_len, stripes);
+        let record = Record { m, moves, ..home };
+        let layout = Layout::of(&record);
+        let mut add = |unsound: Option<u64>, disks: &[u64]| {
+            let last = |disk: &u64| place(&record, unsound.unwrap(), *disk).end - 1;
+            let not_zero = disks.iter().map(last).collect();
+            all.push(Sweep {
+                record,
+                not_zero,
+                unsound,
+            });
+        };
+        add(None, &[]);
+        for stripe in [0, stripes / 2, stripes - 1] {
+            let is_blank = |disk: &u64| layout.owner(stripe, *disk) == Owner::Blank;
+            add(Some(stripe), &[n + m - 1]);
+            if let Some(blank) = (0..n + m).find(is_blank) {
+                add(Some(stripe), &[blank, layout.parity(stripe)]);
+            }
+        }
+    }
+    all
+}
+
+/// "The sweep stops there and gives the stripe and the stripes read": just these are loaded from, all of those that are sound as a whole,
+/// and nothing is stored but the three numbers.
+#[test]
+fn a_sweep_reads_the_stripes_that_it_tells() {
+    let sweeps = sweeps();
+    let is_by_blank = |sweep: &&Sweep| sweep.not_zero.len() == 2;
+    let by_blank = sweeps.iter().filter(is_by_blank).count();
+    assert_eq!((sweeps.len(), by_blank), (60, 12));
+    let arguments: Vec<String> = sweeps.iter().map(Sweep::argument).collect();
+    let (addresses, calls) = traced("stores-of-sweeps", &arguments);
+    let numbers: BTreeSet<u64> = (addresses.swept..addresses.swept + 24).collect();
+    for (sweep, call) in sweeps.iter().zip(calls) {
+        let record = &sweep.record;
+        let mut seen = addresses.seen(record.images_len(), &call);
+        seen.elsewhere.remove(&addresses.helped);
+        assert_eq!(seen.elsewhere, numbers, "{sweep:?}");
+        assert_eq!(seen.stored, Counts::new(), "{sweep:?}");
+        let stripes: BTreeSet<u64> = seen.loaded.keys().map(|at| sweep.stripe_of(*at)).collect();
+        assert!(stripes.into_iter().eq(0..sweep.read()), "{sweep:?}");
+        let sound = sweep.unsound.unwrap_or(record.stripes);
+        let is_of_sound = |at: &&usize| sweep.stripe_of(**at) < sound;
+        let loaded = seen.loaded.keys().filter(is_of_sound).count() as u64;
+        assert_eq!(
+            loaded,
+            record.disks() * sound * record.block_len,
+            "{sweep:?}"
+        );
+    }
+}
+
 // ---- the reading of a trace
 
 #[test]
@@ -361,6 +470,7 @@ fn seen(trace: &str) -> Seen {
         record: 0,
         images: 0x100,
         made: 0,
+        swept: 0,
         helped: 0,
         stack: 0x10000,
     };

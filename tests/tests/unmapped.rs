@@ -175,6 +175,7 @@ impl Array {
         self.refused(3, Call::Grow { m: 0 });
         self.refused(3, Call::Advance { k: 1 });
         self.refused(3, Call::Advance { k: u64::MAX });
+        self.refused(3, Call::Sweep);
         self.refused(8, Call::Read { block: capacity });
         self.refused(8, Call::Write { block: capacity });
         self.refused(10, Call::Out { disk: disks });
@@ -243,6 +244,7 @@ impl Array {
             Call::Out { disk: 0 },
             Call::Begin { disk },
             Call::Continue { k: 1 },
+            Call::Sweep,
         ] {
             self.refused(2, call);
         }
@@ -336,6 +338,7 @@ fn each_disk_out(seed: u64, shape: (u64, u64, u64, u64), moves: u64) -> u64 {
         array.begin(disk);
         rebuild_by_pages(&mut array, disk);
         assert!(array.loan.images.bytes() == images::of(&array.flat));
+        array.accepted(Call::Sweep);
     }
     array.calls
 }

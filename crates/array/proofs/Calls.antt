@@ -5,6 +5,7 @@ pub mod Called
 pub mod Asking
 pub mod Reach
 pub mod Shown
+pub mod Swept
 pub mod Put
 pub mod Zeroed
 pub mod Filled

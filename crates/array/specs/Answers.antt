@@ -14,9 +14,11 @@ use Rattle.array.specs.declared.Located.{Located}
 use Rattle.array.specs.declared.Located.the-variants as located
 use Rattle.array.specs.declared.Owned.{Owned}
 use Rattle.array.specs.declared.Owned.the-variants as owning
+use Rattle.array.specs.declared.Swept.{Swept}
+use Rattle.array.specs.declared.Swept.the-variants as sweeping
 use Rattle.array.specs.declared.Choice.{Choice}
 use Rattle.array.specs.declared.Choice.the-variants as choice
-use Rattle.calls.specs.Call.{Answer, refused, done, bytes, made, figures, placed, owned}
+use Rattle.calls.specs.Call.{Answer, refused, done, bytes, made, allSound, unsoundAt, figures, placed, owned}
 use Rattle.calls.specs.Effect.{View, part, scratch}
 
 -- format, grow, out and begin: the answer, and the record that is left of r
@@ -49,6 +51,12 @@ locatedAnswer (located.At x) = placed x
 abbrev pub ownedAnswer : Owned → Answer
 ownedAnswer (owning.Refused k) = refused k
 ownedAnswer (owning.By o) = owned o
+
+-- sweep
+abbrev pub sweptAnswer : Swept → Answer
+sweptAnswer (sweeping.Refused k) = refused k
+sweptAnswer (sweeping.Sound x) = allSound x
+sweptAnswer (sweeping.Unsound S x) = unsoundAt S x
 
 -- view: what is chosen, given the call's number and where the block is to be had
 abbrev pub choiceOf : ℕ → View → Choice

@@ -10,16 +10,19 @@ use Rattle.array.specs.declared.Counted.the-variants as counting
 use Rattle.array.specs.declared.Report.the-variants as report
 use Rattle.array.specs.declared.Located.the-variants as located
 use Rattle.array.specs.declared.Owned.the-variants as owning
-use Rattle.calls.specs.Call.{refused, done, made, figures, placed, owned}
+use Rattle.array.specs.declared.Swept.the-variants as sweeping
+use Rattle.calls.specs.Call.{refused, done, made, allSound, unsoundAt, figures, placed, owned}
 use Rattle.array.specs.Answers.{changedAnswer, changedRecord, countedAnswer, countedRecord, reportAnswer, locatedAnswer, ownedAnswer}
+use Rattle.array.specs.Answers.{sweptAnswer}
 
 pub record Tells : Type 0 where
   pub refusals : (k : ℕ) → (changedAnswer (changed.Refused k) ≡ refused k) × (countedAnswer (counting.Refused k) ≡ refused k)
       × (reportAnswer (report.Refused k) ≡ refused k) × (locatedAnswer (located.Refused k) ≡ refused k)
-      × (ownedAnswer (owning.Refused k) ≡ refused k)
+      × (ownedAnswer (owning.Refused k) ≡ refused k) × (sweptAnswer (sweeping.Refused k) ≡ refused k)
   pub unchanged : (r : Record) (k : ℕ) → (changedRecord r (changed.Refused k) ≡ r) × (countedRecord r (counting.Refused k) ≡ r)
   pub changes : (r x : Record) → (changedAnswer (changed.Done x) ≡ done) × (changedRecord r (changed.Done x) ≡ x)
   pub counts : (r x : Record) (k : ℕ) → (countedAnswer (counting.Made k x) ≡ made k) × (countedRecord r (counting.Made k x) ≡ x)
   pub statuses : (c t total : ℕ) (h : Health) → reportAnswer (report.Figures c t total h) ≡ figures c t total h
   pub places : (x : Standing) → locatedAnswer (located.At x) ≡ placed x
   pub owners : (o : Role) → ownedAnswer (owning.By o) ≡ owned o
+  pub sweeps : (S x : ℕ) → (sweptAnswer (sweeping.Sound x) ≡ allSound x) × (sweptAnswer (sweeping.Unsound S x) ≡ unsoundAt S x)

@@ -1,4 +1,4 @@
-// The twelve calls on a record by value and lent slices. None requires anything: each refuses as the table of documents 01 and 02 says,
+// The thirteen calls on a record by value and lent slices. None requires anything: each refuses as the table of documents 01 and 02 says,
 // and its contract sets answer, record and every lent slice at exit equal to what `called` of crate `calls` has, refused calls
 // included. What the enums say in document 01's numbers and values is specs/Answers.antt.
 mod advancing;
@@ -12,6 +12,7 @@ mod places;
 mod reading;
 mod rebuilding;
 mod refusal;
+mod sweeping;
 mod viewing;
 mod writing;
 
@@ -30,6 +31,7 @@ pub use rebuilding::continue_rebuild;
 pub use refusal::RECORD;
 use state::Health;
 use state::Record;
+pub use sweeping::sweep;
 pub use viewing::view;
 pub use writing::write;
 
@@ -66,6 +68,13 @@ pub enum Located {
 pub enum Owned {
     Refused(u8),
     By(Role),
+}
+
+// Of sweep: all stripes are sound, or the first that is not; and the stripes read.
+pub enum Swept {
+    Refused(u8),
+    Sound { read: u64 },
+    Unsound { stripe: u64, read: u64 },
 }
 
 // Of view, before the part is taken: it begins at this byte of the images, or it is the scratch.

@@ -5,7 +5,7 @@ ghost use Prim.Native.Nat.{_≤_};
 ghost use lib.Dec.{ltb};
 ghost use Rattle.layout.specs.Layout.{capacity};
 ghost use Rattle.state.specs.Good.{geometry, GoodRecord};
-ghost use Rattle.calls.specs.Call.{format, read, grow, advance, out, begin, continue, status, locate, owner, feed};
+ghost use Rattle.calls.specs.Call.{format, read, grow, advance, out, begin, continue, status, locate, owner, sweep, feed};
 ghost use Rattle.calls.specs.Images.{disksOf, sizeWith};
 ghost use Rattle.calls.specs.Table.{idle, formable, word, kept, keptWhole, keptLent, refusalOf};
 use crate::health::is_degraded;
@@ -271,6 +271,19 @@ pub fn of_owner(r: Record, s: u64, d: u64) -> u8
     }
     if disks_of(r) <= d {
         return DISK;
+    }
+    0
+}
+
+pub fn of_sweep(r: Record, images: usize) -> u8
+    ensures number { λ k. ⌜ k ≡ refusalOf r (feed sweep images 0) ⌝ }
+{
+    let k = of_whole(r);
+    if k != 0 {
+        return k;
+    }
+    if images as u64 != size_with(r, r.new as u64) {
+        return IMAGES;
     }
     0
 }

@@ -7,3 +7,4 @@ pub mod Grid
 pub mod Stripe
 pub mod Fill
 pub mod Summed
+pub mod Zero

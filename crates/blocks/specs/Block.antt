@@ -1,7 +1,9 @@
 -- A block is a run of bytes. `store` keeps the length of what it stores into, whatever it is handed.
 use Prim.Native.Nat.{ℕ, zero, suc, _+_, _≤_, _<_}
+use mathlib.Core.Bool.{Bool, true, false, _&&_}
 use mathlib.Core.Logic.{_⊎_}
 use mathlib.Core.List.{List, [], _∷_}
+use lib.Dec.{eqb}
 use lib.ListN.{getD, take, drop, replicate}
 
 -- each number of l is a byte
@@ -26,6 +28,13 @@ copiedTo l to m from len = store l to (blockAt m from len)
 -- a block of zeroes
 abbrev pub zeros : ℕ → List ℕ
 zeros len = replicate len 0
+
+-- is a block one of len zeroes?
+abbrev pub isZeros : ℕ → List ℕ → Bool
+isZeros zero [] = true
+isZeros zero (x ∷ b) = false
+isZeros (suc len) [] = false
+isZeros (suc len) (x ∷ b) = eqb x 0 && isZeros len b
 
 -- len bytes from at on and len′ bytes from at′ on have none in common
 abbrev pub Disjoint : ℕ → ℕ → ℕ → ℕ → Type 0

@@ -1,11 +1,12 @@
-// One block inside the images: zeroed, copied, moved and xored, and the places of a stripe; and bytes as a number. Bytes only; no layout
-// and no record.
+// One block inside the images: zeroed, copied, moved, xored and tested for zeroes, and the places of a stripe; and bytes as a number. Bytes
+// only; no layout and no record.
 mod copy;
 mod number;
 mod place;
 mod stripe;
 mod sum;
 mod xor;
+mod zero;
 
 pub use copy::copy_out;
 pub use copy::move_block;
@@ -15,7 +16,10 @@ pub use number::join_four;
 pub use number::join_two;
 pub use place::offset_of;
 pub use stripe::rebuild_place;
+pub use sum::GROUP;
 pub use sum::xor_others;
+pub use zero::cancels;
+pub use zero::is_zero;
 
 // The places of one stripe on the disks from `first` to before `last`, but for disk `out`, summed at once. A disk has `stripes` blocks.
 pub struct Group {

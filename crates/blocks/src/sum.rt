@@ -15,15 +15,15 @@ use crate::place::offset_of;
 use crate::xor::xor_out;
 
 // The bytes that are summed at once: as many as there is room for in registers.
-const PIECE: usize = 128;
+pub(crate) const PIECE: usize = 128;
 
-const HALF: usize = 64;
+pub(crate) const HALF: usize = 64;
 
 // The disks that are read side by side: with more streams than these, reading gets slower.
-const GROUP: usize = 16;
+pub const GROUP: usize = 16;
 
 // Takes part, the bytes from at on of a block of len, from the sum before the group to the sum behind it.
-fn add_disks(images: &[u8], x: Group, len: usize, at: usize, part: &mut [u8])
+pub(crate) fn add_disks(images: &[u8], x: Group, len: usize, at: usize, part: &mut [u8])
     requires { ⌜ GroupInside x len (length (now images)) × (at + length (now part) ≤ len)
         × (now part ≡ blockAt (sumTo len (now images) x (x .first)) at (length (now part))) ⌝ }
     ensures { λ _. ⌜ now (part .exit) ≡ blockAt (sumTo len (now (images .entry)) x (x .last)) at (length (now (part .entry))) ⌝ }
@@ -41,7 +41,7 @@ fn add_disks(images: &[u8], x: Group, len: usize, at: usize, part: &mut [u8])
 }
 
 // What part begins with: zeroes if no disk comes before the group, else what the groups before it have left in block.
-fn begin(block: &[u8], at: usize, first: usize, part: &mut [u8])
+pub(crate) fn begin(block: &[u8], at: usize, first: usize, part: &mut [u8])
     requires { ⌜ at + length (now part) ≤ length (now block) ⌝ }
     ensures { λ _. ⌜ now (part .exit) ≡
         cond (eqb first 0) (zeros (length (now (part .entry)))) (blockAt (now (block .entry)) at (length (now (part .entry)))) ⌝ }

@@ -24,7 +24,7 @@ use Rattle.state.specs.declared.Record.{Record}
 use Rattle.state.specs.Good.{geometry, GoodRecord}
 use Rattle.state.specs.Update.{formatted, grownBy, withMoves, withHealth}
 use Rattle.state.proofs.Laws.Good.{rebuilding-lt}
-use Rattle.calls.specs.Call.{Call, format, read, view, write, grow, advance, out, begin, continue, status, locate, owner}
+use Rattle.calls.specs.Call.{Call, format, read, view, write, grow, advance, out, begin, continue, status, locate, owner, sweep}
 use Rattle.calls.specs.Call.{Event, Answer, done, bytes, made}
 use Rattle.calls.specs.Health.{absent, afterOut, rebuiltTo}
 use Rattle.calls.specs.Images.{disksOf, size, sizeWith, placeIn, othersIn, seen, Store, stored, recorded, zeroDisks}
@@ -45,6 +45,7 @@ use Rattle.calls.proofs.Laws.Advance.{Carried, carried, idle-none}
 use Rattle.calls.proofs.Laws.Runs as runs
 use Rattle.calls.proofs.Laws.Kinds.{Passed, bounds, formatting, writing, growing, moving, continuing}
 use Rattle.calls.proofs.Laws.Kinds.{zeroed, within-grow, facts}
+use Rattle.calls.proofs.Laws.Unsound.{answers-first, answers-none}
 use Rattle.calls.proofs.Laws.Rebuild as rebuild
 use Rattle.calls.proofs.Alone.{left, long-of}
 
@@ -313,6 +314,8 @@ acts e r z =
       continue-disk = λ k o c q h S lo l hi. of-place S o (continue k) _ q (λ x. continue-disk r e k o c h x S lo l hi);
       continue-part = λ k o c q h l. of-record (continue k) _ q (λ x. continue-part r e k o c h x l);
       continue-end = λ k o c q h l. of-record (continue k) _ q (λ x. continue-end r e k o c h x l);
+      sweep-first = λ S q l no f. of-answer sweep _ q (λ x. answers-first r (e .images) S l no f);
+      sweep-none = λ q f. of-answer sweep _ q (λ x. answers-none r (e .images) f);
       status-answer = λ q. of-answer status _ q (λ x. refl);
       locate-answer = λ b q. of-answer (locate b) _ q (λ x. refl);
       owner-answer = λ S d q. of-answer (owner S d) _ q (λ x. refl);

@@ -1,3 +1,4 @@
 pub mod Bench
 pub mod Refusals
 pub mod Drawers
+pub mod Sweeps

@@ -12,6 +12,7 @@ pub mod Passed
 pub mod Acting
 pub mod Holding
 pub mod Sound
+pub mod Unsound
 pub mod Lists
 pub mod Format
 pub mod Read
@@ -21,6 +22,7 @@ pub mod Moved
 pub mod Advance
 pub mod Out
 pub mod Rebuild
+pub mod Swept
 pub mod Kept
 pub mod Kinds
 pub mod OnBytes

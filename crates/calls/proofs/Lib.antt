@@ -6,3 +6,4 @@ pub mod Absent
 pub mod Alone
 pub mod OneMove
 pub mod Acts
+pub mod Sweep

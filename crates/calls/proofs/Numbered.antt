@@ -16,7 +16,7 @@ use Rattle.state.specs.Bytes.{recordLength, goodBytes, encode}
 use Rattle.state.proofs.Laws.Good.{limits}
 use Rattle.state.proofs.Theorem.{good-is}
 use Rattle.calls.specs.Call.{Call, column, format, read, view, write, grow, advance, out, begin, continue}
-use Rattle.calls.specs.Call.{status, locate, owner, feed}
+use Rattle.calls.specs.Call.{status, locate, owner, sweep, feed}
 use Rattle.calls.specs.Health.{isLost}
 use Rattle.calls.specs.Images.{disksOf, size, sizeWith}
 use Rattle.calls.specs.Table.{badRecord, badGeometry, images, pastEnd, blockLength, formable, looks}
@@ -95,6 +95,8 @@ numbered =
           (here r (λ nl. (refl, differ len (size r), λ u. (refl, is-other (r .health) d nl, λ v. tt))));
       of-continue = λ r c len room k. say r c len room (continue k) _
           (here r (λ nl. (refl, differ len (size r), λ u. (refl, none-rebuilt (r .health), λ v. tt))));
+      of-sweep = λ r c len room. say r c len room sweep _
+          (here r (λ nl. (refl, is-degraded (r .health) nl, λ u. (refl, differ len (size r), λ v. tt))));
       of-status = λ r c len room. say r c len room status _ (refl, not-good r, λ g. tt);
       of-locate = λ r c len room b. say r c len room (locate b) _ (refl, not-good r, λ g. (refl, past b c, λ u. tt));
       of-owner = λ r c len room S d. say r c len room (owner S d) _

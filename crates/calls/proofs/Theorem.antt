@@ -82,6 +82,7 @@ values =
       refusals = λ w k. (refl, refl, refl);
       accepts = zero-done;
       counts = λ w k. (refl, refl, refl);
+      sweeps = λ w S x. (refl, refl);
       statuses = λ w c t total h. refl;
       places = λ w x. ((λ e. rw e refl), (λ e. rw e refl));
       owners = λ w b. (refl, refl, refl);

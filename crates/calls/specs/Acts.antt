@@ -12,11 +12,13 @@ use Rattle.blocks.specs.Xor.{xorB}
 use Rattle.state.specs.declared.Health.the-variants.{Whole, Out, Lost, Rebuilding}
 use Rattle.state.specs.declared.Record.{Record}
 use Rattle.state.specs.Good.{geometry}
-use Rattle.calls.specs.Call.{Call, format, read, view, write, grow, advance, out, begin, continue, status, locate, owner}
-use Rattle.calls.specs.Call.{Event, on, fed, done, bytes, made, figures, placed, owned}
+use Rattle.calls.specs.Call.{Call, format, read, view, write, grow, advance, out, begin, continue}
+use Rattle.calls.specs.Call.{status, locate, owner, sweep}
+use Rattle.calls.specs.Call.{Event, on, fed, done, bytes, made, allSound, unsoundAt, figures, placed, owned}
 use Rattle.state.specs.Update.{formatted, grownBy, withMoves, withHealth}
 use Rattle.calls.specs.Health.{absent}
 use Rattle.calls.specs.Images.{placeIn, othersIn, seen}
+use Rattle.calls.specs.Sound.{Sound}
 use Rattle.calls.specs.Table.{idle, refusalOf}
 use Rattle.calls.specs.Effect.{placeOf, act}
 use Rattle.calls.specs.Alone.{movedOn}
@@ -100,6 +102,11 @@ pub record Does (e : Event) (r : Record) : Type 0 where
       → act e r .state ≡ withHealth r (Rebuilding o (c + k))
   pub continue-end : (k o c : ℕ) → e .call ≡ continue k → r .health ≡ Rebuilding o c → r .stripes ≤ c + k
       → act e r .state ≡ withHealth r Whole
+  -- sweep: stripe S if it is unsound and all before it are sound, and S + 1 read; none, and T, if all are sound. The images may be any:
+  -- "The images may come from anywhere."
+  pub sweep-first : (S : ℕ) → e .call ≡ sweep → S < r .stripes → ¬ Sound r (e .images) S
+      → ((R : ℕ) → R < S → Sound r (e .images) R) → act e r .answer ≡ unsoundAt S (S + 1)
+  pub sweep-none : e .call ≡ sweep → ((S : ℕ) → S < r .stripes → Sound r (e .images) S) → act e r .answer ≡ allSound (r .stripes)
   -- status: "capacity, t, total, health"; locate: "block place, parity place and whether a move now done, of any growth, carried the block
   -- itself" (document 02, (f)); owner: "the block number there, or parity, or blank"
   pub status-answer : e .call ≡ status
@@ -108,7 +115,7 @@ pub record Does (e : Event) (r : Record) : Type 0 where
   pub owner-answer : (S d : ℕ) → e .call ≡ owner S d → act e r .answer ≡ owned (layout (geometry r) .owner S d)
   -- the others answer "0 is done" and nothing beside it
   pub only-done : OnlyDone (e .call) → act e r .answer ≡ done
-  -- read, view, write, status, locate and owner leave the record
+  -- read, view, write, sweep, status, locate and owner leave the record
   pub record-stays : ¬ StoresRecord (e .call) → act e r .state ≡ r
 
 -- .. and it holds of every call that the table lets through

@@ -59,7 +59,7 @@ pub record LeavesAlone (e : Event) (r : Record) : Type 0 where
   pub room : ¬ FillsRoom (e .call) → act e r .room ≡ e .room
   -- .. and view, "if its disk is out, .. the lent scratch filled with it. Scratch is else untouched."
   pub scratch : (b : ℕ) → e .call ≡ view b → absent (r .health) (placeOf r b .stripe) (placeOf r b .disk) ≡ false → act e r .room ≡ e .room
-  -- read, view, out, begin ("changes the record only"), status, locate and owner leave the images
+  -- read, view, out, begin ("changes the record only"), sweep, status, locate and owner leave the images
   pub images : ¬ StoresBlocks (e .call) → act e r .images ≡ e .images
   -- write: "the data place takes the data, the parity place its old value xor old block xor data; .. All other bytes stay."
   pub write-others : (b : ℕ) (v : List ℕ) → e .call ≡ write b v → (S d : ℕ) → S < r .stripes → d < disksOf r

@@ -1,4 +1,4 @@
--- The twelve calls, what each is lent beside the record, and the answers.
+-- The thirteen calls, what each is lent beside the record, and the answers.
 use Prim.Native.Nat.{ℕ}
 use mathlib.Core.Bool.{Bool, true, false, cond}
 use mathlib.Core.List.{List, [], _∷_}
@@ -24,9 +24,10 @@ pub data Call : Type 0 where
   status : Call
   locate : (b : ℕ) → Call
   owner : (S d : ℕ) → Call
+  sweep : Call
 
--- which call it is, whatever it is given: its place in document 01's list of calls (begin and continue stand where rebuild stood), and its
--- column in the tables over them
+-- which call it is, whatever it is given: its place in document 01's list of calls (begin and continue stand where rebuild stood, those
+-- that document 02 adds behind all), and its column in the tables over them
 abbrev pub column : Call → ℕ
 column (format n B T) = 0
 column (read b) = 1
@@ -40,6 +41,7 @@ column (continue k) = 8
 column status = 9
 column (locate b) = 10
 column (owner S d) = 11
+column sweep = 12
 
 -- the same call, whatever each is given?
 abbrev pub sameCall : Call → Call → Bool
@@ -74,6 +76,8 @@ pub data Answer : Type 0 where
   done : Answer
   bytes : List ℕ → Answer
   made : ℕ → Answer
+  allSound : (read : ℕ) → Answer
+  unsoundAt : (stripe read : ℕ) → Answer
   figures : (capacity moves total : ℕ) → Health → Answer
   placed : Standing → Answer
   owned : Role → Answer
@@ -83,6 +87,8 @@ accepted (refused k) = false
 accepted done = true
 accepted (bytes v) = true
 accepted (made k) = true
+accepted (allSound x) = true
+accepted (unsoundAt S x) = true
 accepted (figures c t total h) = true
 accepted (placed x) = true
 accepted (owned o) = true
@@ -94,6 +100,8 @@ number (refused k) = k
 number done = 0
 number (bytes v) = 0
 number (made k) = 0
+number (allSound x) = 0
+number (unsoundAt S x) = 0
 number (figures c t total h) = 0
 number (placed x) = 0
 number (owned o) = 0
@@ -104,6 +112,8 @@ shown (refused k) = []
 shown done = []
 shown (bytes v) = v
 shown (made k) = []
+shown (allSound x) = []
+shown (unsoundAt S x) = []
 shown (figures c t total h) = []
 shown (placed x) = []
 shown (owned o) = []
@@ -114,6 +124,8 @@ count (refused k) = 0
 count done = 0
 count (bytes v) = 0
 count (made k) = k
+count (allSound x) = 0
+count (unsoundAt S x) = 0
 count (figures c t total h) = 0
 count (placed x) = 0
 count (owned o) = 0
@@ -129,14 +141,16 @@ roleBlock Blank = 0
 roleBlock Parity = 0
 roleBlock (Data b) = b
 
--- the numbers beside the first, of a call that has w of them: the count of advance and continue; status's capacity, t, total, health, the
--- disk that is out or being rebuilt and the stripes done; locate's stripe and disk, the disk of the parity in that stripe, and 1 if a move
--- carried the block or else 0; owner's role and block
+-- the numbers beside the first, of a call that has w of them: the count of advance and continue; sweep's 1 and the first unsound stripe, or
+-- 0 and 0, and the stripes read; status's capacity, t, total, health, the disk that is out or being rebuilt and the stripes done; locate's
+-- stripe and disk, the disk of the parity in that stripe, and 1 if a move carried the block or else 0; owner's role and block
 abbrev pub beside : ℕ → Answer → List ℕ
 beside w (refused k) = replicate w 0
 beside w done = []
 beside w (bytes v) = []
 beside w (made k) = k ∷ []
+beside w (allSound x) = 0 ∷ 0 ∷ x ∷ []
+beside w (unsoundAt S x) = 1 ∷ S ∷ x ∷ []
 beside w (figures c t total h) = c ∷ t ∷ total ∷ healthByte h ∷ diskByte h ∷ stripesDone h ∷ []
 beside w (placed x) = x .block .stripe ∷ x .block .disk ∷ x .parity .disk ∷ cond (x .moved) 1 0 ∷ []
 beside w (owned o) = roleNumber o ∷ roleBlock o ∷ []

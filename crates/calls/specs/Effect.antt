@@ -1,4 +1,5 @@
--- What each call answers and stores, and so what it leaves. Document 01, Calls; of begin and continue document 02, (d), of locate (f).
+-- What each call answers and stores, and so what it leaves. Document 01, Calls; of begin and continue document 02, (d), of locate (f), of
+-- sweep (g).
 use Prim.Native.Nat.{ℕ, zero, suc, _+_, _-_, min}
 use mathlib.Core.Bool.{true, false, cond}
 use mathlib.Core.List.{List, [], _∷_, _++_}
@@ -12,11 +13,12 @@ use Rattle.state.specs.declared.Health.the-variants.{Rebuilding}
 use Rattle.state.specs.declared.Record.{Record}
 use Rattle.state.specs.Good.{geometry}
 use Rattle.state.specs.Bytes.{decode, diskByte, stripesDone, encode}
-use Rattle.calls.specs.Call.{Call, format, read, view, write, grow, advance, out, begin, continue, status, locate, owner}
-use Rattle.calls.specs.Call.{Event, fed, Answer, refused, done, bytes, made, figures, placed, owned}
+use Rattle.calls.specs.Call.{Call, format, read, view, write, grow, advance, out, begin, continue, status, locate, owner, sweep}
+use Rattle.calls.specs.Call.{Event, fed, Answer, refused, done, bytes, made, allSound, unsoundAt, figures, placed, owned}
 use Rattle.state.specs.Update.{formatted, grownBy, withMoves, withHealth}
 use Rattle.calls.specs.Health.{absent, afterOut, rebuiltTo}
 use Rattle.calls.specs.Images.{placeIn, othersIn, seen, Store, block, header, storedIn, recorded, unless, fillDisk, zeroDisks}
+use Rattle.calls.specs.Sound.{unsoundStripes}
 use Rattle.calls.specs.Table.{idle, refusalOf, refusalBytes}
 
 -- ---- where block b stands. Document 02, (f): "The place rule, and with it locate, now answers block place, parity place and whether a
@@ -109,6 +111,14 @@ continueStores k r img =
     let more = stripesMade k r in
     fillDisk first more d (λ S. othersIn r img S d) ++ header (withHealth r (rebuiltTo (r .stripes) d (first + more))) ∷ []
 
+-- ---- sweep
+
+-- of T stripes, and the list of those that are unsound: "the stripe is the head of the list of all unsound stripes, or none if that list is
+-- empty"; "the stripes read (its number plus 1, or T where there is none)"
+abbrev pub sweptTo : ℕ → List ℕ → Answer
+sweptTo T [] = allSound T
+sweptTo T (S ∷ more) = unsoundAt S (S + 1)
+
 -- ---- what a call does: it tells something and leaves everything as it was lent; or it answers bytes and fills the lent block or scratch;
 -- or it makes stores, in order, into images of `shape`'s stripes and block length
 
@@ -141,6 +151,8 @@ effect status r e = tells (figures (capacity (geometry r)) (r .moves) (totalOf (
 effect (locate b) r e = tells (placed (standing r b))
 -- "the block number there, or parity, or blank"
 effect (owner S d) r e = tells (owned (layout (geometry r) .owner S d))
+-- "gives the stripe and the stripes read"
+effect sweep r e = tells (sweptTo (r .stripes) (unsoundStripes r (e .images)))
 
 -- what comes of it: the answer, and what is left of the record, the images, and the block or scratch
 

@@ -15,7 +15,7 @@ use Rattle.state.specs.declared.Record.{Record}
 use Rattle.state.specs.Good.{geometry, GoodRecord}
 use Rattle.state.specs.Bytes.{encode}
 use Rattle.calls.specs.Call.{Call, column, format, read, view, write, grow, advance, out, begin, continue}
-use Rattle.calls.specs.Call.{status, locate, owner, feed}
+use Rattle.calls.specs.Call.{status, locate, owner, sweep, feed}
 use Rattle.calls.specs.Table.{refusal, refusalBytes}
 
 -- a number, and what it is given for
@@ -39,7 +39,8 @@ NotLong r N len = len ≢ N * (r .stripes * r .block)
 abbrev pub Rebuilds : Health → Type 0
 Rebuilds h = (o : ℕ) × (c : ℕ) × (h ≡ Rebuilding o c)
 
--- how the rows of many calls begin: 1, "not good"; 2, "health lost"; 3, "a disk out", "Grow and advance still see degraded"
+-- how the rows of many calls begin: 1, "not good"; 2, "health lost"; 3, "a disk out", "Grow and advance still see degraded",
+-- and sweep "also while rebuilding"
 abbrev pub bad : Record → Reason
 bad r = (1, (GoodRecord r → ⊥))
 
@@ -82,6 +83,9 @@ pub record Numbered : Type 0 where
   -- 10, "unless rebuilding"; k is no matter
   pub of-continue : (r : Record) (c len room k : ℕ) → Gives (refusal r c (feed (continue k) len room))
       (bad r ∷ lost r ∷ (7, NotLong r (r .old + r .new) len) ∷ (10, ¬ Rebuilds (r .health)) ∷ [])
+  -- "1, 2, 3, 7 as for advance; 3 also while rebuilding"
+  pub of-sweep : (r : Record) (c len room : ℕ) → Gives (refusal r c (feed sweep len room))
+      (bad r ∷ lost r ∷ degraded r ∷ (7, NotLong r (r .old + r .new) len) ∷ [])
   pub of-status : (r : Record) (c len room : ℕ) → Gives (refusal r c (feed status len room)) (bad r ∷ [])
   -- 8, "block number at or above capacity"
   pub of-locate : (r : Record) (c len room b : ℕ) → Gives (refusal r c (feed (locate b) len room)) (bad r ∷ (8, c ≤ b) ∷ [])

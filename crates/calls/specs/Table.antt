@@ -10,7 +10,7 @@ use Rattle.state.specs.declared.Record.{Record}
 use Rattle.state.specs.Good.{geometry, oldGood, newGood, blockGood, stripesGood, good}
 use Rattle.state.specs.Bytes.{recordLength, decode, goodBytes}
 use Rattle.calls.specs.Call.{Call, sameCall, format, read, view, write, grow, advance, out, begin, continue}
-use Rattle.calls.specs.Call.{status, locate, owner, Fed}
+use Rattle.calls.specs.Call.{status, locate, owner, sweep, Fed}
 use Rattle.calls.specs.Health.{isLost, isDegraded, isOut, isRebuilding}
 use Rattle.calls.specs.Images.{disksOf, size, sizeWith}
 
@@ -28,7 +28,7 @@ badRecord bad = (1, bad)
 abbrev pub lost : Record → Row
 lost r = (2, isLost (r .health))
 
--- "a disk out" (document 02, (d): "Grow and advance still see degraded.")
+-- "a disk out" (document 02, (d): "Grow and advance still see degraded."; (g) of sweep: "3 also while rebuilding")
 abbrev pub degraded : Record → Row
 degraded r = (3, isDegraded (r .health))
 
@@ -102,6 +102,7 @@ terms (continue k) r = asking (lost r ∷ []) (those (size r)) (λ c room. disk 
 terms status r = asking [] nothing none
 terms (locate b) r = asking [] nothing (λ c room. pastEnd b c ∷ [])
 terms (owner S d) r = asking [] nothing (λ c room. pastEnd S (r .stripes) ∷ disk (not (ltb d (disksOf r))) ∷ [])
+terms sweep r = asking (lost r ∷ degraded r ∷ []) (those (size r)) none
 
 abbrev pub imagesRow : Takes → ℕ → List Row
 imagesRow nothing len = []

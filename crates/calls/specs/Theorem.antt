@@ -14,7 +14,7 @@ use Rattle.state.specs.declared.Health.the-variants.{Rebuilding}
 use Rattle.state.specs.declared.Health.{Health}
 use Rattle.state.specs.declared.Record.{Record}
 use Rattle.state.specs.Bytes.{healthByte, diskByte, stripesDone, encode}
-use Rattle.calls.specs.Call.{Event, fed, Answer, refused, done, bytes, made, figures, placed, owned}
+use Rattle.calls.specs.Call.{Event, fed, Answer, refused, done, bytes, made, allSound, unsoundAt, figures, placed, owned}
 use Rattle.calls.specs.Call.{accepted, number, shown, count, beside}
 use Rattle.calls.specs.Images.{othersIn, Store, block, header, storedIn, recorded}
 use Rattle.calls.specs.Table.{Row, word, rowsBytes, refusalBytes}
@@ -92,6 +92,8 @@ pub record Values : Type 0 where
   pub accepts : (a : Answer) → accepted a ≡ true → number a ≡ 0
   -- the count of advance and continue
   pub counts : (w k : ℕ) → (beside w (made k) ≡ k ∷ []) × (count (made k) ≡ k) × (count (refused k) ≡ 0)
+  -- sweep's: none found, and all stripes read; or one found, which it is, and the stripes read
+  pub sweeps : (w S x : ℕ) → (beside w (allSound x) ≡ 0 ∷ 0 ∷ x ∷ []) × (beside w (unsoundAt S x) ≡ 1 ∷ S ∷ x ∷ [])
   -- status's capacity, t, total, health, the disk that is out or being rebuilt and the stripes done
   pub statuses : (w c t total : ℕ) (h : Health)
       → beside w (figures c t total h) ≡ c ∷ t ∷ total ∷ healthByte h ∷ diskByte h ∷ stripesDone h ∷ []

@@ -1,19 +1,22 @@
--- Demand 3, proved: `demand3`, `may-be-lent`, `flat-list`, `always-fair`, `last-given`, `zero-at-first` and `second-out`. Assumes nothing.
-use Prim.Native.Nat.{ℕ}
-use mathlib.Core.Path.{_≡_, refl, ap, _∙_}
+-- Demand 3, proved: `demand3`, `may-be-lent`, `flat-list`, `always-fair`, `nothing-found`, `last-given`, `zero-at-first` and `second-out`.
+-- Assumes nothing.
+use Prim.Native.Nat.{ℕ, zero, suc}
+use mathlib.Core.Path.{_≡_, refl, sym, ap, _∙_, subst}
 use mathlib.Core.List.{List, [], _∷_, map}
 use mathlib.Core.Bool.{true}
+use native.Mathlib.Omega.{arith}
 use lib.ListN.{length}
 use Rattle.blocks.specs.Block.{zeros}
 use Rattle.state.specs.declared.Health.the-variants.{Lost}
 use Rattle.state.specs.declared.Record.{Record}
 use Rattle.state.specs.Good.{good}
 use Rattle.state.proofs.Laws.Bytes.{decode-encode}
-use Rattle.calls.specs.Call.{format, write, out, Event, Fed, fed, Answer, accepted}
+use Rattle.calls.specs.Call.{Call, column, format, write, out, sweep, Event, Fed, fed, Answer, allSound, accepted}
 use Rattle.calls.specs.Images.{size}
-use Rattle.history.specs.Flat.{Flat, fallen, flatStep}
+use Rattle.calls.specs.Table.{refusal}
+use Rattle.history.specs.Flat.{Flat, fallen, flatAct, flatSettle, flatStep}
 use Rattle.history.specs.Lent.{Form, asBytes, asRecord, Cabinet, leaves, next}
-use Rattle.history.specs.Theorem.{tally, Claim, Claims, opening, Demand3On, Demand3, MayBeLent, Fair, outcomes, flatOutcomes, FlatListOn, FlatList, LentAsLeft, AlwaysFairOn, AlwaysFair, LastGiven, ZeroAtFirst, NoReads, SecondOut}
+use Rattle.history.specs.Theorem.{tally, Claim, Claims, opening, Demand3On, Demand3, MayBeLent, Fair, outcomes, flatOutcomes, FlatListOn, FlatList, LentAsLeft, AlwaysFairOn, AlwaysFair, FindsNothing, NothingFoundOn, NothingFound, LastGiven, ZeroAtFirst, NoReads, SecondOut}
 use Rattle.history.proofs.Laws.Claim.{on-bytes}
 use Rattle.history.proofs.Laws.Records.{on-records}
 use Rattle.history.proofs.Laws.Lending.{free-to-lend}
@@ -71,6 +74,50 @@ module _ {R : Type 0} (x : Form R) (back : (r : Record) → x .decoded (x .encod
 
 pub always-fair : AlwaysFair
 always-fair = (all-fair asBytes decode-encode (demand3 .0), all-fair asRecord (λ r. refl) (demand3 .1))
+
+-- ---- a sweep finds nothing
+
+-- on the flat list
+flat-finds : (e : Fed) (f : Flat) → e .call ≡ sweep → accepted (flatStep e f .0) ≡ true → flatStep e f .0 ≡ allSound (f .numbers .stripes)
+unfolding flatStep flatAct
+flat-finds e f q = subst (λ (c : Call). accepted (Y c n .0) ≡ true → Y c n .0 ≡ allSound (f .numbers .stripes)) (sym q) (go n)
+  where
+    n : ℕ
+    n = refusal (f .numbers) (length (f .blocks)) e
+
+    Y : Call → ℕ → Answer × Flat
+    Y c k = flatSettle k f (flatAct c (f .numbers) (f .blocks))
+
+    go : (k : ℕ) → accepted (Y sweep k .0) ≡ true → Y sweep k .0 ≡ allSound (f .numbers .stripes)
+    go zero u = refl
+    go (suc k) u = absurd (let w : _≡_ {A = ℕ} 0 1 = cc in omega arith)
+
+module _ {R : Type 0} (x : Form R) (back : (r : Record) → x .decoded (x .encoded r) ≡ r) where
+  finds : (e : Event) (a : Cabinet R) (f : Flat) (sum : ℕ) → Claim x e a f sum → a .rec ≡ x .encoded (f .numbers)
+      → e .call ≡ sweep → accepted (leaves x e a .answer) ≡ true → leaves x e a .answer ≡ allSound (x .decoded (a .rec) .stripes)
+  finds e a f sum c same q u =
+      let r-is : x .decoded (a .rec) ≡ f .numbers = ap (x .decoded) same ∙ back (f .numbers) in
+      c .answer ∙ flat-finds (fed e) f q (ap accepted (sym (c .answer)) ∙ u) ∙ ap (λ (r : Record). allSound (r .stripes)) (sym r-is)
+
+  finds-on : (es : List Event) (a : Cabinet R) (f : Flat) (sum : ℕ) → Claims x es a f sum → Fair x es a f → a .rec ≡ x .encoded (f .numbers) → FindsNothing x es a
+  unfolding Claims Fair FindsNothing next
+  finds-on [] a f sum c l same = tt
+  finds-on (e ∷ es) a f sum c l same =
+      let after : ℕ = tally (e .call) (leaves x e a .answer) sum in
+      let z = c (l .0) in
+      (finds e a f after (z .0) same, finds-on es (next x e a) (flatStep (fed e) f .1) after (z .1) (l .1) (z .0 .fields))
+
+  -- the opening is no sweep
+  finds-nothing : Demand3On x → NothingFoundOn x
+  unfolding Claims Fair FindsNothing next
+  finds-nothing d a f n B T img room u es l =
+      let e : Event = opening n B T img room in
+      let after : ℕ = tally (e .call) (leaves x e a .answer) 0 in
+      let z = d a f 0 n B T img room u es (l .0) in
+      ((λ q v. absurd (let w : _≡_ {A = ℕ} 0 12 = ap column q in omega arith)), finds-on es (next x e a) (flatStep (fed e) f .1) after (z .1) (l .1) (z .0 .fields))
+
+pub nothing-found : NothingFound
+nothing-found = (finds-nothing asBytes decode-encode (demand3 .0), finds-nothing asRecord (λ r. refl) (demand3 .1))
 
 -- ---- what a block was last given
 

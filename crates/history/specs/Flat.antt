@@ -13,8 +13,8 @@ use Rattle.state.specs.declared.Health.{Health}
 use Rattle.state.specs.declared.Record.{Record}
 use Rattle.state.specs.Good.{geometry}
 use Rattle.state.specs.Bytes.{stripesDone}
-use Rattle.calls.specs.Call.{Call, format, read, view, write, grow, advance, out, begin, continue, status, locate, owner, Fed}
-use Rattle.calls.specs.Call.{Answer, refused, done, bytes, made, figures, placed, owned}
+use Rattle.calls.specs.Call.{Call, format, read, view, write, grow, advance, out, begin, continue, status, locate, owner, sweep, Fed}
+use Rattle.calls.specs.Call.{Answer, refused, done, bytes, made, allSound, figures, placed, owned}
 use Rattle.calls.specs.Table.{refusal}
 
 pub record Flat : Type 0 where
@@ -89,6 +89,8 @@ flatAct (continue k) r bs =
 flatAct status r bs = (figures (length bs) (r .moves) (totalOf (geometry r)) (r .health), flat r bs)
 flatAct (locate b) r bs = (placed (layout (geometry r) .place b), flat r bs)
 flatAct (owner S d) r bs = (owned (layout (geometry r) .owner S d), flat r bs)
+-- "none", and "the stripes read (.. T where there is none)": the flat list has no stripe that could be unsound
+flatAct sweep r bs = (allSound (r .stripes), flat r bs)
 
 -- "Refused: the table, read on these numbers, gives the number .. Nothing changes."
 abbrev pub flatSettle : ℕ → Flat → Answer × Flat → Answer × Flat

@@ -6,9 +6,9 @@
 -- disk out while the first is not rebuilt refuses all reads until a new format." (That number is the total, of which document 02, (a),
 -- says: "The total becomes (T div (n × (n + m))) × n × n × m". Of a rebuild (d) says: "The disk may hold any bytes only in stripes not yet
 -- rebuilt, and reads still follow the flat list.")
--- The statement is `Demand3`; behind it stand `MayBeLent`, `FlatList`, `AlwaysFair`, `LastGiven`, `ZeroAtFirst` and
--- `SecondOut`. `demand3`, `may-be-lent`, `flat-list`, `always-fair`, `last-given`, `zero-at-first` and `second-out` of proofs/Theorem.antt
--- prove them, and assume nothing.
+-- The statement is `Demand3`; behind it stand `MayBeLent`, `FlatList`, `AlwaysFair`, `NothingFound`, `LastGiven`, `ZeroAtFirst` and
+-- `SecondOut`. `demand3`, `may-be-lent`, `flat-list`, `always-fair`, `nothing-found`, `last-given`, `zero-at-first` and `second-out` of
+-- proofs/Theorem.antt prove them, and assume nothing.
 use Prim.Native.Nat.{ℕ, suc, _+_, _<_}
 use mathlib.Core.Path.{_≡_}
 use mathlib.Core.Bool.{true, false, cond, _||_}
@@ -20,8 +20,8 @@ use Rattle.blocks.specs.Block.{zeros}
 use Rattle.state.specs.declared.Health.the-variants.{Out, Lost, Rebuilding}
 use Rattle.state.specs.declared.Record.{Record}
 use Rattle.state.specs.Good.{geometry, good}
-use Rattle.calls.specs.Call.{Call, sameCall, format, read, view, write, grow, advance, out}
-use Rattle.calls.specs.Call.{Event, Fed, fed, Answer, refused, bytes, accepted, count}
+use Rattle.calls.specs.Call.{Call, sameCall, format, read, view, write, grow, advance, out, sweep}
+use Rattle.calls.specs.Call.{Event, Fed, fed, Answer, refused, bytes, allSound, accepted, count}
 use Rattle.calls.specs.Health.{isLost, absent}
 use Rattle.calls.specs.Images.{disksOf, size, placeIn, seen}
 use Rattle.calls.specs.Table.{nothing, those, idle, refusal}
@@ -43,7 +43,7 @@ tally c a sum = cond (accepted a) (tallied c (count a) sum) sum
 
 pub record Claim {R : Type 0} (x : Form R) (e : Event) (a : Cabinet R) (f : Flat) (sum : ℕ) : Type 0 where
   -- "the number; the bytes that read fills in or view returns; the count of advance; the answers of status, locate and owner"; the count
-  -- of continue too
+  -- of continue, and what sweep answers, too
   pub answer : leaves x e a .answer ≡ flatStep (fed e) f .0
   pub filled : (b : ℕ) → e .call ≡ read b → accepted (leaves x e a .answer) ≡ true → leaves x e a .answer ≡ bytes (leaves x e a .room)
   -- "as a part of the images, or, if its disk is out, as the lent scratch filled with it. Scratch is else untouched."
@@ -170,6 +170,22 @@ AlwaysFairOn {R} x =
 
 abbrev pub AlwaysFair : Type 0
 AlwaysFair = AlwaysFairOn asBytes × AlwaysFairOn asRecord
+
+-- ---- from a format on a sweep never finds anything: every one that is let through answers none, and all T stripes read
+
+unfoldable pub FindsNothing : {R : Type 0} → Form R → List Event → Cabinet R → Type 0
+FindsNothing x [] a = Unit
+FindsNothing x (e ∷ es) a =
+    (e .call ≡ sweep → accepted (leaves x e a .answer) ≡ true → leaves x e a .answer ≡ allSound (x .decoded (a .rec) .stripes))
+    × FindsNothing x es (next x e a)
+
+abbrev pub NothingFoundOn : {R : Type 0} → Form R → Type 0
+NothingFoundOn {R} x =
+    (a : Cabinet R) (f : Flat) (n B T : ℕ) (img room : List ℕ) → accepted (leaves x (opening n B T img room) a .answer) ≡ true
+    → (es : List Event) → Fair x (opening n B T img room ∷ es) a f → FindsNothing x (opening n B T img room ∷ es) a
+
+abbrev pub NothingFound : Type 0
+NothingFound = NothingFoundOn asBytes × NothingFoundOn asRecord
 
 -- ---- in the mills' words: the flat list is, "zero at first, of what each block was last given". (This and the rest is
 -- said of the flat list; by `FlatList` it holds of the array.)

@@ -1,7 +1,7 @@
 // Where the contents of a stripe stand after t moves, by the closed form.
 ghost use Prim.Native.Nat.{_<_};
 ghost use mathlib.Core.Path.{_≡_};
-ghost use Rattle.layout.specs.Closed.{stripeOf, lag, carriedTo, source};
+ghost use Rattle.layout.specs.Closed.{stripeOf, lag, carriedTo, source, taken};
 ghost use Rattle.layout.specs.Limits.{Sizes, TakenApart};
 use crate::Carried;
 use crate::Stripe;
@@ -9,7 +9,7 @@ use crate::choice::both;
 use crate::choice::excess;
 use crate::choice::pick;
 
-pub(crate) fn stripe_of(n: u32, m: u32, s: u32) -> Stripe
+pub fn stripe_of(n: u32, m: u32, s: u32) -> Stripe
     requires { ⌜ Sizes n m s ⌝ }
     ensures { λ r. ⌜ r ≡ stripeOf n m s ⌝ }
 {
@@ -53,4 +53,13 @@ pub(crate) fn source_of(n: u32, m: u32, x: Stripe, e: u32) -> u32
     let i = excess(e, x.within);
     let d = lag_of(n, m, x, pick(n <= i, 0, i));
     pick(e < n, e, d)
+}
+
+// Does anything of before the growth stand on disk e after t moves?
+pub fn is_taken(n: u32, m: u32, t: u32, x: Stripe, e: u32) -> bool
+    requires { ⌜ TakenApart n m x ⌝ }
+    ensures { λ r. ⌜ r ≡ taken n m t (x .number) e ⌝ }
+{
+    let there = carried_to(n, m, t, x, source_of(n, m, x, e));
+    there.disk == e
 }

@@ -71,7 +71,7 @@ fn finished_zones(g: Geometry) -> u32
 }
 
 // The stripes whose blanks are new blocks. (While moves are left there are new disks.)
-fn open_stripes(g: Geometry) -> u32
+pub fn open_stripes(g: Geometry) -> u32
     requires { ⌜ GoodArray g ⌝ }
     ensures { λ r. ⌜ r ≡ openStripes g ⌝ }
 {

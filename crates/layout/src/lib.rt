@@ -10,10 +10,13 @@ mod home;
 mod layout;
 mod moves;
 
+pub use closed::is_taken;
+pub use closed::stripe_of;
 pub use layout::all_moved;
 pub use layout::capacity_of;
 pub use layout::has_block;
 pub use layout::moves_fit;
+pub use layout::open_stripes;
 pub use layout::owner_of;
 pub use layout::place_of;
 pub use layout::slot_of;

@@ -35,6 +35,11 @@ place-fits r s d l ls ld =
     let n : disksOf r ≤ 32 = omega (arith, a .disks .n-high, a .disks .m-high) in
     omega (arith, place-in (r .block) (r .stripes) s d (disksOf r) ls ld, bounded (disksOf r) (r .stripes) (r .block) n (a .stripes-high) (l .block-high) .all)
 
+-- and ends inside the images
+pub place-ends : (r : Record) (s d : ℕ) {at len : ℕ} → s < r .stripes → d < disksOf r → len ≡ size r → at ≡ offset (r .block) (r .stripes) s d
+    → at + r .block ≤ len
+place-ends r s d ls ld long q = rw (q, long) (place-in (r .block) (r .stripes) s d (disksOf r) ls ld)
+
 -- block b stands as y says, inside the images, and its parity on another disk
 pub record Reached (r : Record) (len b room : ℕ) (y : Standing) : Type 0 where
   pub limits : GoodRecord r

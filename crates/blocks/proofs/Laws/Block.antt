@@ -6,7 +6,7 @@ use mathlib.Core.List.{List, [], _∷_, _++_}
 use native.Mathlib.Nat.{zero-add, suc-add}
 use native.Mathlib.Omega.{arith}
 use lib.ListN.{length, getD, set, take, drop, length-drop, length-replicate, replicate-append-replicate}
-use lib.Seq.{length-take-le, getD-take, getD-drop, take-take, take-add, drop-drop}
+use lib.Seq.{length-take-le, getD-take, getD-drop, take-all, take-take, take-add, drop-drop}
 use Rattle.blocks.specs.Block.{blockAt, store, zeros, Disjoint}
 
 pub length-store : (l : List ℕ) (at : ℕ) (b : List ℕ) → length (store l at b) ≡ length l
@@ -98,6 +98,10 @@ length-blockAt l at n h = length-take-le n (drop at l) (simp length-drop (omega 
 
 pub getD-blockAt : (l : List ℕ) (at n i : ℕ) → i < n → getD (blockAt l at n) i 0 ≡ getD l (at + i) 0
 getD-blockAt l at n i h = rw (getD-take, getD-drop)
+
+-- a whole list is a block
+pub blockAt-whole : (l : List ℕ) (n : ℕ) → length l ≡ n → blockAt l 0 n ≡ l
+blockAt-whole l n e = take-all n l (omega arith)
 
 -- a part of a block is a part of the list
 drop-take : (l : List ℕ) (B at n : ℕ) → at + n ≤ B → take n (drop at (take B l)) ≡ take n (drop at l)

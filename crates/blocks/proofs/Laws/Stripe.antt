@@ -117,6 +117,14 @@ others-in B T l S N d ne =
 pub others-out : (B T : ℕ) (l : List ℕ) (S N d : ℕ) → N ≡ d → others B T l S (suc N) d ≡ others B T l S N d
 others-out B T l S N d e = ap (xorAll B) (without-snoc-same (stripe B T l S N) (place B T l S N) d (sym e ∙ sym (length-stripe B T l S N)))
 
+-- if d is none of the N disks, none is left out
+pub others-all : (B T : ℕ) (l : List ℕ) (S N d : ℕ) → N ≤ d → others B T l S N d ≡ xorAll B (stripe B T l S N)
+others-all B T l S zero d h = refl
+others-all B T l S (suc N) d h =
+    others-in B T l S N d (λ e. absurd (omega arith))
+    ∙ ap (λ (b : List ℕ). xorB b (place B T l S N)) (others-all B T l S N d (omega arith))
+    ∙ sym (xorAll-snoc B (stripe B T l S N) (place B T l S N))
+
 pub length-others : (B T : ℕ) (l : List ℕ) (S N d : ℕ) → length (others B T l S N d) ≡ B
 length-others B T l S zero d = length-replicate B 0
 length-others B T l S (suc N) d =

@@ -2,7 +2,7 @@
 use Prim.Native.Nat.{ℕ, zero, suc, _+_, _≤_, _<_}
 use mathlib.Core.Path.{_≡_, sym, ap, ap₂, _∙_}
 use mathlib.Core.Bool.{cond}
-use mathlib.Core.Logic.{_≢_, _⊎_, inl, inr}
+use mathlib.Core.Logic.{_≢_, _⊎_, inl, inr, ⊎-elim}
 use mathlib.Core.List.{List}
 use native.Mathlib.Nat.{le-antisymm}
 use native.Mathlib.Numerals.{add-one}
@@ -14,7 +14,7 @@ use Rattle.blocks.specs.Block.{blockAt, zeros}
 use Rattle.blocks.specs.Xor.{xorB}
 use Rattle.blocks.specs.Stripe.{offset, place, others}
 use Rattle.blocks.specs.declared.Group.{Group}
-use Rattle.blocks.specs.Sum.{sumTo, Begun}
+use Rattle.blocks.specs.Sum.{sumTo, Begun, GroupBegun, PartBegun}
 use Rattle.blocks.proofs.Laws.Block.{blockAt-within, blockAt-zeros}
 use Rattle.blocks.proofs.Laws.Xor.{blockAt-xorB}
 use Rattle.blocks.proofs.Laws.Stripe.{others-in, others-out, length-others}
@@ -28,6 +28,10 @@ begun l B x b at n h o = go (x .first) o
     go zero q = sym (blockAt-zeros B at n h)
     go (suc k) (inl e) = absurd (omega arith)
     go (suc k) (inr q) = rw (ne-eqb (suc k) 0 (λ (e : suc k ≡ 0). absurd (omega arith))) q
+
+-- a part of a block begins as the block does
+pub begun-part : (x : Group) (l b : List ℕ) (at n : ℕ) → GroupBegun x l b → at + n ≤ length b → PartBegun x l b at n
+begun-part x l b at n g h = (g .0, h, ⊎-elim inl (λ q. inr (ap (λ (r : List ℕ). blockAt r at n) q)) (g .1))
 
 -- after the turns up to disk d b is the xor of the places of the first d disks but `out`; before the first it is anything
 pub record Summed (l : List ℕ) (N T S out B : ℕ) (b : List ℕ) (d : ℕ) : Type 0 where

@@ -6,7 +6,7 @@ use mathlib.Core.List.{List}
 use Rattle.layout.specs.Layout.{layout}
 use Rattle.state.specs.declared.Record.{Record}
 use Rattle.state.specs.Good.{geometry}
-use Rattle.calls.specs.Call.{read, view, advance, Event, Answer, refused, done, bytes, made, figures, placed, owned, accepted, number}
+use Rattle.calls.specs.Call.{read, view, advance, Event, Answer, refused, done, bytes, made, allSound, unsoundAt, figures, placed, owned, accepted, number}
 use Rattle.calls.specs.Health.{absent}
 use Rattle.calls.specs.Images.{placeIn, stored, recorded}
 use Rattle.calls.specs.Effect.{placeOf, viewOf, scratchLeft, advanceStores, parityAfter, effect, act}
@@ -17,6 +17,8 @@ zero-done (refused k) q = let z : k ≡ 0 = cc in z
 zero-done done q = refl
 zero-done (bytes v) q = refl
 zero-done (made k) q = refl
+zero-done (allSound x) q = refl
+zero-done (unsoundAt S x) q = refl
 zero-done (figures c t total h) q = refl
 zero-done (placed p) q = refl
 zero-done (owned o) q = refl

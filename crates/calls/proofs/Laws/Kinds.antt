@@ -11,13 +11,14 @@ use Rattle.layout.proofs.Laws.Layout.{lawful}
 use Rattle.blocks.proofs.Laws.Stripe.{length-others}
 use Rattle.state.specs.declared.Record.{Record}
 use Rattle.state.specs.Good.{geometry, GoodRecord}
-use Rattle.calls.specs.Call.{Call, format, read, view, write, grow, advance, out, begin, continue, status, locate, owner}
+use Rattle.calls.specs.Call.{Call, format, read, view, write, grow, advance, out, begin, continue, status, locate, owner, sweep}
 use Rattle.calls.specs.Call.{Event, Fed, feed, Answer, accepted, number, done}
 use Rattle.state.specs.Update.{formatted, grownBy}
 use Rattle.calls.specs.Health.{absent}
 use Rattle.calls.specs.Images.{disksOf, othersIn, Store, header, stored, storedIn, recorded, zeroDisks}
+use Rattle.calls.specs.Sound.{unsoundStripes}
 use Rattle.calls.specs.Table.{looks, refusalOf}
-use Rattle.calls.specs.Effect.{placeOf, scratchLeft, writeStores, advanceStores, continueStores, Effect, tells, fills, stores, effect, answerOf, recordLeft, imagesLeft, roomLeft}
+use Rattle.calls.specs.Effect.{placeOf, scratchLeft, writeStores, advanceStores, continueStores, sweptTo, Effect, tells, fills, stores, effect, answerOf, recordLeft, imagesLeft, roomLeft}
 use Rattle.calls.specs.Alone.{Inside, StoresInside, FillsRoom, read-fills, view-fills}
 use Rattle.calls.specs.Alone.{StoresBlocks, format-stores, write-stores, grow-stores, advance-stores, continue-stores}
 use Rattle.calls.specs.Acts.{StoresRecord, format-records, grow-records, advance-records, out-records, begin-records, continue-records}
@@ -29,6 +30,11 @@ use Rattle.calls.proofs.Laws.Passed as passed
 use Rattle.calls.proofs.Laws.Passed.{Formats, Reaches, Grows, Moves, Continues, in-limits}
 use Rattle.calls.proofs.Laws.Kept.{inside-within, within-advance}
 use Rattle.calls.proofs.Laws.Rebuild.{within-remade, stores-are}
+
+-- a sweep answers, whatever it finds
+swept-accepted : (T : ℕ) (l : List ℕ) → accepted (sweptTo T l) ≡ true
+swept-accepted T [] = refl
+swept-accepted T (S ∷ more) = refl
 
 -- a record stored behind blocks
 within-last : (N B T : ℕ) (ps : List Store) (x : Record) → Within N B T ps → Within N B T (ps ++ header x ∷ [])
@@ -198,6 +204,7 @@ module _ (r : Record) (e : Event) where
   facts status = telling status _ refl
   facts (locate b) = telling (locate b) _ refl
   facts (owner S d) = telling (owner S d) _ refl
+  facts sweep = telling sweep _ (swept-accepted (r .stripes) (unsoundStripes r (e .images)))
 
 -- "0 is done"
 pub numbered : (r : Record) (e : Event) (c : Call) → number (answerOf (effect c r e)) ≡ 0

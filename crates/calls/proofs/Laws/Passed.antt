@@ -12,7 +12,7 @@ use Rattle.layout.specs.Layout.{capacity}
 use Rattle.state.specs.Good.{geometry, newGood, good, GoodRecord}
 use Rattle.state.specs.Bytes.{recordLength, decode, goodBytes}
 use Rattle.state.proofs.Laws.Good.{limits}
-use Rattle.calls.specs.Call.{Call, Fed, format, read, view, write, grow, advance, out, begin, continue, locate, owner}
+use Rattle.calls.specs.Call.{Call, Fed, format, read, view, write, grow, advance, out, begin, continue, locate, owner, sweep}
 use Rattle.calls.specs.Health.{isLost, isDegraded, isOut, isRebuilding}
 use Rattle.calls.specs.Images.{disksOf, size, sizeWith}
 use Rattle.calls.specs.Table.{idle, formable, looks, terms, laterRows, word, table, refusal, rowsBytes, refusalBytes}
@@ -59,6 +59,10 @@ pub record Continues (r : Record) (len : ℕ) : Type 0 where
 pub record Owns (r : Record) (S d : ℕ) : Type 0 where
   pub stripe-lt : S < r .stripes
   pub disk-lt : d < disksOf r
+
+pub record SweepsAll (r : Record) (len : ℕ) : Type 0 where
+  pub all-in : r .health ≡ Whole
+  pub long : len ≡ size r
 
 -- ---- row 1, of every call
 
@@ -168,6 +172,14 @@ module _ (r : Record) (c len room : ℕ) where
       let (p₈, z₈) = passes (not (ltb S (r .stripes))) 7 _ z in
       let (p₁₀, z₁₀) = passes (not (ltb d (disksOf r))) 9 _ z₈ in
       record { stripe-lt = below S (r .stripes) p₈; disk-lt = below d (disksOf r) p₁₀ }
+
+  pub sweeps : word (laterRows sweep r c len room) ≡ 0 → SweepsAll r len
+  unfolding laterRows terms
+  sweeps z =
+      let (p₂, z₂) = passes (isLost (r .health)) 1 _ z in
+      let (p₃, z₃) = passes (isDegraded (r .health)) 2 _ z₂ in
+      let (p₇, z₇) = passes (not (eqb len (size r))) 6 _ z₃ in
+      record { all-in = all-in (r .health) p₃; long = equal len (size r) p₇ }
 
 pub writes : (r : Record) (c len room b : ℕ) (v : List ℕ) → word (laterRows (write b v) r c len room) ≡ 0 → Reaches r c len b (length v)
 unfolding laterRows terms

@@ -19,12 +19,11 @@ use Rattle.calls.specs.Sound.{seenStripe, Sound}
 use Rattle.calls.proofs.Laws.Column.{fits-blank, Even, Holds, seen-is}
 use Rattle.calls.proofs.Laws.Holding.{Holding, bytesAt, cellIn, single, length-seen, getD-seen}
 
-module _ (r : Record) (img : List ℕ) (bs : List (List ℕ)) (h : Holding r img bs) (nl : isLost (r .health) ≡ false) (S : ℕ) (lS : S < r .stripes) where
-  -- a block is zeroes if each of its bytes is
-  zeroes : (v : List ℕ) → length v ≡ r .block → ((j : ℕ) → j < r .block → getD v j 0 ≡ 0) → v ≡ zeros (r .block)
-  zeroes v len z =
-      ext-getD 0 v (zeros (r .block)) (len ∙ sym (length-replicate {A = ℕ} (r .block) 0)) (λ j l. z j (rw len at l) ∙ sym (getD-zeros (r .block) j))
+-- a block is zeroes if each of its bytes is
+pub zeroes : (B : ℕ) (v : List ℕ) → length v ≡ B → ((j : ℕ) → j < B → getD v j 0 ≡ 0) → v ≡ zeros B
+zeroes B v len z = ext-getD 0 v (zeros B) (len ∙ sym (length-replicate {A = ℕ} B 0)) (λ j l. z j (rw len at l) ∙ sym (getD-zeros B j))
 
+module _ (r : Record) (img : List ℕ) (bs : List (List ℕ)) (h : Holding r img bs) (nl : isLost (r .health) ≡ false) (S : ℕ) (lS : S < r .stripes) where
   -- what is seen is what the grid holds
   seen-grid : (j : ℕ) (lj : j < r .block) (d : ℕ) → d < disksOf r → getD (seen r img S d) j 0 ≡ h .stored nl j lj .grid S d
   seen-grid j lj d ld =
@@ -51,11 +50,11 @@ module _ (r : Record) (img : List ℕ) (bs : List (List ℕ)) (h : Holding r img
   sound =
       record {
         xor =
-            zeroes (xorAll (r .block) (seenStripe r img S (disksOf r))) (length-all (disksOf r) (omega arith))
+            zeroes (r .block) (xorAll (r .block) (seenStripe r img S (disksOf r))) (length-all (disksOf r) (omega arith))
             (λ j lj.
             getD-all j (disksOf r) (omega arith)
             ∙ sum-ext (disksOf r) (λ d. getD (seen r img S d) j 0) (h .stored nl j lj .grid S) (λ d ld. seen-grid j lj d ld) ∙ h .stored nl j lj .even S lS);
         blanks = λ d ld o.
-            zeroes (seen r img S d) (length-seen r img S d (h .long) lS ld)
+            zeroes (r .block) (seen r img S d) (length-seen r img S d (h .long) lS ld)
             (λ j lj. seen-grid j lj d ld ∙ fits-blank (bytesAt j bs) (layout (geometry r) .owner S d) (h .stored nl j lj .grid S d) o (h .stored nl j lj .holds S d lS ld));
       }

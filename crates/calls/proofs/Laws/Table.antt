@@ -17,7 +17,7 @@ use Rattle.state.specs.declared.Health.the-variants.{Lost}
 use Rattle.state.specs.declared.Record.{Record}
 use Rattle.state.specs.Good.{newGood, good}
 use Rattle.calls.specs.Call.{Call, format, read, view, write, grow, advance, out, begin, continue}
-use Rattle.calls.specs.Call.{status, locate, owner, feed}
+use Rattle.calls.specs.Call.{status, locate, owner, sweep, feed}
 use Rattle.calls.specs.Health.{isOut, isRebuilding}
 use Rattle.calls.specs.Images.{disksOf, size, sizeWith}
 use Rattle.calls.specs.Table.{Row, badRecord, grownAlready, idle, nothingToMove, formable, badGeometry, images, pastEnd, blockLength, disk}
@@ -134,6 +134,10 @@ module _ (r : Record) (c len room : ℕ) where
       ≡ word (badRecord (not (good r)) ∷ pastEnd S (r .stripes) ∷ disk (not (ltb d (disksOf r))) ∷ [])
   unfolding refusal table laterRows terms
   owner-rows S d = refl
+
+  pub sweep-rows : refusal r c (feed sweep len room) ≡ word (keptWhole r ++ (images (size r) len ∷ []))
+  unfolding refusal table laterRows terms
+  sweep-rows = refl
 
 -- ---- a lost array: a call whose rows from 2 on begin with 2 is given that
 

@@ -13,7 +13,8 @@ use Rattle.state.specs.declared.Health.{Health}
 use Rattle.state.specs.declared.Record.{Record}
 use Rattle.state.specs.Bytes.{recordLength, encode}
 use Rattle.state.specs.Update.{formatted, grownBy, withMoves, withHealth}
-use Rattle.calls.specs.Call.{Call, column, format, read, view, write, grow, advance, out, begin, continue, status, locate, owner}
+use Rattle.calls.specs.Call.{Call, column, format, read, view, write, grow, advance, out, begin, continue}
+use Rattle.calls.specs.Call.{status, locate, owner, sweep}
 use Rattle.calls.specs.Table.{Row, table, refusalBytes}
 
 -- ---- which calls each number is for: the table's last column, a line a number, a column a call (`column` of Call). `rowwise` proves that
@@ -21,17 +22,17 @@ use Rattle.calls.specs.Table.{Row, table, refusalBytes}
 
 abbrev pub marks : List (List ℕ)
 marks =
-    -- format, read, view, write, grow, advance, out, begin, continue, status, locate, owner
-    (1 ∷ 1 ∷ 1 ∷ 1 ∷ 1 ∷ 1 ∷ 1 ∷ 1 ∷ 1 ∷ 1 ∷ 1 ∷ 1 ∷ [])  -- 1 record
-    ∷ (0 ∷ 1 ∷ 1 ∷ 1 ∷ 1 ∷ 1 ∷ 1 ∷ 1 ∷ 1 ∷ 0 ∷ 0 ∷ 0 ∷ [])  -- 2 lost
-    ∷ (0 ∷ 0 ∷ 0 ∷ 0 ∷ 1 ∷ 1 ∷ 0 ∷ 0 ∷ 0 ∷ 0 ∷ 0 ∷ 0 ∷ [])  -- 3 degraded
-    ∷ (0 ∷ 0 ∷ 0 ∷ 0 ∷ 1 ∷ 0 ∷ 0 ∷ 0 ∷ 0 ∷ 0 ∷ 0 ∷ 0 ∷ [])  -- 4 grown
-    ∷ (0 ∷ 0 ∷ 0 ∷ 0 ∷ 0 ∷ 1 ∷ 0 ∷ 0 ∷ 0 ∷ 0 ∷ 0 ∷ 0 ∷ [])  -- 5 nothing to move
-    ∷ (1 ∷ 0 ∷ 0 ∷ 0 ∷ 1 ∷ 0 ∷ 0 ∷ 0 ∷ 0 ∷ 0 ∷ 0 ∷ 0 ∷ [])  -- 6 geometry
-    ∷ (1 ∷ 1 ∷ 1 ∷ 1 ∷ 1 ∷ 1 ∷ 0 ∷ 1 ∷ 1 ∷ 0 ∷ 0 ∷ 0 ∷ [])  -- 7 images
-    ∷ (0 ∷ 1 ∷ 1 ∷ 1 ∷ 0 ∷ 0 ∷ 0 ∷ 0 ∷ 0 ∷ 0 ∷ 1 ∷ 1 ∷ [])  -- 8 past the end
-    ∷ (0 ∷ 1 ∷ 1 ∷ 1 ∷ 0 ∷ 0 ∷ 0 ∷ 0 ∷ 0 ∷ 0 ∷ 0 ∷ 0 ∷ [])  -- 9 block length
-    ∷ (0 ∷ 0 ∷ 0 ∷ 0 ∷ 0 ∷ 0 ∷ 1 ∷ 1 ∷ 1 ∷ 0 ∷ 0 ∷ 1 ∷ [])  -- 10 disk
+    -- format, read, view, write, grow, advance, out, begin, continue, status, locate, owner, sweep
+    (1 ∷ 1 ∷ 1 ∷ 1 ∷ 1 ∷ 1 ∷ 1 ∷ 1 ∷ 1 ∷ 1 ∷ 1 ∷ 1 ∷ 1 ∷ [])  -- 1 record
+    ∷ (0 ∷ 1 ∷ 1 ∷ 1 ∷ 1 ∷ 1 ∷ 1 ∷ 1 ∷ 1 ∷ 0 ∷ 0 ∷ 0 ∷ 1 ∷ [])  -- 2 lost
+    ∷ (0 ∷ 0 ∷ 0 ∷ 0 ∷ 1 ∷ 1 ∷ 0 ∷ 0 ∷ 0 ∷ 0 ∷ 0 ∷ 0 ∷ 1 ∷ [])  -- 3 degraded
+    ∷ (0 ∷ 0 ∷ 0 ∷ 0 ∷ 1 ∷ 0 ∷ 0 ∷ 0 ∷ 0 ∷ 0 ∷ 0 ∷ 0 ∷ 0 ∷ [])  -- 4 grown
+    ∷ (0 ∷ 0 ∷ 0 ∷ 0 ∷ 0 ∷ 1 ∷ 0 ∷ 0 ∷ 0 ∷ 0 ∷ 0 ∷ 0 ∷ 0 ∷ [])  -- 5 nothing to move
+    ∷ (1 ∷ 0 ∷ 0 ∷ 0 ∷ 1 ∷ 0 ∷ 0 ∷ 0 ∷ 0 ∷ 0 ∷ 0 ∷ 0 ∷ 0 ∷ [])  -- 6 geometry
+    ∷ (1 ∷ 1 ∷ 1 ∷ 1 ∷ 1 ∷ 1 ∷ 0 ∷ 1 ∷ 1 ∷ 0 ∷ 0 ∷ 0 ∷ 1 ∷ [])  -- 7 images
+    ∷ (0 ∷ 1 ∷ 1 ∷ 1 ∷ 0 ∷ 0 ∷ 0 ∷ 0 ∷ 0 ∷ 0 ∷ 1 ∷ 1 ∷ 0 ∷ [])  -- 8 past the end
+    ∷ (0 ∷ 1 ∷ 1 ∷ 1 ∷ 0 ∷ 0 ∷ 0 ∷ 0 ∷ 0 ∷ 0 ∷ 0 ∷ 0 ∷ 0 ∷ [])  -- 9 block length
+    ∷ (0 ∷ 0 ∷ 0 ∷ 0 ∷ 0 ∷ 0 ∷ 1 ∷ 1 ∷ 1 ∷ 0 ∷ 0 ∷ 1 ∷ 0 ∷ [])  -- 10 disk
     ∷ []
 
 -- the numbers marked in a column, counted from k
@@ -134,8 +135,8 @@ pub record Refusals : Type 0 where
   pub row-1 :
       ones (read 29) 90 2 ++ ones (view 29) 90 2 ++ ones (write 29 (bytes 2)) 90 0 ++ ones (grow 2) 150 0 ++ ones (advance 1) 90 0
       ++ ones (out 2) 0 0 ++ ones (begin 2) 90 0 ++ ones (continue 1) 90 0
-      ++ ones status 0 0 ++ ones (locate 29) 0 0 ++ ones (owner 14 2) 0 0
-      ≡ replicate 176 1
+      ++ ones status 0 0 ++ ones (locate 29) 0 0 ++ ones (owner 14 2) 0 0 ++ ones sweep 90 0
+      ≡ replicate 192 1
   pub row-1-format : ones (format 3 2 15) 90 0 ≡ 1 ∷ 1 ∷ 1 ∷ replicate 13 0
   -- 1 for its length alone; 6, 7; health lost, a bad record, m and t are no matter
   pub formats :
@@ -222,3 +223,13 @@ pub record Refusals : Type 0 where
       ∷ asks small (owner 14 3) 0 0 ∷ asks small (owner 14 2) 0 0
       ∷ []
       ≡ 1 ∷ 1 ∷ 8 ∷ 10 ∷ 0 ∷ 10 ∷ 0 ∷ []
+  -- 1, 2, 3 with a disk out or being rebuilt, 7, none: before, in and behind a growth, and so where an advance is refused 5
+  pub sweeps :
+      asks short sweep 149 0 ∷ asks bad sweep 149 0 ∷ asks lost sweep 149 0
+      ∷ asks (growing (Out 4) 17) sweep 149 0 ∷ asks (growing (Rebuilding 4 14) 17) sweep 149 0
+      ∷ asks (growing Whole 17) sweep 149 0 ∷ asks (growing Whole 17) sweep 151 0 ∷ asks (growing Whole 17) sweep 150 0
+      ∷ asks (growing Whole 0) sweep 150 0 ∷ asks (growing Whole 18) sweep 150 0 ∷ asks (growing Whole 18) sweep 90 0
+      ∷ asks small sweep 90 0 ∷ asks small sweep 150 0 ∷ asks (encode (grownBy (formatted 4 1 19) 1)) sweep 95 0
+      ∷ asks (growing (Out 4) 17) sweep 150 0 ∷ asks (growing (Rebuilding 4 0) 18) sweep 150 0
+      ∷ []
+      ≡ 1 ∷ 1 ∷ 2 ∷ 3 ∷ 3 ∷ 7 ∷ 7 ∷ 0 ∷ 0 ∷ 0 ∷ 7 ∷ 0 ∷ 7 ∷ 0 ∷ 3 ∷ 3 ∷ []

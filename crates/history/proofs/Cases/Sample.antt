@@ -9,6 +9,7 @@ use Rattle.state.specs.Good.{movesGood, good}
 use Rattle.state.specs.Bytes.{decode, plain, encode}
 use Rattle.calls.specs.Images.{seen, stored, recorded, fillDisk, zeroDisks}
 use Rattle.calls.specs.Table.{idle, formable, terms, laterRows, table, rowsBytes, refusal, refusalBytes}
+use Rattle.calls.specs.Sound.{seenStripe, blanksZero, isSound, unsoundBelow}
 use Rattle.calls.specs.Effect.{viewOf, scratchLeft, writeStores, moveStores, advanceStores, continueStores, effect, calledBytes}
 use Rattle.history.specs.Flat.{flatAct, flatStep}
 use Rattle.history.specs.Lent.{asBytes, next}
@@ -22,6 +23,6 @@ unfolding dataDisk homeStripe homeDisk rankOf homeBlock homeOwner moveZone moveT
     openStripes capacity grownPlace grownParity newOwner grownOwner
     movesGood good decode plain encode
     seen stored recorded fillDisk zeroDisks idle formable terms laterRows table rowsBytes refusal refusalBytes
-    viewOf scratchLeft writeStores moveStores advanceStores continueStores effect calledBytes
+    seenStripe blanksZero isSound unsoundBelow viewOf scratchLeft writeStores moveStores advanceStores continueStores effect calledBytes
     flatAct flatStep next outcomes flatOutcomes junk play same below keeps lends fairly
 sample = record { lent-fairly = fair asBytes (play script cabinet) cabinet list refl; array = refl; flat-list = refl }

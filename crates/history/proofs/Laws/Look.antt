@@ -5,7 +5,7 @@ use mathlib.Core.Path.{_≡_, refl}
 use mathlib.Core.List.{List}
 use Rattle.state.specs.declared.Health.{Health}
 use Rattle.state.specs.declared.Record.{Record}
-use Rattle.calls.specs.Call.{Call, format, read, view, write, grow, advance, out, begin, continue, status, locate, owner}
+use Rattle.calls.specs.Call.{Call, format, read, view, write, grow, advance, out, begin, continue, status, locate, owner, sweep}
 use Rattle.state.specs.Update.{withHealth}
 use Rattle.calls.specs.Table.{terms}
 use Rattle.calls.proofs.Laws.Table.{StopsLost}
@@ -40,3 +40,4 @@ look r bs (continue k) = turns (continue k) _ refl (λ k sum. refl) (_, refl)
 look r bs status = tells status refl (λ k sum. refl)
 look r bs (locate b) = tells (locate b) refl (λ k sum. refl)
 look r bs (owner S d) = tells (owner S d) refl (λ k sum. refl)
+look r bs sweep = tells sweep refl (λ k sum. refl)

@@ -20,7 +20,7 @@ use Rattle.state.specs.Bytes.{recordLength, decode, stripesDone, encode}
 use Rattle.state.specs.Update.{grownBy, withHealth}
 use Rattle.state.proofs.Laws.Bytes.{decode-encode}
 use Rattle.calls.specs.Call.{Call, format, read, view, write, grow, advance, out, begin, continue}
-use Rattle.calls.specs.Call.{status, locate, owner, Event, fed, Answer, made, accepted}
+use Rattle.calls.specs.Call.{status, locate, owner, sweep, Event, fed, Answer, made, accepted}
 use Rattle.calls.specs.Health.{afterOut, rebuiltTo}
 use Rattle.calls.specs.Images.{size, recorded}
 use Rattle.calls.specs.Table.{terms, laterRows, table, word, refusal, refusalOf, rowsBytes, refusalBytes}
@@ -37,6 +37,7 @@ use Rattle.calls.proofs.Laws.Passed as rows
 use Rattle.calls.proofs.Laws.Passed.{passed}
 use Rattle.calls.proofs.Laws.Out.{outs}
 use Rattle.calls.proofs.Laws.Rebuild.{come-to, come-to-end, begins, as-many, carries}
+use Rattle.calls.proofs.Laws.Swept.{sweeps}
 use Rattle.history.specs.Flat.{Flat, flat, zeroBlocks, reached, lengthened, fallen, risen, flatAct, flatSettle, flatStep}
 use Rattle.history.specs.Lent.{asBytes, Cabinet, takes, Keeps, Lends, leaves, imagesAfter, next}
 
@@ -140,6 +141,7 @@ module _ (r : Record) (left : List ℕ) (bs : List (List ℕ)) (h : Holding r le
   acts status l z = record { answer = rw (h .count); taken = refl; state = refl; holding = h }
   acts (locate b) l z = record { answer = refl; taken = refl; state = refl; holding = h }
   acts (owner S d) l z = record { answer = refl; taken = refl; state = refl; holding = h }
+  acts sweep l z = left-by sweep refl refl (sweeps r img room bs (lent l) cap (length room) z)
 
 -- ---- a call, refused or not
 

@@ -13,8 +13,8 @@ use Rattle.layout.specs.Home.{standingAt}
 use Rattle.state.specs.declared.Health.the-variants.{Whole, Out, Lost, Rebuilding}
 use Rattle.state.specs.Bytes.{recordLength, decode}
 use Rattle.calls.specs.Call.{Call, format, read, view, write, grow, advance, out, begin, continue}
-use Rattle.calls.specs.Call.{status, locate, owner, Event, fed}
-use Rattle.calls.specs.Call.{Answer, refused, done, bytes, made, figures, placed, owned}
+use Rattle.calls.specs.Call.{status, locate, owner, sweep, Event, fed}
+use Rattle.calls.specs.Call.{Answer, refused, done, bytes, made, allSound, figures, placed, owned}
 use Rattle.history.specs.Flat.{Flat, flat}
 use Rattle.history.specs.Lent.{asBytes, Cabinet, next}
 use Rattle.history.specs.Theorem.{Fair, outcomes, flatOutcomes}
@@ -84,6 +84,7 @@ begun =
     ∷ plain (write 4 (66 ∷ 77 ∷ []))  -- written again
     ∷ plain (read 4)
     ∷ plain (view 6)
+    ∷ plain sweep
     ∷ []
 
 -- a fourth disk, with nonsense on it, and the first two moves
@@ -108,6 +109,7 @@ growing =
     ∷ plain (write 7 (200 ∷ 100 ∷ []))  -- its parity in the new place
     ∷ plain (read 7)
     ∷ plain (read 24)  -- no new block before the last move of its zone
+    ∷ plain sweep  -- with blanks on old disks and on the new one
     ∷ []
 
 -- disk 2 is out, and holds other bytes before every call
@@ -126,6 +128,7 @@ degraded =
     ∷ spoilt 2 43 (read 2)  -- on disk 2, not written since
     ∷ spoilt 2 47 (advance 1)  -- a disk out halts the growth
     ∷ spoilt 2 53 (grow 1)  -- degraded and grown: the lower number
+    ∷ spoilt 2 55 sweep  -- nor is it swept
     ∷ spoilt 2 59 (out 2)  -- out already
     ∷ spoilt 2 61 (begin 1)  -- another disk
     ∷ spoilt 2 63 (continue 1)  -- none is being rebuilt
@@ -148,6 +151,7 @@ rebuilding =
     ∷ rebuilt 2 4 193 (write 6 (20 ∷ 21 ∷ []))  -- both take it
     ∷ rebuilt 2 4 197 (advance 1)  -- the growth stands still
     ∷ rebuilt 2 4 199 (grow 1)
+    ∷ rebuilt 2 4 203 sweep
     ∷ rebuilt 2 4 211 (begin 2)  -- it is being rebuilt already
     ∷ rebuilt 2 4 223 (out 2)  -- the same disk, again
     ∷ spoilt 2 227 status
@@ -161,6 +165,7 @@ rebuilding =
     ∷ rebuilt 2 11 269 (continue 100)
     ∷ plain (continue 1)  -- whole
     ∷ plain (read 0)
+    ∷ plain sweep
     ∷ []
 
 -- whole again: the last move of zone 0, and its four blanks are blocks. One of them is written in mid-growth, between two moves of zone 1,
@@ -189,6 +194,7 @@ handedOut =
     ∷ spoilt 1 137 (begin 1)
     ∷ spoilt 1 138 (continue 12)
     ∷ plain (read 26)
+    ∷ plain sweep  -- new blocks written in zone 0, zone 1 in progress
     ∷ plain (advance 2)  -- the other two of zone 1
     ∷ plain status  -- 32 blocks
     ∷ plain (locate 26)  -- where it was
@@ -214,6 +220,7 @@ finished =
     ∷ plain (read 35)  -- zeroes
     ∷ plain (write 26 (5 ∷ 6 ∷ []))
     ∷ plain (read 26)
+    ∷ plain sweep
     ∷ []
 
 -- past the end, wrong lengths
@@ -223,6 +230,7 @@ turnedAway =
     ∷ room 3 (read 35)  -- a block of 3 bytes
     ∷ plain (write 35 (1 ∷ []))  -- data of 1 byte
     ∷ shorter (read 35)  -- images a byte short
+    ∷ shorter sweep
     ∷ []
 
 -- two disks out: nothing is read any more
@@ -237,6 +245,7 @@ lost =
     ∷ spoilt 1 79 (read 4)
     ∷ spoilt 1 82 (begin 1)
     ∷ spoilt 1 83 (continue 1)
+    ∷ spoilt 1 84 sweep
     ∷ spoilt 1 89 status
     ∷ spoilt 1 97 (locate 26)
     ∷ []
@@ -269,6 +278,7 @@ odd =
     ∷ spoilt 4 108 (continue 12)
     ∷ plain (read 47)
     ∷ plain (read 48)
+    ∷ plain sweep
     ∷ []
 
 -- all of it
@@ -308,6 +318,7 @@ expected =
     ∷ (done, after 3 0 0 0 0)  -- write 4 (66 ∷ 77 ∷ [])
     ∷ (bytes (66 ∷ 77 ∷ []), after 3 0 0 0 0)  -- read 4
     ∷ (bytes (1 ∷ 2 ∷ []), after 3 0 0 0 0)  -- view 6
+    ∷ (allSound 12, after 3 0 0 0 0)  -- sweep
     -- growing
     ∷ (refused 5, after 3 0 0 0 0)  -- advance 1
     ∷ (placed (standingAt 2 1 2 false), after 3 0 0 0 0)  -- locate 4
@@ -328,6 +339,7 @@ expected =
     ∷ (done, after 3 1 0 0 2)  -- write 7 (200 ∷ 100 ∷ [])
     ∷ (bytes (200 ∷ 100 ∷ []), after 3 1 0 0 2)  -- read 7
     ∷ (refused 8, after 3 1 0 0 2)  -- read 24
+    ∷ (allSound 12, after 3 1 0 0 2)  -- sweep
     -- degraded
     ∷ (done, after 3 1 1 2 2)  -- out 2
     ∷ (figures 24 2 9 (Out 2), after 3 1 1 2 2)  -- status
@@ -342,6 +354,7 @@ expected =
     ∷ (bytes (9 ∷ 90 ∷ []), after 3 1 1 2 2)  -- read 2
     ∷ (refused 3, after 3 1 1 2 2)  -- advance 1
     ∷ (refused 3, after 3 1 1 2 2)  -- grow 1
+    ∷ (refused 3, after 3 1 1 2 2)  -- sweep
     ∷ (refused 10, after 3 1 1 2 2)  -- out 2
     ∷ (refused 10, after 3 1 1 2 2)  -- begin 1
     ∷ (refused 10, after 3 1 1 2 2)  -- continue 1
@@ -360,6 +373,7 @@ expected =
     ∷ (done, afterSteps 3 1 3 2 2 4)  -- write 6 (20 ∷ 21 ∷ [])
     ∷ (refused 3, afterSteps 3 1 3 2 2 4)  -- advance 1
     ∷ (refused 3, afterSteps 3 1 3 2 2 4)  -- grow 1
+    ∷ (refused 3, afterSteps 3 1 3 2 2 4)  -- sweep
     ∷ (refused 10, afterSteps 3 1 3 2 2 4)  -- begin 2
     ∷ (done, after 3 1 1 2 2)  -- out 2
     ∷ (figures 24 2 9 (Out 2), after 3 1 1 2 2)  -- status
@@ -373,6 +387,7 @@ expected =
     ∷ (made 1, after 3 1 0 0 2)  -- continue 100
     ∷ (refused 10, after 3 1 0 0 2)  -- continue 1
     ∷ (bytes (14 ∷ 15 ∷ []), after 3 1 0 0 2)  -- read 0
+    ∷ (allSound 12, after 3 1 0 0 2)  -- sweep
     -- handedOut
     ∷ (bytes (20 ∷ 21 ∷ []), after 3 1 0 0 2)  -- read 6
     ∷ (bytes (16 ∷ 17 ∷ []), after 3 1 0 0 2)  -- read 4
@@ -396,6 +411,7 @@ expected =
     ∷ (done, afterSteps 3 1 3 1 4 0)  -- begin 1
     ∷ (made 12, after 3 1 0 0 4)  -- continue 12
     ∷ (bytes (45 ∷ 46 ∷ []), after 3 1 0 0 4)  -- read 26
+    ∷ (allSound 12, after 3 1 0 0 4)  -- sweep
     ∷ (made 2, after 3 1 0 0 6)  -- advance 2
     ∷ (figures 32 6 9 Whole, after 3 1 0 0 6)  -- status
     ∷ (placed (standingAt 2 1 2 false), after 3 1 0 0 6)  -- locate 26
@@ -417,11 +433,13 @@ expected =
     ∷ (bytes (0 ∷ 0 ∷ []), after 3 1 0 0 9)  -- read 35
     ∷ (done, after 3 1 0 0 9)  -- write 26 (5 ∷ 6 ∷ [])
     ∷ (bytes (5 ∷ 6 ∷ []), after 3 1 0 0 9)  -- read 26
+    ∷ (allSound 12, after 3 1 0 0 9)  -- sweep
     -- turnedAway
     ∷ (refused 8, after 3 1 0 0 9)  -- read 36
     ∷ (refused 9, after 3 1 0 0 9)  -- read 35
     ∷ (refused 9, after 3 1 0 0 9)  -- write 35 (1 ∷ [])
     ∷ (refused 7, after 3 1 0 0 9)  -- read 35
+    ∷ (refused 7, after 3 1 0 0 9)  -- sweep
     -- lost
     ∷ (done, after 3 1 1 1 9)  -- out 1
     ∷ (bytes (5 ∷ 6 ∷ []), after 3 1 1 1 9)  -- view 26
@@ -432,6 +450,7 @@ expected =
     ∷ (refused 2, after 3 1 2 0 9)  -- read 4
     ∷ (refused 2, after 3 1 2 0 9)  -- begin 1
     ∷ (refused 2, after 3 1 2 0 9)  -- continue 1
+    ∷ (refused 2, after 3 1 2 0 9)  -- sweep
     ∷ (figures 36 9 9 Lost, after 3 1 2 0 9)  -- status
     ∷ (placed (standingAt 2 1 2 false), after 3 1 2 0 9)  -- locate 26
     -- anew
@@ -456,6 +475,7 @@ expected =
     ∷ (made 12, after 4 1 0 0 0)  -- continue 12
     ∷ (bytes (8 ∷ 9 ∷ []), after 4 1 0 0 0)  -- read 47
     ∷ (refused 8, after 4 1 0 0 0)  -- read 48
+    ∷ (allSound 12, after 4 1 0 0 0)  -- sweep
     ∷ []
 
 pub record Sample : Type 0 where
