@@ -1,45 +1,67 @@
 /*
- * A library with one fault: it stands between a program and libpbm.a (the linker's --wrap) and hands every call on, but for
- * what FAULT says. tests/tests/examples.rs links examples/line_controller.c with it, which must notice.
+ * A library with one fault: it stands between a program and libpbm.a (the linker's --wrap) and hands every call on, but for what
+ * the environment's variable FAULT says; without it, or if it is NONE, there is no fault. tests/tests/examples.rs links
+ * examples/line_controller.c with it, which must notice.
  */
 #include "pbm.h"
 
+#include <stdio.h>
 #include <stdlib.h>
 #include <string.h>
 
-enum {
-    NONE,
-    LOST_WRITE,   /* a write to a block that was moved is dropped: the next read gives the preceding log's outline */
-    OLD_RECORD,   /* reads go by the record of one move earlier, if the block was there then */
-    OLD_PARITY,   /* a write leaves the parity as it was, which a sweep finds */
-    OUT_PARITY,   /* the same while a disk is out, when nothing is swept: what that disk held is read wrong */
-    PLACE_LEFT,   /* some moves leave the old bytes in the place left */
-    MADE_UP,      /* advance reports one move more than it made */
-    NOT_MADE,     /* continue counts its last stripe, and has not written it */
-    MADE_MORE,    /* continue reports one stripe more than it made */
-    COUNT_KEPT,   /* the disk that is being rebuilt fails again, and stays one that is being rebuilt */
-    LOST_AGAIN,   /* the same, taken for a second disk */
-    SKIPPED,      /* a write to a stripe that is rebuilt leaves out the disk that is being rebuilt */
-    COUNTED_ON,   /* a write to a stripe that is not rebuilt counts on that disk's bytes */
-    READ_AHEAD,   /* a read of a block in such a stripe too */
-    READ_REFUSED, /* reads are refused that should not be */
-    NOT_REFUSED,  /* an advance is not refused that should be */
-    ZONE_EARLY,   /* a zone is held as finished once its first move is done: status tells its new blocks too early */
-    ZONE_LATE,    /* status tells no new block before the growth is over */
-    NEW_SPOILED,  /* the first move of a zone zeroes the new blocks of the zone before, as if they were blanks still */
-    NEW_MOVED,    /* the new blocks of a stripe are counted from the highest disk, and with the last move from the lowest */
-    OLD_LIGHT,    /* locate tells the disk on which the parity stood before the growth */
-    NOT_TOLD,     /* locate tells of no block that it was moved */
-    BY_PARITY,    /* locate tells that a block was moved if its parity alone was */
-    NEVER_FOUND,  /* sweep holds every stripe as sound */
-    NEXT_STRIPE,  /* sweep tells the stripe behind the unsound one, and counts it as read */
-    NO_BLANKS,    /* sweep looks at no blank: it takes each for zero */
-    SUM_ALONE,    /* sweep asks only if a stripe xors to zero, as if the growth were over */
-    NO_CARRY,     /* points unpack sums the low bytes and the high bytes each by themselves */
-    RUN_ON,       /* points unpack takes the first point from the last one of the call before, not from 0 */
-    TURNED,       /* points pack takes each point from the one before it, and points unpack undoes that */
-    HALF_POINT    /* points pack does not refuse an odd length */
-};
+#define FAULTS(X) \
+    X(NONE)         /* every call is handed on as it is */ \
+    X(LOST_WRITE)   /* a write to a block that was moved is dropped: the next read gives the preceding log's outline */ \
+    X(OLD_RECORD)   /* reads go by the record of one move earlier, if the block was there then */ \
+    X(OLD_PARITY)   /* a write leaves the parity as it was, which a sweep finds */ \
+    X(OUT_PARITY)   /* the same while a disk is out, when nothing is swept: what that disk held is read wrong */ \
+    X(PLACE_LEFT)   /* some moves leave the old bytes in the place left */ \
+    X(MADE_UP)      /* advance reports one move more than it made */ \
+    X(NOT_MADE)     /* continue counts its last stripe, and has not written it */ \
+    X(MADE_MORE)    /* continue reports one stripe more than it made */ \
+    X(COUNT_KEPT)   /* the disk that is being rebuilt fails again, and stays one that is being rebuilt */ \
+    X(LOST_AGAIN)   /* the same, taken for a second disk */ \
+    X(SKIPPED)      /* a write to a stripe that is rebuilt leaves out the disk that is being rebuilt */ \
+    X(COUNTED_ON)   /* a write to a stripe that is not rebuilt counts on that disk's bytes */ \
+    X(READ_AHEAD)   /* a read of a block in such a stripe too */ \
+    X(READ_REFUSED) /* reads are refused that should not be */ \
+    X(NOT_REFUSED)  /* an advance is not refused that should be */ \
+    X(ZONE_EARLY)   /* a zone is held as finished once its first move is done: status tells its new blocks too early */ \
+    X(ZONE_LATE)    /* status tells no new block before the growth is over */ \
+    X(NEW_SPOILED)  /* the first move of a zone zeroes the new blocks of the zone before, as if they were blanks still */ \
+    X(NEW_MOVED)    /* the new blocks of a stripe are counted from the highest disk, and with the last move from the lowest */ \
+    X(OLD_LIGHT)    /* locate tells the disk on which the parity stood before the growth */ \
+    X(NOT_TOLD)     /* locate tells of no block that it was moved */ \
+    X(BY_PARITY)    /* locate tells that a block was moved if its parity alone was */ \
+    X(NEVER_FOUND)  /* sweep holds every stripe as sound */ \
+    X(NEXT_STRIPE)  /* sweep tells the stripe behind the unsound one, and counts it as read */ \
+    X(NO_BLANKS)    /* sweep looks at no blank: it takes each for zero */ \
+    X(SUM_ALONE)    /* sweep asks only if a stripe xors to zero, as if the growth were over */ \
+    X(NO_CARRY)     /* points unpack sums the low bytes and the high bytes each by themselves */ \
+    X(RUN_ON)       /* points unpack takes the first point from the last one of the call before, not from 0 */ \
+    X(TURNED)       /* points pack takes each point from the one before it, and points unpack undoes that */ \
+    X(HALF_POINT)   /* points pack does not refuse an odd length */
+
+#define MEMBER(name) name,
+#define STRING(name) #name,
+
+enum { FAULTS(MEMBER) ALL };
+static const char *const names[ALL] = { FAULTS(STRING) };
+
+static int fault = NONE;
+
+/* Before main. */
+__attribute__((constructor)) static void choose_fault(void)
+{
+    const char *name = getenv("FAULT");
+    if (name == NULL) return;
+    while (fault < ALL && strcmp(name, names[fault]) != 0) fault++;
+    if (fault < ALL) return;
+    fprintf(stderr, "faulty: FAULT is '%s': it must be one of", name);
+    for (int i = 0; i < ALL; i++) fprintf(stderr, " %s", names[i]);
+    fprintf(stderr, "\n");
+    exit(1);
+}
 
 uint8_t __real_pbm_read(const uint8_t *, size_t, const uint8_t *, size_t, uint64_t, uint8_t *, size_t);
 uint8_t __real_pbm_write(const uint8_t *, size_t, uint8_t *, size_t, uint64_t, const uint8_t *, size_t);
@@ -95,7 +117,7 @@ static uint8_t locate(const uint8_t *record, uint64_t block, struct place *p)
 static uint64_t meant(const uint8_t *record, uint64_t block)
 {
     uint64_t m = record[PBM_AT_M], k = block - old_blocks(record);
-    if (FAULT != NEW_MOVED || block < old_blocks(record) || moves(record) == figures(record).total) return block;
+    if (fault != NEW_MOVED || block < old_blocks(record) || moves(record) == figures(record).total) return block;
     return block - k % m + (m - 1 - k % m);
 }
 
@@ -129,9 +151,9 @@ uint8_t __wrap_pbm_read(const uint8_t *record, size_t record_len, const uint8_t 
     struct place p;
     uint8_t old[PBM_RECORD_LEN];
     locate(record, block, &p);
-    meant_record(old, record, p.stripe, 0, FAULT == READ_AHEAD);
-    if (FAULT == READ_REFUSED && moves(record) >= 300) return PBM_PAST_THE_END;
-    if (FAULT == OLD_RECORD && moves(record) > 0) {
+    meant_record(old, record, p.stripe, 0, fault == READ_AHEAD);
+    if (fault == READ_REFUSED && moves(record) >= 300) return PBM_PAST_THE_END;
+    if (fault == OLD_RECORD && moves(record) > 0) {
         int i = PBM_AT_MOVES;
         while (old[i]-- == 0) i++;
         if (locate(old, block, &p) != PBM_DONE) memcpy(old, record, sizeof old);
@@ -144,13 +166,13 @@ uint8_t __wrap_pbm_write(const uint8_t *record, size_t record_len, uint8_t *imag
 {
     struct place p;
     uint8_t answer, *parity, *copy, by[PBM_RECORD_LEN];
-    int leaves = FAULT == OLD_PARITY || (FAULT == OUT_PARITY && record[PBM_AT_HEALTH] == PBM_HEALTH_OUT);
+    int leaves = fault == OLD_PARITY || (fault == OUT_PARITY && record[PBM_AT_HEALTH] == PBM_HEALTH_OUT);
     block = meant(record, block);
     locate(record, block, &p);
-    if (FAULT == LOST_WRITE && p.moved) return PBM_DONE;
+    if (fault == LOST_WRITE && p.moved) return PBM_DONE;
     parity = images + p.parity_disk * disk_len(record) + p.stripe * block_len(record);
     copy = copy_of(parity, block_len(record));
-    meant_record(by, record, p.stripe, FAULT == SKIPPED, FAULT == COUNTED_ON);
+    meant_record(by, record, p.stripe, fault == SKIPPED, fault == COUNTED_ON);
     answer = __real_pbm_write(by, record_len, images, images_len, block, data, data_len);
     if (leaves) memcpy(parity, copy, block_len(record));
     free(copy);
@@ -171,22 +193,22 @@ static void spoil(const uint8_t *record, uint8_t *images, size_t images_len)
 uint8_t __wrap_pbm_advance(uint8_t *record, size_t record_len, uint8_t *images, size_t images_len, uint64_t k, uint64_t *made)
 {
     size_t old_len = record[PBM_AT_N] * disk_len(record);
-    int leaves = FAULT == PLACE_LEFT && moves(record) >= 500 && moves(record) < 520;
+    int leaves = fault == PLACE_LEFT && moves(record) >= 500 && moves(record) < 520;
     uint8_t answer, *copy = leaves ? copy_of(images, old_len) : NULL;
     answer = __real_pbm_advance(record, record_len, images, images_len, k, made);
     if (leaves) memcpy(images, copy, old_len);
     free(copy);
-    if (FAULT == NEW_SPOILED && moves(record) > zone_moves(record) && moves(record) % zone_moves(record) == 1)
+    if (fault == NEW_SPOILED && moves(record) > zone_moves(record) && moves(record) % zone_moves(record) == 1)
         spoil(record, images, images_len);
-    if (FAULT == MADE_UP && answer == PBM_DONE) ++*made;
-    return FAULT == NOT_REFUSED && answer == PBM_DEGRADED ? PBM_DONE : answer;
+    if (fault == MADE_UP && answer == PBM_DONE) ++*made;
+    return fault == NOT_REFUSED && answer == PBM_DEGRADED ? PBM_DONE : answer;
 }
 
 uint8_t __wrap_pbm_out(uint8_t *record, size_t record_len, uint64_t disk)
 {
     int is_again = is_rebuilding(record) && record[PBM_AT_OUT] == disk;
-    if (is_again && FAULT == COUNT_KEPT) return PBM_DONE;
-    if (is_again && FAULT == LOST_AGAIN) {
+    if (is_again && fault == COUNT_KEPT) return PBM_DONE;
+    if (is_again && fault == LOST_AGAIN) {
         set_health(record, PBM_HEALTH_LOST, 0);
         return PBM_DONE;
     }
@@ -200,8 +222,8 @@ uint8_t __wrap_pbm_continue(uint8_t *record, size_t record_len, uint8_t *images,
     size_t last;
     answer = __real_pbm_continue(record, record_len, images, images_len, k, made);
     last = (*made - 1) * block_len(record);
-    if (FAULT == NOT_MADE && *made > 0) memcpy(next + last, copy + last, block_len(record));
-    if (FAULT == MADE_MORE && answer == PBM_DONE) ++*made;
+    if (fault == NOT_MADE && *made > 0) memcpy(next + last, copy + last, block_len(record));
+    if (fault == MADE_MORE && answer == PBM_DONE) ++*made;
     free(copy);
     return answer;
 }
@@ -210,8 +232,8 @@ uint8_t __wrap_pbm_status(const uint8_t *record, size_t record_len, uint64_t *ca
                           uint64_t *health, uint64_t *out_disk, uint64_t *stripes)
 {
     uint8_t answer = __real_pbm_status(record, record_len, capacity, done, total, health, out_disk, stripes);
-    if (FAULT == ZONE_EARLY && *done < *total && *done % zone_moves(record) > 0) *capacity += zone_blocks(record);
-    if (FAULT == ZONE_LATE && *done < *total) *capacity = old_blocks(record);
+    if (fault == ZONE_EARLY && *done < *total && *done % zone_moves(record) > 0) *capacity += zone_blocks(record);
+    if (fault == ZONE_LATE && *done < *total) *capacity = old_blocks(record);
     return answer;
 }
 
@@ -219,9 +241,9 @@ uint8_t __wrap_pbm_locate(const uint8_t *record, size_t record_len, uint64_t blo
                           uint64_t *parity_disk, uint64_t *moved)
 {
     uint8_t answer = __real_pbm_locate(record, record_len, block, stripe, disk, parity_disk, moved);
-    if (FAULT == OLD_LIGHT) *parity_disk = *stripe % record[PBM_AT_N];
-    if (FAULT == NOT_TOLD) *moved = 0;
-    if (FAULT == BY_PARITY) *moved |= *parity_disk >= record[PBM_AT_N];
+    if (fault == OLD_LIGHT) *parity_disk = *stripe % record[PBM_AT_N];
+    if (fault == NOT_TOLD) *moved = 0;
+    if (fault == BY_PARITY) *moved |= *parity_disk >= record[PBM_AT_N];
     return answer;
 }
 
@@ -245,11 +267,11 @@ uint8_t __wrap_pbm_sweep(const uint8_t *record, size_t record_len, const uint8_t
 {
     uint8_t answer, by[PBM_RECORD_LEN], *copy = copy_of(images, images_len);
     memcpy(by, record, sizeof by);
-    if (FAULT == NO_BLANKS) zero_blanks(record, copy);
-    if (FAULT == SUM_ALONE) end_growth(by);
+    if (fault == NO_BLANKS) zero_blanks(record, copy);
+    if (fault == SUM_ALONE) end_growth(by);
     answer = __real_pbm_sweep(by, record_len, copy, images_len, found, stripe, read);
-    if (FAULT == NEVER_FOUND && *found) *found = 0, *stripe = 0, *read = all_stripes(record);
-    if (FAULT == NEXT_STRIPE && *found) ++*stripe, ++*read;
+    if (fault == NEVER_FOUND && *found) *found = 0, *stripe = 0, *read = all_stripes(record);
+    if (fault == NEXT_STRIPE && *found) ++*stripe, ++*read;
     free(copy);
     return answer;
 }
@@ -270,19 +292,19 @@ static void turn(uint8_t *packed, size_t len)
 uint8_t __wrap_pbm_points_pack(const uint8_t *points, size_t points_len, uint8_t *packed, size_t packed_len)
 {
     uint8_t answer = __real_pbm_points_pack(points, points_len, packed, packed_len);
-    if (FAULT == TURNED && answer == PBM_DONE) turn(packed, packed_len);
-    return FAULT == HALF_POINT ? PBM_DONE : answer;
+    if (fault == TURNED && answer == PBM_DONE) turn(packed, packed_len);
+    return fault == HALF_POINT ? PBM_DONE : answer;
 }
 
 uint8_t __wrap_pbm_points_unpack(const uint8_t *packed, size_t packed_len, uint8_t *points, size_t points_len)
 {
     static int last;
     uint8_t answer, *copy = copy_of(packed, packed_len);
-    if (FAULT == TURNED) turn(copy, packed_len);
-    if (FAULT == RUN_ON) set_difference(copy, packed_len, 0, last + difference(copy, packed_len, 0));
+    if (fault == TURNED) turn(copy, packed_len);
+    if (fault == RUN_ON) set_difference(copy, packed_len, 0, last + difference(copy, packed_len, 0));
     answer = __real_pbm_points_unpack(copy, packed_len, points, points_len);
     if (points_len >= 2) last = (int)number(points, (int)points_len - 2, 2);
-    for (size_t i = 1; FAULT == NO_CARRY && i < points_len / 2; i++)
+    for (size_t i = 1; fault == NO_CARRY && i < points_len / 2; i++)
         points[2 * i + 1] = (uint8_t)(points[2 * i - 1] + packed[packed_len / 2 + i]);
     free(copy);
     return answer;

@@ -57,6 +57,14 @@ static uint8_t call(char name, uint64_t of)
     return answer;
 }
 
+/* The value of a hexadecimal digit. By hand: the trace is of all that is done, and sscanf would make ten times as much of it. */
+static uint8_t digit(char c)
+{
+    if (c >= '0' && c <= '9') return (uint8_t)(c - '0');
+    if (c >= 'a' && c <= 'f') return (uint8_t)(c - 'a' + 10);
+    exit(4);
+}
+
 /* Sets the bytes of a list, each behind a comma. */
 static void set(const char *list, uint8_t value)
 {
@@ -83,7 +91,7 @@ int main(int count, char **arguments)
         char *list;
         uint64_t of;
         for (j = 0; j < sizeof record; j++)
-            if (sscanf(argument + 1 + 2 * j, "%2hhx", &record[j]) != 1) return 4;
+            record[j] = (uint8_t)(digit(argument[1 + 2 * j]) << 4 | digit(argument[2 + 2 * j]));
         if (colon == NULL) return 4;
         of = strtoull(colon + 1, &list, 10);
         set(list, 1);

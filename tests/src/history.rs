@@ -272,7 +272,7 @@ impl<'a, M: Memory> History<'a, M> {
                 Answer::done(&[]),
                 "read of block {block} at the end"
             );
-            let left = self.loan.block.exclusive();
+            let left = self.loan.block.bytes_mut();
             assert_eq!(left, self.flat.block(block), "block {block} at the end");
             left.fill(0x5a);
         }

@@ -13,6 +13,8 @@ pub trait Memory {
     /// From now on it holds just these bytes.
     fn hold(&mut self, bytes: &[u8]);
     fn bytes(&self) -> &[u8];
+    /// To change what it holds, while it is not lent.
+    fn bytes_mut(&mut self) -> &mut [u8];
     /// To lend for reading alone.
     fn shared(&mut self) -> &[u8];
     /// To lend for writing.
@@ -25,6 +27,10 @@ impl Memory for Vec<u8> {
     }
 
     fn bytes(&self) -> &[u8] {
+        self
+    }
+
+    fn bytes_mut(&mut self) -> &mut [u8] {
         self
     }
 
@@ -50,6 +56,9 @@ pub struct Guarded {
     /// Whole pages, with a protected one before and one behind.
     room: *mut u8,
     room_len: usize,
+    /// The same pages elsewhere, never protected, so that no access has to change where a test looks at them or sets them. Of `zeros`
+    /// the room itself.
+    own: *mut u8,
     len: usize,
     access: Access,
     sealed: bool,
@@ -68,13 +77,16 @@ const PAGE: usize = 4096;
 
 impl Guarded {
     pub fn new(side: Side) -> Guarded {
-        Guarded::map(side, PAGE)
+        Guarded::twice(side, PAGE)
     }
 
-    /// A slice of zeros, of which only the pages that are touched take memory.
+    /// A slice of zeros, of which only the pages that are touched take memory (large ones, where there are such).
     pub fn zeros(side: Side, len: usize) -> Guarded {
-        let mut zeros = Guarded::map(side, len);
+        let mut zeros = Guarded::map(side, len, MAP_PRIVATE);
         zeros.len = len;
+        // In large pages, where there are such, so that gigabytes of zeros are soon read.
+        // SAFETY: advice on the room's own pages, which need not be taken.
+        unsafe { madvise(zeros.room.cast(), zeros.room_len, MADV_HUGEPAGE) };
         zeros
     }
 
@@ -85,8 +97,22 @@ impl Guarded {
         sealed
     }
 
-    /// A slice of length 0, with room for more.
-    fn map(side: Side, len: usize) -> Guarded {
+    /// A slice of length 0, with room for more, in pages that are mapped twice.
+    fn twice(side: Side, len: usize) -> Guarded {
+        let mut guarded = Guarded::map(side, len, MAP_SHARED);
+        let (room, room_len) = (guarded.room.cast(), guarded.room_len);
+        // SAFETY: from a length of 0 the pages are mapped a second time, and stay where they are.
+        let own = unsafe { mremap(room, 0, room_len, MREMAP_MAYMOVE) };
+        assert_ne!(own as isize, -1, "mremap");
+        guarded.own = own.cast();
+        // SAFETY: these new pages.
+        let changed = unsafe { mprotect(own, room_len, Access::Write as c_int) };
+        assert_eq!(changed, 0, "mprotect");
+        guarded
+    }
+
+    /// The same in pages that are mapped once, private or to be shared.
+    fn map(side: Side, len: usize, sharing: c_int) -> Guarded {
         let room_len = len.next_multiple_of(PAGE);
         // SAFETY: new pages.
         let all = unsafe {
@@ -94,16 +120,18 @@ impl Guarded {
                 null_mut(),
                 room_len + 2 * PAGE,
                 PROT_NONE,
-                MAP_PRIVATE | MAP_ANONYMOUS | MAP_NORESERVE,
+                sharing | MAP_ANONYMOUS | MAP_NORESERVE,
                 -1,
                 0,
             )
         };
         assert_ne!(all as isize, -1, "mmap");
+        let room = all.cast::<u8>().wrapping_add(PAGE);
         Guarded {
             side,
-            room: all.cast::<u8>().wrapping_add(PAGE),
+            room,
             room_len,
+            own: room,
             len: 0,
             access: Access::None,
             sealed: false,
@@ -156,31 +184,45 @@ impl Guarded {
         }
     }
 
-    fn start(&self) -> *mut u8 {
+    /// Where the slice begins in the room.
+    fn at(&self) -> usize {
         match self.side {
-            Side::Start => self.room,
-            Side::End => self.room.wrapping_add(self.room_len - self.len),
+            Side::Start => 0,
+            Side::End => self.room_len - self.len,
         }
+    }
+
+    fn start(&self) -> *mut u8 {
+        self.room.wrapping_add(self.at())
     }
 }
 
 impl Memory for Guarded {
     fn hold(&mut self, bytes: &[u8]) {
         if bytes.len() > self.room_len {
-            *self = Guarded::map(self.side, bytes.len());
+            *self = Guarded::twice(self.side, bytes.len());
         }
         self.len = bytes.len();
-        self.exclusive().copy_from_slice(bytes);
+        self.bytes_mut().copy_from_slice(bytes);
     }
 
     fn bytes(&self) -> &[u8] {
-        // SAFETY: within the room, readable unless sealed, and borrowed from self.
-        unsafe { from_raw_parts(self.start(), self.len) }
+        // SAFETY: within the own pages, readable unless sealed, and borrowed from self.
+        unsafe { from_raw_parts(self.own.wrapping_add(self.at()), self.len) }
+    }
+
+    fn bytes_mut(&mut self) -> &mut [u8] {
+        if self.own == self.room {
+            self.allow(Access::Write);
+        }
+        // SAFETY: within the own pages, writable unless sealed, and borrowed exclusively from self.
+        unsafe { from_raw_parts_mut(self.own.wrapping_add(self.at()), self.len) }
     }
 
     fn shared(&mut self) -> &[u8] {
         self.allow(Access::Read);
-        self.bytes()
+        // SAFETY: within the room, readable unless sealed, and borrowed from self.
+        unsafe { from_raw_parts(self.start(), self.len) }
     }
 
     fn exclusive(&mut self) -> &mut [u8] {
@@ -193,9 +235,13 @@ impl Memory for Guarded {
 impl Drop for Guarded {
     fn drop(&mut self) {
         let start = self.room.wrapping_sub(PAGE);
-        // SAFETY: the pages of `map`, to which no reference is left.
-        let freed = unsafe { munmap(start.cast(), self.room_len + 2 * PAGE) };
-        assert_eq!(freed, 0, "munmap");
+        // SAFETY: the pages of `map` and of `twice`, to which no reference is left.
+        unsafe {
+            if self.own != self.room {
+                assert_eq!(munmap(self.own.cast(), self.room_len), 0, "munmap");
+            }
+            assert_eq!(munmap(start.cast(), self.room_len + 2 * PAGE), 0, "munmap");
+        }
     }
 }
 
@@ -232,9 +278,12 @@ extern "C" fn fault(_: c_int) {
 const PROT_NONE: c_int = 0;
 const PROT_READ: c_int = 1;
 const PROT_WRITE: c_int = 2;
+const MAP_SHARED: c_int = 0x01;
 const MAP_PRIVATE: c_int = 0x02;
 const MAP_ANONYMOUS: c_int = 0x20;
 const MAP_NORESERVE: c_int = 0x4000;
+const MREMAP_MAYMOVE: c_int = 1;
+const MADV_HUGEPAGE: c_int = 14;
 const SIGBUS: c_int = 7;
 const SIGSEGV: c_int = 11;
 
@@ -248,8 +297,10 @@ extern "C" {
         file: c_int,
         offset: i64,
     ) -> *mut c_void;
+    fn mremap(address: *mut c_void, len: usize, new_len: usize, flags: c_int, ...) -> *mut c_void;
     fn munmap(address: *mut c_void, len: usize) -> c_int;
     fn mprotect(address: *mut c_void, len: usize, access: c_int) -> c_int;
+    fn madvise(address: *mut c_void, len: usize, advice: c_int) -> c_int;
     fn signal(number: c_int, handler: extern "C" fn(c_int)) -> usize;
     fn write(file: c_int, bytes: *const c_void, len: usize) -> isize;
     fn _exit(status: c_int) -> !;

@@ -48,12 +48,24 @@ pub const NAMES: [&str; 12] = [
     "owner", "sweep",
 ];
 
-/// The name of a call's function in `array` and `lent`: `continue` is a word of the language.
+/// The name of a call's function in its family's crate and in `lent`: `continue` is a word of the language.
 pub fn in_rattle(name: &str) -> &str {
     match name {
         "begin" => "begin_rebuild",
         "continue" => "continue_rebuild",
         _ => name,
+    }
+}
+
+/// The crate of a call's family.
+pub fn family(name: &str) -> &'static str {
+    match name {
+        "read" | "view" | "write" => "access",
+        "format" | "grow" | "advance" => "growth",
+        "out" | "begin" | "continue" => "repair",
+        "sweep" => "scrub",
+        "status" | "locate" | "owner" => "queries",
+        _ => panic!("{name} is no call"),
     }
 }
 

@@ -1,5 +1,5 @@
 //! What a Rattle function reaches: what its text names, what the text of that names, and so on, through all crates. A name is that of
-//! its own file, or of the one that the file has it from by a `use`, or it stands behind its crate (`array::write`).
+//! its own file, or of the one that the file has it from by a `use`, or it stands after its crate (`access::write`).
 
 use crate::contracts::{bracketed, functions, without_comments};
 use std::collections::BTreeSet;

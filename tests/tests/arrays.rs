@@ -2,7 +2,7 @@
 //! constant that it names on the way.
 
 use yuzkamide_tests::files::texts;
-use yuzkamide_tests::pbm::in_rattle;
+use yuzkamide_tests::pbm::{family, in_rattle};
 use yuzkamide_tests::program::target;
 use yuzkamide_tests::reach::{arrays, Item, Sources};
 
@@ -10,9 +10,9 @@ fn sources() -> Sources {
     Sources::of(&texts(&target().join("../crates"), "rt"))
 }
 
-/// A call as `array`, `lent` and `pbm` have it.
+/// A call as its family's crate, `lent` and `pbm` have it.
 fn in_all_crates(call: &str) -> [(&str, String); 3] {
-    ["array", "lent", "pbm"].map(|in_crate| match in_crate {
+    [family(call), "lent", "pbm"].map(|in_crate| match in_crate {
         "pbm" => (in_crate, format!("pbm_{call}")),
         _ => (in_crate, in_rattle(call).to_string()),
     })
@@ -40,7 +40,7 @@ fn a_write_has_no_array() {
         for fold in ["fold_others", "fold_parity"] {
             assert!(has(&reached, "parity", fold), "{name} reaches {fold}");
         }
-        assert!(has(&reached, "array", "put") && has(&reached, "state", "Record"));
+        assert!(has(&reached, "access", "put") && has(&reached, "state", "Record"));
         assert_eq!(arrays_of(&reached), [""; 0], "{name} of {in_crate}");
     }
 }
@@ -53,7 +53,7 @@ fn reads_and_rebuilds_have_arrays() {
         ("read", "[0u8; 128] of add_piece in blocks/src/sum.rt"),
         (
             "continue",
-            "[0u8; 4096] of fill_disk_alone in array/src/rebuilding.rt",
+            "[0u8; 4096] of fill_disk_alone in repair/src/rebuilding.rt",
         ),
     ] {
         for (in_crate, name) in in_all_crates(call) {

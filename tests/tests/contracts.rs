@@ -9,17 +9,19 @@ use yuzkamide_tests::contracts::{
 };
 use yuzkamide_tests::definitions::{of_proof_language, Kind};
 use yuzkamide_tests::files::texts;
-use yuzkamide_tests::pbm::{in_rattle, Way, NAMES};
+use yuzkamide_tests::pbm::{family, in_rattle, Way, NAMES};
 use yuzkamide_tests::program::target;
 use yuzkamide_tests::statements::uses;
 
 /// The crates whose public functions are handed anything by anyone, and the program's function that is handed what was typed.
-const ENTRY_CRATES: &[&str] = &["array", "lent", "points", "pbm"];
+const ENTRY_CRATES: &[&str] = &[
+    "access", "growth", "repair", "scrub", "queries", "lent", "packing", "pbm",
+];
 const ENTRY_POINT: &str = "answer_to";
 
 /// Functions inside a crate whose answer is left open where no caller looks at it, and limited there: the blanks below a disk
 /// are counted only if it is blank itself, and only where all moves of its zone are made, or none.
-const LIMITED: &[(&str, &str)] = &[("layout", "count_below")];
+const LIMITED: &[(&str, &str)] = &[("placement", "count_below")];
 
 /// A function where it stands.
 struct Found {
@@ -96,17 +98,17 @@ fn the_search_finds_the_functions() {
     for name in NAMES {
         let rattle = in_rattle(name);
         assert!(
-            exported("array", rattle) && exported("lent", rattle),
+            exported(family(name), rattle) && exported("lent", rattle),
             "{name}"
         );
         assert!(exported("pbm", &format!("pbm_{name}")), "pbm_{name}");
     }
-    assert!(exported("points", "pack") && exported("points", "unpack"));
+    assert!(exported("packing", "pack") && exported("packing", "unpack"));
     for name in Way::BOTH.map(Way::name) {
         assert!(exported("pbm", &format!("pbm_{name}")), "pbm_{name}");
     }
-    assert!(exported("array", "view") && exported("lent", "view"));
-    assert!(!exported("array", "is_absent"), "its module is private");
+    assert!(exported("access", "view") && exported("lent", "view"));
+    assert!(!exported("refusals", "is_lost"), "its module is private");
     let lent: usize = all.iter().map(|f| written(&f.function)).sum();
     assert!(lent > 40, "lent to write: {lent}");
     let fields =

@@ -6,9 +6,7 @@ use std::collections::BTreeSet;
 use std::fs;
 use std::ops::Range;
 use std::path::{Path, PathBuf};
-use std::process::Command;
 use yuzkamide_tests::array::Array;
-use yuzkamide_tests::compile::{run, text};
 use yuzkamide_tests::flat::located;
 use yuzkamide_tests::images::{part, place};
 use yuzkamide_tests::layout::{Layout, Owner};
@@ -105,20 +103,28 @@ fn commands_name_what_is_there() {
     assert!(seen >= 5, "the search finds the commands: {seen}");
 }
 
-/// README says by which toolchains the library is proved and built: in brackets, each between backquotes.
+/// README says with which toolchain the last landing was proved, as `rt version` prints it. Another one may prove the next.
 #[test]
-fn the_toolchain_is_one_of_those_named() {
-    let output = run(Command::new("rt").arg("version"));
-    let version = text(&output.stdout).trim_end();
+fn the_toolchain_of_the_last_landing_is_named() {
     let readme = fs::read_to_string(root().join("README.md")).unwrap();
-    let (_, behind) = readme
-        .split_once("(`rt version` prints ")
-        .expect("README names a toolchain");
-    let (named, _) = behind.split_once("), gcc").expect("the brackets end");
-    let named: Vec<_> = named.split('`').skip(1).step_by(2).collect();
+    let readme = readme.split_whitespace().collect::<Vec<_>>().join(" ");
+    let named: Vec<&str> = readme
+        .split("the last landing was proved with ")
+        .skip(1)
+        .collect();
+    assert_eq!(named.len(), 1, "README names one toolchain");
+    let quoted = named[0].strip_prefix('`');
+    let (version, _) = quoted.and_then(|text| text.split_once('`')).unwrap();
+    let parts = version.strip_prefix("rattle-kit-");
+    let (kit, logic) = parts
+        .and_then(|text| text.split_once(" logic "))
+        .expect(version);
+    let is_kit = |c: char| c.is_ascii_alphanumeric() || c == '-';
+    let is_digit = |c: char| matches!(c, '0'..='9' | 'a'..='f');
+    assert!(!kit.is_empty() && kit.chars().all(is_kit), "{version}");
     assert!(
-        named.contains(&version),
-        "README.md names {named:?}, and rt is {version}"
+        logic.len() == 16 && logic.chars().all(is_digit),
+        "{version}"
     );
 }
 

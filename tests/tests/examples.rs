@@ -216,12 +216,25 @@ fn a_line_notices_faults() {
             "a pack of two points and a half gives: 0 done; it must give: 11 points",
         ),
     ];
+    let program = faulty();
+    let with = |fault: &str| Command::new(&program).env("FAULT", fault).output().unwrap();
+    // those of tests/c/faulty.c, and no others
+    let names: Vec<&str> = faults.iter().map(|(fault, _)| *fault).collect();
+    let unknown = with("ANOTHER");
+    assert_eq!(unknown.status.code(), Some(1));
+    assert!(unknown.stdout.is_empty());
     assert_eq!(
-        text(&run(&mut Command::new(faulty("NONE"))).stdout),
-        PRINTED
+        text(&unknown.stderr),
+        format!(
+            "faulty: FAULT is 'ANOTHER': it must be one of NONE {}\n",
+            names.join(" ")
+        )
     );
+    let mut none = Command::new(&program);
+    assert_eq!(text(&run(none.env_remove("FAULT")).stdout), PRINTED);
+    assert_eq!(text(&run(none.env("FAULT", "NONE")).stdout), PRINTED);
     for (fault, message) in faults {
-        let output = output_of(&faulty(fault), &[]);
+        let output = with(fault);
         let says = text(&output.stderr);
         assert_eq!(output.status.code(), Some(1), "{fault}");
         assert!(
@@ -232,8 +245,8 @@ fn a_line_notices_faults() {
     }
 }
 
-fn faulty(fault: &str) -> PathBuf {
-    let define = format!("-DFAULT={fault}");
+/// The line with tests/c/faulty.c between it and the library: the variable FAULT names the fault.
+fn faulty() -> PathBuf {
     let wrapped = [
         "read",
         "write",
@@ -247,10 +260,10 @@ fn faulty(fault: &str) -> PathBuf {
         "points_unpack",
     ];
     let wrap = wrapped.map(|call| format!("-Wl,--wrap=pbm_{call}"));
-    let mut compiler = [GCC, &[&define]].concat();
+    let mut compiler = GCC.to_vec();
     compiler.extend(wrap.iter().map(String::as_str));
     let sources = ["examples/line_controller.c", "tests/c/faulty.c"];
-    program(&format!("line_controller-{fault}"), &compiler, &sources)
+    program("line_controller-faulty", &compiler, &sources)
 }
 
 // ---- the pictures

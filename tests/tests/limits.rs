@@ -223,7 +223,7 @@ fn places_beyond_32_bits() {
     let (whole, done) = (record.bytes(), stripe - 5);
     record.health = Health::Rebuilding { disk: 3, done };
     loan.record.hold(&record.bytes());
-    loan.images.exclusive()[part(&record, 3, done..stripe + 1)].fill(0xee);
+    loan.images.bytes_mut()[part(&record, 3, done..stripe + 1)].fill(0xee);
     for (k, made) in [(5, 5), (u64::MAX, 1)] {
         assert_eq!(loan.call(Call::Read { block: new }), Answer::done(&[]));
         assert!(loan.block.bytes() == data(new, 4096));
@@ -242,8 +242,8 @@ fn places_beyond_32_bits() {
 /// With the last bit of all off, which is of a blank until the growth is over, a sweep finds the last of the most stripes, and so no
 /// other one.
 fn finds_the_last_bit(loan: &mut Loan<Guarded>) {
-    *loan.images.exclusive().last_mut().unwrap() ^= 0x80;
+    *loan.images.bytes_mut().last_mut().unwrap() ^= 0x80;
     let found = Answer::done(&[1, 1_048_575, 1_048_576]);
     assert_eq!(loan.call(Call::Sweep), found);
-    *loan.images.exclusive().last_mut().unwrap() ^= 0x80;
+    *loan.images.bytes_mut().last_mut().unwrap() ^= 0x80;
 }

@@ -5,9 +5,14 @@
 //! edit of a definition must be refused by a computed case (or, where no value shows it, first by a law that is named here).
 //! An edit of code alone has no such case, since a contract speaks of all arguments: it must be refused in the proof of a
 //! function's contract, where the two sides that differ are the code's result and the definition's.
+//!
+//! And tools/edit, which tries one edit, takes none for refused that did not reach the prover.
 
 use std::fs;
+use std::os::unix::fs::PermissionsExt;
 use std::path::PathBuf;
+use std::process::Command;
+use yuzkamide_tests::compile::text;
 use yuzkamide_tests::program::target;
 
 /// Computed cases, by their file and declaration, and the edits of definitions that they must be among what refuses.
@@ -144,7 +149,7 @@ const BY_LAW: &[(&str, &str, &[&str])] = &[
     (
         "/proofs/viewing/part_of/Proof.antt:",
         "`returns",
-        &["array/view_elsewhere"],
+        &["access/view_elsewhere"],
     ),
     // a record's bytes are read back
     (
@@ -497,5 +502,125 @@ logic=not-proved";
     assert_eq!(found.len(), expected.len());
     for ((place, words), (p, w)) in found.iter().zip(expected) {
         assert_eq!((place.as_str(), words.as_str()), (p, w));
+    }
+}
+
+/// A repository of one crate, in which tools/edit has a stand-in for `rt`: it goes by a word of the source, and notes that it was asked.
+#[test]
+fn one_edit_is_tried() {
+    let rt = "\
+#!/bin/sh
+[ \"$*\" != version ] || { echo stand-in; exit; }
+[ \"$*\" = 'dev one' ] || exit 2
+echo asked >>../../asked
+mkdir -p target/inc/one
+case $(cat crates/one/src/lib.rt) in
+*right*) echo logic=proved ;;
+*wrong*) echo \"$PWD/crates/one/proofs/A.antt:1:2: error: they differ\" && echo logic=not-proved && exit 1 ;;
+*nameless*) echo \"$PWD/crates/one/specs/A.antt:1:2: error: no such name\" && echo logic=not-proved && exit 1 ;;
+*odd*) echo \"$PWD/crates/one/src/lib.rt:1:2: error: no such word\" && exit 1 ;;
+*below*) echo logic=not-proved && echo 'rt: FAILED: other' && exit 1 ;;
+*) exit 3 ;;
+esac >&2
+";
+    let tree = target().join("c/tree-edit");
+    let _ = fs::remove_dir_all(&tree);
+    let put = |path: &str, text: &str| {
+        let path = tree.join(path);
+        fs::create_dir_all(path.parent().unwrap()).unwrap();
+        fs::write(path, text).unwrap();
+    };
+    let (source, tool) = ("crates/one/src/lib.rt", "tools/edit");
+    put("crates.txt", "one:\n");
+    put(source, "// right, all of it\n// it is\n");
+    put("bin/rt", rt);
+    let script = target().join("..").join(tool);
+    put(tool, &fs::read_to_string(script).unwrap());
+    for script in ["bin/rt", tool] {
+        let mode = fs::Permissions::from_mode(0o755);
+        fs::set_permissions(tree.join(script), mode).unwrap();
+    }
+    let bin = tree.join("bin").canonicalize().unwrap();
+    let path = format!("{}:{}", bin.display(), std::env::var("PATH").unwrap());
+    let mut asked = 1; // without an edit
+    for (edit, status, said, more) in [
+        (
+            "old: right\nnew: wrong",
+            0,
+            "refused: one/proofs/A.antt:1:2: error: they differ\n",
+            1,
+        ),
+        (
+            "old: all\nnew: none",
+            1,
+            "NOT REFUSED: one is still proved with it\n",
+            1,
+        ),
+        (
+            "old: right\nnew: nameless",
+            2,
+            "BAD EDIT: it is refused outside of proofs/, so for no fact: one/specs/A.antt:1:2: error: no such name\n",
+            1,
+        ),
+        (
+            "old: right\nnew: odd",
+            2,
+            "BAD EDIT: it did not reach the prover (exit 1): ",
+            1,
+        ),
+        (
+            "old: right\nnew: below",
+            2,
+            "BAD EDIT: it did not reach the prover (exit 1): ",
+            1,
+        ),
+        (
+            "old: right,\nnew:",
+            2,
+            "BAD EDIT: it did not reach the prover (exit 3): ",
+            1,
+        ),
+        (
+            "old: bright\nnew: wrong",
+            2,
+            "BAD EDIT: an old: text is not in src/lib.rt\n",
+            0,
+        ),
+        (
+            "old: it\nnew: that",
+            2,
+            "BAD EDIT: an old: text is in src/lib.rt more than once\n",
+            0,
+        ),
+        (
+            "new: wrong",
+            2,
+            "BAD EDIT: an old: text is not in src/lib.rt\n",
+            0,
+        ),
+        (
+            "old: right",
+            2,
+            "BAD EDIT: it has no old: and new: pair\n",
+            0,
+        ),
+    ] {
+        put(
+            "crates/one/must-fail/edit.edit",
+            &format!("file: src/lib.rt\n{edit}\n"),
+        );
+        let mut command = Command::new(tree.join(tool));
+        let output = command.arg("one/edit").env("PATH", &path).output().unwrap();
+        let out = text(&output.stdout);
+        assert!(
+            out.starts_with(said),
+            "{edit}: {out}{}",
+            text(&output.stderr)
+        );
+        assert!(out.contains("not the verdict"), "{out}");
+        assert_eq!(output.status.code(), Some(status), "{edit}");
+        asked += more;
+        let lines = fs::read_to_string(tree.join("asked")).unwrap();
+        assert_eq!(lines.lines().count(), asked, "{edit}");
     }
 }

@@ -229,7 +229,7 @@ fn changed_names(text: &str) -> Vec<String> {
 
 #[test]
 fn names_that_are_changed() {
-    let right = "use Rattle.layout.specs.Moves.{moveTo,\n    moveFrom}\nuse Rattle.array.specs.declared.Report.the-variants as report\n";
+    let right = "use Rattle.layout.specs.Moves.{moveTo,\n    moveFrom}\nuse Rattle.refusals.specs.declared.types.Report.the-variants as report\n";
     assert_eq!(changed_names(right), [""; 0]);
     for wrong in [
         "use Rattle.layout.specs.Moves.{moveTo as moveFrom}\n",
@@ -655,7 +655,7 @@ fn said(text: &str) -> Vec<String> {
     let (effect, moves, writing) = (
         "calls/specs/Effect.antt",
         "layout/specs/Moves.antt",
-        "array/src/writing.rt",
+        "access/src/writing.rt",
     );
     let definitions = [
         define("Call", Kind::Type, None, effect),
@@ -689,7 +689,7 @@ fn what_is_said_rightly() {
         "`Claim.answer` (`calls/specs/Effect.antt`)",
         "clause `images` of `write`, `read` of `Call`",
         "`effect g .place`, `List Call`, `length (f .place)`",
-        "`layout/zone_at_once`, `docs/READING.md`, `array`",
+        "`layout/zone_at_once`, `docs/READING.md`, `access`",
         "> `no-such-name`",
     ] {
         assert_eq!(said(text), [""; 0], "{text}");

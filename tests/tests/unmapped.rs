@@ -123,7 +123,7 @@ impl Array {
         let numbers = &self.flat.numbers;
         let range = images::part(numbers, disk, first..numbers.stripes);
         self.random
-            .fill(&mut self.loan.images.exclusive()[range.clone()]);
+            .fill(&mut self.loan.images.bytes_mut()[range.clone()]);
         self.loan.images.close(range);
     }
 
@@ -136,14 +136,14 @@ impl Array {
 
     fn read_all(&mut self) {
         for block in 0..self.flat.capacity() {
-            self.loan.block.exclusive().fill(0x5a);
+            self.loan.block.bytes_mut().fill(0x5a);
             self.accepted(Call::Read { block });
         }
     }
 
     fn write_all(&mut self) {
         for block in 0..self.flat.capacity() {
-            self.random.fill(self.loan.block.exclusive());
+            self.random.fill(self.loan.block.bytes_mut());
             self.accepted(Call::Write { block });
         }
     }
@@ -283,7 +283,7 @@ impl Array {
         let (own, len) = (images::disk(&numbers, disk), numbers.images_len() as usize);
         let next = images::part(&numbers, disk, done..done + k);
         self.random
-            .fill(&mut self.loan.images.exclusive()[next.clone()]);
+            .fill(&mut self.loan.images.bytes_mut()[next.clone()]);
         self.loan.images.keep(0..own.start);
         self.loan.images.close(own.start..next.start);
         self.loan.images.close(next.end..own.end);
@@ -300,7 +300,7 @@ impl Array {
         self.close_others(images::part(&numbers, disk, 0..done));
         for stripe in 0..done {
             if let Owner::Data(block) = self.flat.layout.owner(stripe, disk) {
-                self.loan.block.exclusive().fill(0x5a);
+                self.loan.block.bytes_mut().fill(0x5a);
                 self.accepted(Call::Read { block });
             }
         }
@@ -398,44 +398,47 @@ fn a_disk_that_is_out_is_not_touched() {
     assert!(calls > 1_000_000);
 }
 
-/// The pages are closed indeed, and kept: a program that reads a byte of the ones, or writes one of the others, ends.
+/// The pages are closed indeed, and kept, in both kinds of memory: a program that reads a byte of the ones, or writes one of the
+/// others, ends.
 #[test]
 fn a_page_that_may_not_be_touched() {
     const TOUCH: &str = "TOUCH_A_PAGE";
-    let mut pages = Guarded::zeros(Side::Start, 4 * 4096);
-    pages.exclusive().fill(7);
-    pages.close(4096..2 * 4096);
-    pages.keep(2 * 4096..3 * 4096);
-    assert_eq!(pages.shared()[4095], 7);
-    match std::env::var(TOUCH).as_deref() {
-        Ok("read") => {
+    let mut zeros = Guarded::zeros(Side::Start, 4 * 4096);
+    zeros.bytes_mut().fill(7);
+    let mut held = Guarded::new(Side::Start);
+    held.hold(&[7; 4 * 4096]);
+    for (kind, mut pages) in [("zeros", zeros), ("held", held)] {
+        pages.close(4096..2 * 4096);
+        pages.keep(2 * 4096..3 * 4096);
+        assert_eq!(pages.shared()[4095], 7);
+        if let Ok(touch) = std::env::var(TOUCH) {
             on_fault_tell(0);
-            println!("{}", pages.bytes()[4096]);
-            return;
+            if touch == format!("read {kind}") {
+                println!("{}", pages.shared()[4096]);
+            }
+            if touch == format!("write {kind}") {
+                pages.exclusive()[2 * 4096] = 8;
+            }
+            continue;
         }
-        Ok("write") => {
-            on_fault_tell(0);
-            pages.exclusive()[2 * 4096] = 8;
-            return;
+        assert_eq!(pages.exclusive()[2 * 4096], 7);
+        pages.exclusive()[3 * 4096] = 8;
+        for touch in ["read", "write"] {
+            let touched = std::process::Command::new(std::env::current_exe().unwrap())
+                .args(["--exact", "a_page_that_may_not_be_touched"])
+                .env(TOUCH, format!("{touch} {kind}"))
+                .output()
+                .unwrap();
+            assert_eq!(touched.status.code(), Some(1), "ended by the fault");
+            let said = String::from_utf8_lossy(&touched.stderr);
+            assert!(
+                said.contains("a byte outside of what was lent was touched"),
+                "{said}"
+            );
         }
-        _ => {}
+        pages.open();
+        assert_eq!(pages.exclusive()[4096], 7);
+        pages.exclusive()[2 * 4096] = 8;
+        assert_eq!(pages.bytes()[2 * 4096..][..2], [8, 7]);
     }
-    assert_eq!(pages.exclusive()[2 * 4096], 7);
-    pages.exclusive()[3 * 4096] = 8;
-    for touch in ["read", "write"] {
-        let touched = std::process::Command::new(std::env::current_exe().unwrap())
-            .args(["--exact", "a_page_that_may_not_be_touched"])
-            .env(TOUCH, touch)
-            .output()
-            .unwrap();
-        assert_eq!(touched.status.code(), Some(1), "ended by the fault");
-        let said = String::from_utf8_lossy(&touched.stderr);
-        assert!(
-            said.contains("a byte outside of what was lent was touched"),
-            "{said}"
-        );
-    }
-    pages.open();
-    assert_eq!(pages.exclusive()[4096], 7);
-    pages.exclusive()[2 * 4096] = 8;
 }

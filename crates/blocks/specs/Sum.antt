@@ -4,7 +4,7 @@ use mathlib.Core.Path.{_≡_}
 use mathlib.Core.Logic.{_⊎_}
 use mathlib.Core.List.{List}
 use lib.ListN.{length}
-use Rattle.blocks.specs.declared.Group.{Group}
+use Rattle.blocks.specs.declared.types.Group.{Group}
 use Rattle.blocks.specs.Block.{blockAt, copiedTo}
 use Rattle.blocks.specs.Stripe.{others}
 

@@ -5,6 +5,7 @@ mod number;
 mod place;
 mod stripe;
 mod sum;
+mod types;
 mod xor;
 mod zero;
 
@@ -18,14 +19,6 @@ pub use place::offset_of;
 pub use stripe::rebuild_place;
 pub use sum::GROUP;
 pub use sum::xor_others;
+pub use types::Group;
 pub use zero::cancels;
 pub use zero::is_zero;
-
-// The places of one stripe on the disks from `first` to before `last`, but for disk `out`, summed at once. A disk has `stripes` blocks.
-pub struct Group {
-    pub stripes: usize,
-    pub stripe: usize,
-    pub out: usize,
-    pub first: usize,
-    pub last: usize,
-}

@@ -7,11 +7,11 @@ ghost use lib.ListN.{length};
 ghost use Rattle.blocks.specs.Block.{blockAt, zeros};
 ghost use Rattle.blocks.specs.Stripe.{others};
 ghost use Rattle.blocks.specs.Sum.{sumTo, GroupInside, GroupBegun, PartBegun, partAdded};
-use crate::Group;
 use crate::copy::load_bytes;
 use crate::copy::store_bytes;
 use crate::copy::zero_block;
 use crate::place::offset_of;
+use crate::types::Group;
 use crate::xor::xor_out;
 
 // The bytes that are summed at once: as many as there is room for in registers.

@@ -5,11 +5,11 @@ ghost use Prim.Native.Nat.{_+_, _-_, _≤_, _<_};
 ghost use lib.ListN.{length};
 ghost use Rattle.blocks.specs.Block.{blockAt, isZeros};
 ghost use Rattle.blocks.specs.Sum.{sumTo, GroupBegun, PartBegun};
-use crate::Group;
 use crate::sum::HALF;
 use crate::sum::PIECE;
 use crate::sum::add_disks;
 use crate::sum::begin;
+use crate::types::Group;
 
 // Are the len bytes from at on zeroes? (An or of all of them, with no way out before the end: so the compiler takes many at once.)
 pub fn is_zero(source: &[u8], at: usize, len: usize) -> bool

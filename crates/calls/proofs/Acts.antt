@@ -18,9 +18,9 @@ use Rattle.blocks.proofs.Laws.Grid.{Grid, storeAt-same}
 use Rattle.blocks.proofs.Laws.Rows.{rest, put-same}
 use Rattle.blocks.proofs.Laws.Stripe.{cell, length-place, getD-place, length-others, getD-others}
 use Rattle.blocks.proofs.Laws.Xor.{getD-zeros}
-use Rattle.state.specs.declared.Health.the-variants.{Whole, Out, Lost, Rebuilding}
-use Rattle.state.specs.declared.Health.{Health}
-use Rattle.state.specs.declared.Record.{Record}
+use Rattle.state.specs.declared.types.Health.the-variants.{Whole, Out, Lost, Rebuilding}
+use Rattle.state.specs.declared.types.Health.{Health}
+use Rattle.state.specs.declared.types.Record.{Record}
 use Rattle.state.specs.Good.{geometry, GoodRecord}
 use Rattle.state.specs.Update.{formatted, grownBy, withMoves, withHealth}
 use Rattle.state.proofs.Laws.Good.{rebuilding-lt}

@@ -8,8 +8,8 @@ use native.Mathlib.Omega.{arith}
 use lib.ListN.{length}
 use Rattle.layout.specs.Layout.{layout}
 use Rattle.blocks.proofs.Laws.Grid.{Grid}
-use Rattle.state.specs.declared.Health.the-variants.{Rebuilding}
-use Rattle.state.specs.declared.Record.{Record}
+use Rattle.state.specs.declared.types.Health.the-variants.{Rebuilding}
+use Rattle.state.specs.declared.types.Record.{Record}
 use Rattle.state.specs.Good.{geometry}
 use Rattle.calls.specs.Call.{Call, view, write, grow, continue, status, locate, owner, Event, on, feed, count}
 use Rattle.state.specs.Update.{grownBy}

@@ -9,8 +9,8 @@ use lib.ListN.{length}
 use borrow.Author.Tests.{ne-eqb}
 use Rattle.blocks.specs.Block.{AreBytes}
 use Rattle.conditions.proofs.Tests.{equal}
-use Rattle.state.specs.declared.Health.the-variants.{Lost}
-use Rattle.state.specs.declared.Record.{Record}
+use Rattle.state.specs.declared.types.Health.the-variants.{Lost}
+use Rattle.state.specs.declared.types.Record.{Record}
 use Rattle.state.specs.Good.{geometry, good, GoodRecord}
 use Rattle.state.specs.Bytes.{recordLength, goodBytes, encode}
 use Rattle.state.proofs.Laws.Good.{limits}

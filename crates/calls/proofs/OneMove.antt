@@ -16,7 +16,7 @@ use Rattle.blocks.specs.Block.{zeros}
 use Rattle.blocks.proofs.Laws.Grid.{Grid, storeAt, storeAt-same, storeAt-row, storeAt-far}
 use Rattle.blocks.proofs.Laws.Stripe.{length-place, getD-place}
 use Rattle.blocks.proofs.Laws.Xor.{getD-zeros}
-use Rattle.state.specs.declared.Record.{Record}
+use Rattle.state.specs.declared.types.Record.{Record}
 use Rattle.state.specs.Good.{geometry, good}
 use Rattle.state.proofs.Laws.Good.{limits}
 use Rattle.calls.specs.Images.{disksOf, size, placeIn, stored}

@@ -9,8 +9,8 @@ use mathlib.Core.List.{List}
 use Rattle.layout.specs.Layout.{totalOf, capacity, layout}
 use Rattle.blocks.specs.Block.{zeros}
 use Rattle.blocks.specs.Xor.{xorB}
-use Rattle.state.specs.declared.Health.the-variants.{Whole, Out, Lost, Rebuilding}
-use Rattle.state.specs.declared.Record.{Record}
+use Rattle.state.specs.declared.types.Health.the-variants.{Whole, Out, Lost, Rebuilding}
+use Rattle.state.specs.declared.types.Record.{Record}
 use Rattle.state.specs.Good.{geometry}
 use Rattle.calls.specs.Call.{Call, format, read, view, write, grow, advance, out, begin, continue}
 use Rattle.calls.specs.Call.{status, locate, owner, sweep}

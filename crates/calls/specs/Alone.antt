@@ -11,8 +11,8 @@ use lib.ListN.{length}
 use Rattle.layout.specs.Layout.{layout, nextStripe, nextFrom, nextTo}
 use Rattle.blocks.specs.Block.{zeros}
 use Rattle.blocks.specs.Stripe.{offset}
-use Rattle.state.specs.declared.Health.the-variants.{Rebuilding}
-use Rattle.state.specs.declared.Record.{Record}
+use Rattle.state.specs.declared.types.Health.the-variants.{Rebuilding}
+use Rattle.state.specs.declared.types.Record.{Record}
 use Rattle.state.specs.Good.{geometry, good}
 use Rattle.calls.specs.Call.{Call, format, read, view, write, grow, advance, continue, status, locate, owner, Event, on, fed, count}
 use Rattle.calls.specs.Health.{absent}

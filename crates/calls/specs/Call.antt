@@ -7,7 +7,7 @@ use lib.ListN.{length, replicate}
 use Rattle.layout.specs.declared.Role.the-variants.{Data, Parity, Blank}
 use Rattle.layout.specs.declared.Role.{Role}
 use Rattle.layout.specs.declared.Standing.{Standing}
-use Rattle.state.specs.declared.Health.{Health}
+use Rattle.state.specs.declared.types.Health.{Health}
 use Rattle.state.specs.Bytes.{healthByte, diskByte, stripesDone}
 
 -- a call with the numbers that it is given, and a write's data

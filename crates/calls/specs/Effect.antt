@@ -9,8 +9,8 @@ use Rattle.layout.specs.Layout.{totalOf, capacity, layout, nextStripe, nextFrom
 use Rattle.blocks.specs.Block.{blockAt, zeros}
 use Rattle.blocks.specs.Xor.{xorB}
 use Rattle.blocks.specs.Stripe.{offset}
-use Rattle.state.specs.declared.Health.the-variants.{Rebuilding}
-use Rattle.state.specs.declared.Record.{Record}
+use Rattle.state.specs.declared.types.Health.the-variants.{Rebuilding}
+use Rattle.state.specs.declared.types.Record.{Record}
 use Rattle.state.specs.Good.{geometry}
 use Rattle.state.specs.Bytes.{decode, diskByte, stripesDone, encode}
 use Rattle.calls.specs.Call.{Call, format, read, view, write, grow, advance, out, begin, continue, status, locate, owner, sweep}

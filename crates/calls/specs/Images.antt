@@ -4,7 +4,7 @@ use mathlib.Core.Bool.{Bool, true, false, cond}
 use mathlib.Core.List.{List, [], _∷_, _++_}
 use Rattle.blocks.specs.Block.{store, zeros}
 use Rattle.blocks.specs.Stripe.{offset, place, others}
-use Rattle.state.specs.declared.Record.{Record}
+use Rattle.state.specs.declared.types.Record.{Record}
 use Rattle.calls.specs.Health.{absent}
 
 -- N, all disks of an array, and the length of its images, N × T × B

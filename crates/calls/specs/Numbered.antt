@@ -9,9 +9,9 @@ use mathlib.Core.List.{List, [], _∷_}
 use lib.ListN.{length}
 use Rattle.blocks.specs.Block.{AreBytes}
 use Rattle.layout.specs.Layout.{totalOf, capacity}
-use Rattle.state.specs.declared.Health.the-variants.{Out, Lost, Rebuilding}
-use Rattle.state.specs.declared.Health.{Health}
-use Rattle.state.specs.declared.Record.{Record}
+use Rattle.state.specs.declared.types.Health.the-variants.{Out, Lost, Rebuilding}
+use Rattle.state.specs.declared.types.Health.{Health}
+use Rattle.state.specs.declared.types.Record.{Record}
 use Rattle.state.specs.Good.{geometry, GoodRecord}
 use Rattle.state.specs.Bytes.{encode}
 use Rattle.calls.specs.Call.{Call, column, format, read, view, write, grow, advance, out, begin, continue}

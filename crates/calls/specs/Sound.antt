@@ -8,7 +8,7 @@ use Rattle.layout.specs.declared.Role.the-variants.{Blank}
 use Rattle.layout.specs.Layout.{isBlank, layout}
 use Rattle.blocks.specs.Block.{zeros, isZeros}
 use Rattle.blocks.specs.Xor.{xorAll}
-use Rattle.state.specs.declared.Record.{Record}
+use Rattle.state.specs.declared.types.Record.{Record}
 use Rattle.state.specs.Good.{geometry}
 use Rattle.calls.specs.Images.{disksOf, seen}
 

@@ -10,8 +10,8 @@ use lib.Bits.{bitXor}
 use lib.ListN.{length, getD}
 use Rattle.layout.specs.declared.Role.the-variants.{Blank}
 use Rattle.layout.specs.Layout.{layout}
-use Rattle.state.specs.declared.Health.the-variants.{Whole}
-use Rattle.state.specs.declared.Record.{Record}
+use Rattle.state.specs.declared.types.Health.the-variants.{Whole}
+use Rattle.state.specs.declared.types.Record.{Record}
 use Rattle.state.specs.Good.{geometry}
 use Rattle.calls.specs.Images.{placeIn}
 use Rattle.calls.specs.Sound.{Sound, isSound, unsoundStripes}

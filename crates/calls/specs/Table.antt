@@ -6,7 +6,7 @@ use lib.Dec.{eqb, ltb}
 use lib.ListN.{length}
 use Rattle.layout.specs.declared.Geometry.{Geometry}
 use Rattle.layout.specs.Layout.{totalOf, capacity}
-use Rattle.state.specs.declared.Record.{Record}
+use Rattle.state.specs.declared.types.Record.{Record}
 use Rattle.state.specs.Good.{geometry, oldGood, newGood, blockGood, stripesGood, good}
 use Rattle.state.specs.Bytes.{recordLength, decode, goodBytes}
 use Rattle.calls.specs.Call.{Call, sameCall, format, read, view, write, grow, advance, out, begin, continue}

@@ -10,9 +10,9 @@ use mathlib.Core.List.{List, [], _∷_, _++_}
 use lib.ListN.{replicate}
 use Rattle.layout.specs.declared.Role.the-variants.{Data, Parity, Blank}
 use Rattle.layout.specs.declared.Standing.{Standing}
-use Rattle.state.specs.declared.Health.the-variants.{Rebuilding}
-use Rattle.state.specs.declared.Health.{Health}
-use Rattle.state.specs.declared.Record.{Record}
+use Rattle.state.specs.declared.types.Health.the-variants.{Rebuilding}
+use Rattle.state.specs.declared.types.Health.{Health}
+use Rattle.state.specs.declared.types.Record.{Record}
 use Rattle.state.specs.Bytes.{healthByte, diskByte, stripesDone, encode}
 use Rattle.calls.specs.Call.{Event, fed, Answer, refused, done, bytes, made, allSound, unsoundAt, figures, placed, owned}
 use Rattle.calls.specs.Call.{accepted, number, shown, count, beside}

@@ -7,11 +7,11 @@ use mathlib.Core.Bool.{true}
 use native.Mathlib.Omega.{arith}
 use lib.ListN.{length}
 use Rattle.blocks.specs.Block.{zeros}
-use Rattle.state.specs.declared.Health.the-variants.{Lost}
-use Rattle.state.specs.declared.Record.{Record}
+use Rattle.state.specs.declared.types.Health.the-variants.{Lost}
+use Rattle.state.specs.declared.types.Record.{Record}
 use Rattle.state.specs.Good.{good}
 use Rattle.state.proofs.Laws.Bytes.{decode-encode}
-use Rattle.calls.specs.Call.{Call, column, format, write, out, sweep, Event, Fed, fed, Answer, allSound, accepted}
+use Rattle.calls.specs.Call.{Call, column, format, write, out, sweep, Event, Fed, feed, fed, Answer, allSound, accepted}
 use Rattle.calls.specs.Images.{size}
 use Rattle.calls.specs.Table.{refusal}
 use Rattle.history.specs.Flat.{Flat, fallen, flatAct, flatSettle, flatStep}
@@ -122,10 +122,10 @@ nothing-found = (finds-nothing asBytes decode-encode (demand3 .0), finds-nothing
 -- ---- what a block was last given
 
 pub last-given : LastGiven
-last-given f b v len room u es n = gives b v (flatStep (record { call = write b v; images = len; room = room }) f .1) es n (is-written f b v len room u)
+last-given f b v len room u es n = gives b v (flatStep (feed (write b v) len room) f .1) es n (is-written f b v len room u)
 
 pub zero-at-first : ZeroAtFirst
-zero-at-first f n B T len room u b es ng = gives b (zeros B) (flatStep (record { call = format n B T; images = len; room = room }) f .1) es ng (is-zero f n B T len room b u)
+zero-at-first f n B T len room u b es ng = gives b (zeros B) (flatStep (feed (format n B T) len room) f .1) es ng (is-zero f n B T len room b u)
 
 -- ---- a second disk out
 
@@ -137,7 +137,7 @@ second-out =
     }
   where
     no-reads : (f : Flat) (second len room : ℕ) → good (f .numbers) ≡ true → fallen (f .numbers .health) second ≡ Lost →
-        let y = flatStep (record { call = out second; images = len; room = room }) f in
+        let y = flatStep (feed (out second) len room) f in
         accepted (y .0) ≡ true → (es : List Fed) → NoReads es (y .1)
     no-reads f second len room g q u es =
-        lost-reads es (flatStep (record { call = out second; images = len; room = room }) f .1) (f .numbers) g (lost-then f second len room q u)
+        lost-reads es (flatStep (feed (out second) len room) f .1) (f .numbers) g (lost-then f second len room q u)

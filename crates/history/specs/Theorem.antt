@@ -17,11 +17,11 @@ use mathlib.Core.List.{List, [], _∷_, _++_, map}
 use lib.ListN.{length, getD}
 use Rattle.layout.specs.Layout.{totalOf, capacity, layout}
 use Rattle.blocks.specs.Block.{zeros}
-use Rattle.state.specs.declared.Health.the-variants.{Out, Lost, Rebuilding}
-use Rattle.state.specs.declared.Record.{Record}
+use Rattle.state.specs.declared.types.Health.the-variants.{Out, Lost, Rebuilding}
+use Rattle.state.specs.declared.types.Record.{Record}
 use Rattle.state.specs.Good.{geometry, good}
 use Rattle.calls.specs.Call.{Call, sameCall, format, read, view, write, grow, advance, out, sweep}
-use Rattle.calls.specs.Call.{Event, Fed, fed, Answer, refused, bytes, allSound, accepted, count}
+use Rattle.calls.specs.Call.{Event, on, Fed, feed, fed, Answer, refused, bytes, allSound, accepted, count}
 use Rattle.calls.specs.Health.{isLost, absent}
 use Rattle.calls.specs.Images.{disksOf, size, placeIn, seen}
 use Rattle.calls.specs.Table.{nothing, those, idle, refusal}
@@ -98,7 +98,7 @@ Claims x (e ∷ es) a f sum =
 -- "The list opens with an accepted format, lent any record and images. Behind it come any of the .. calls above, with any
 -- arguments, refused or not." (What the flat list and the sum were before it does not matter.)
 abbrev pub opening : ℕ → ℕ → ℕ → List ℕ → List ℕ → Event
-opening n B T img room = record { call = format n B T; images = img; room = room }
+opening n B T img room = on (format n B T) img room
 
 abbrev pub Demand3On : {R : Type 0} → Form R → Type 0
 Demand3On {R} x =
@@ -211,14 +211,14 @@ Gives b v f = (e : Fed) → (e .call ≡ read b) ⊎ (e .call ≡ view b) → ac
 abbrev pub LastGiven : Type 0
 LastGiven =
     (f : Flat) (b : ℕ) (v : List ℕ) (len room : ℕ) →
-    let y = flatStep (record { call = write b v; images = len; room = room }) f in
+    let y = flatStep (feed (write b v) len room) f in
     accepted (y .0) ≡ true → (es : List Fed) → NotGiven b es (y .1) → Gives b v (behind es (y .1))
 
 -- a block that was given nothing since the format reads as zeroes; so does one that is new, from the zone's end on that brought it
 abbrev pub ZeroAtFirst : Type 0
 ZeroAtFirst =
     (f : Flat) (n B T len room : ℕ) →
-    let y = flatStep (record { call = format n B T; images = len; room = room }) f in
+    let y = flatStep (feed (format n B T) len room) f in
     accepted (y .0) ≡ true → (b : ℕ) (es : List Fed) → NotGiven b es (y .1) → Gives b (zeros B) (behind es (y .1))
 
 -- ---- "A second disk out while the first is not rebuilt refuses all reads until a new format."
@@ -235,9 +235,9 @@ NoReads (e ∷ es) f =
 -- the first is out, or being rebuilt and so not rebuilt yet
 pub record SecondOut : Type 0 where
   pub while-out : (f : Flat) (first second len room : ℕ) →
-      let y = flatStep (record { call = out second; images = len; room = room }) f in
+      let y = flatStep (feed (out second) len room) f in
       good (f .numbers) ≡ true → f .numbers .health ≡ Out first → accepted (y .0) ≡ true → (es : List Fed) → NoReads es (y .1)
   pub while-rebuilding : (f : Flat) (first done second len room : ℕ) →
-      let y = flatStep (record { call = out second; images = len; room = room }) f in
+      let y = flatStep (feed (out second) len room) f in
       good (f .numbers) ≡ true → f .numbers .health ≡ Rebuilding first done → second ≢ first → accepted (y .0) ≡ true
       → (es : List Fed) → NoReads es (y .1)

@@ -1,8 +1,8 @@
 -- The bytes that a struct of bytes stands for.
 use Prim.Native.Nat.{ℕ}
 use mathlib.Core.List.{List, [], _∷_, _++_}
-use Rattle.lanes.specs.declared.Lane.{Lane}
-use Rattle.lanes.specs.declared.Quad.{Quad}
+use Rattle.lanes.specs.declared.types.Lane.{Lane}
+use Rattle.lanes.specs.declared.types.Quad.{Quad}
 
 abbrev pub laneBytes : Lane → List ℕ
 laneBytes x =

@@ -5,10 +5,10 @@ ghost use lib.ListN.{length};
 ghost use Rattle.blocks.specs.Block.{blockAt, store};
 ghost use Rattle.blocks.specs.Xor.{xorB};
 ghost use Rattle.lanes.specs.Lanes.{quadBytes};
-use crate::Quad;
 use crate::one::load_lane;
 use crate::one::store_lane;
 use crate::one::xor_lanes;
+use crate::types::Quad;
 
 // How many bytes they have.
 pub const QUAD: usize = 64;

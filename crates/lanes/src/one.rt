@@ -6,7 +6,7 @@ ghost use lib.ListN.{length};
 ghost use Rattle.blocks.specs.Block.{blockAt, store};
 ghost use Rattle.blocks.specs.Xor.{xorB};
 ghost use Rattle.lanes.specs.Lanes.{laneBytes};
-use crate::Lane;
+use crate::types::Lane;
 
 // How many bytes it has.
 pub const LANE: usize = 16;

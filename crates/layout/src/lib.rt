@@ -1,29 +1,6 @@
-// The layout of a growing RAID-5 array: who stands where after t moves, and which move comes next.
-// Numbers only, of 32 bits, which hold them all and are divided faster than 64; only a block is asked for by any number. Letters: n old
-// disks, m new disks, t moves done, s a stripe, d and e disks, b a block, k a move's index. Contracts cite the definitions of specs/, which
-// follow document 01.
-mod blanks;
-mod choice;
-mod closed;
-mod coded;
-mod home;
-mod layout;
-mod moves;
-
-pub use closed::is_taken;
-pub use closed::stripe_of;
-pub use layout::all_moved;
-pub use layout::capacity_of;
-pub use layout::has_block;
-pub use layout::moves_fit;
-pub use layout::open_stripes;
-pub use layout::owner_of;
-pub use layout::place_of;
-pub use layout::slot_of;
-pub use layout::total_of;
-pub use moves::cursor_of;
-pub use moves::move_of;
-pub use moves::next_move;
+// The layout of a growing RAID-5 array: who stands where after t moves, and which move comes next. Numbers only. Letters: n old disks, m
+// new disks, t moves done, s a stripe, d and e disks, b a block, k a move's index. The definitions are specs/, which follow document 01;
+// their functions are crate `placement`.
 
 // Block `stripe` of disk `disk`.
 pub struct Place {

@@ -6,7 +6,7 @@ use mathlib.Core.Bool.{Bool, cond, not, _&&_}
 use mathlib.Core.List.{List}
 use lib.Dec.{eqb}
 use lib.ListN.{length}
-use Rattle.parity.specs.declared.Gapped.{Gapped}
+use Rattle.parity.specs.declared.types.Gapped.{Gapped}
 use Rattle.blocks.specs.Block.{blockAt, store, copiedTo, zeros, Disjoint}
 use Rattle.blocks.specs.Xor.{xorB}
 use Rattle.blocks.specs.Stripe.{offset, place, others}

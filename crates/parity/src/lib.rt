@@ -2,16 +2,8 @@
 // is out (a reconstruct-write). Bytes only, straight from the images, and no array.
 mod modify;
 mod reconstruct;
+mod types;
 
 pub use modify::fold_parity;
 pub use reconstruct::fold_others;
-
-// A stripe with two gaps: its places on all disks but `out` and the parity's. A disk has `stripes` blocks of len bytes.
-pub struct Gapped {
-    pub disks: usize,
-    pub stripes: usize,
-    pub len: usize,
-    pub stripe: usize,
-    pub out: usize,
-    pub parity: usize,
-}
+pub use types::Gapped;

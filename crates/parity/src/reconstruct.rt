@@ -11,7 +11,7 @@ ghost use Rattle.blocks.specs.Xor.{xorB};
 ghost use Rattle.blocks.specs.Stripe.{PlaceInside};
 ghost use Rattle.lanes.specs.Lanes.{laneBytes, quadBytes};
 ghost use Rattle.parity.specs.Fold.{foldedOthers, counted, gapped, GappedInside, FoldInside, partFolded};
-use crate::Gapped;
+use crate::types::Gapped;
 use blocks::offset_of;
 use lanes::LANE;
 use lanes::Lane;

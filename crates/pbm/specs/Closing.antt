@@ -1,16 +1,9 @@
--- The bytes that a call leaves of a record's: as they were if it is refused, and else those of the record that it leaves.
-use Prim.Native.Nat.{ℕ}
+-- The bytes that a call leaves of a record's, by its number: as they were if it is refused, and else those of the record that it leaves.
+use Prim.Native.Nat.{ℕ, zero, suc}
 use mathlib.Core.List.{List}
+use Rattle.state.specs.declared.types.Record.{Record}
 use Rattle.state.specs.Bytes.{encode}
-use Rattle.array.specs.declared.Changed.{Changed}
-use Rattle.array.specs.declared.Changed.the-variants as changed
-use Rattle.array.specs.declared.Counted.{Counted}
-use Rattle.array.specs.declared.Counted.the-variants as counting
 
-abbrev pub changedBytes : Changed → List ℕ → List ℕ
-changedBytes (changed.Refused k) b = b
-changedBytes (changed.Done r) b = encode r
-
-abbrev pub countedBytes : Counted → List ℕ → List ℕ
-countedBytes (counting.Refused k) b = b
-countedBytes (counting.Made k r) b = encode r
+abbrev pub bytesLeft : ℕ → Record → List ℕ → List ℕ
+bytesLeft zero r b = encode r
+bytesLeft (suc k) r b = b

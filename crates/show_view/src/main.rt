@@ -1,61 +1,22 @@
 // Shows `view`, the one call that is not exported to C, in its cases: on document 01's array of 3 disks and 15 stripes that grows by 2
 // disks, with blocks of 4 bytes. A line says what was lent, the number, the view, and what the scratch holds behind the call. All calls but
-// the writes are those of `lent`, on a record that stands in a local and is lent.
-mod marks;
-mod records;
-mod viewed;
-
+// the writes are those of `lent`, through `viewer`.
 ghost use mathlib.Core.Path.{_≡_};
 ghost use lib.ListN.{length};
 ghost use Rattle.io.specs.Counts.{Counts};
-use libc::STDOUT_FILENO;
-use marks::mark;
-use marks::write_marks;
-use records::begun;
-use records::formatted;
-use records::grown;
-use records::moved;
-use records::rebuilt;
-use records::without;
 use state::Record;
-use viewed::view;
-
-fn wide(x: u8) -> u64 {
-    x as u64
-}
-
-// A space and a number for each byte.
-fn print_bytes(s: &[u8]) {
-    if s.len() == 0 {
-        io::write_all(STDOUT_FILENO, b" empty");
-    }
-    let mut i = 0;
-    while i < s.len() {
-        io::write_all(STDOUT_FILENO, b" ");
-        io::print_decimal(STDOUT_FILENO, wide(s[i]));
-        i += 1;
-    }
-}
-
-fn print_case(b: u64, what: &[u8]) {
-    io::write_all(STDOUT_FILENO, b"block ");
-    io::print_decimal(STDOUT_FILENO, b);
-    io::write_all(STDOUT_FILENO, b", ");
-    io::write_all(STDOUT_FILENO, what);
-}
-
-fn print_view(number: u8, view: &[u8]) {
-    io::write_all(STDOUT_FILENO, b": number ");
-    io::print_decimal(STDOUT_FILENO, wide(number));
-    io::write_all(STDOUT_FILENO, b", view");
-    print_bytes(view);
-}
-
-fn print_scratch(scratch: &[u8]) {
-    io::write_all(STDOUT_FILENO, b", scratch");
-    print_bytes(scratch);
-    io::write_all(STDOUT_FILENO, b"\n");
-}
+use viewer::begun;
+use viewer::formatted;
+use viewer::grown;
+use viewer::mark;
+use viewer::moved;
+use viewer::print_case;
+use viewer::print_scratch;
+use viewer::print_view;
+use viewer::rebuilt;
+use viewer::view;
+use viewer::without;
+use viewer::write_marks;
 
 // One view; what it leaves of the scratch is returned. The number is 255 before the call, which no call answers.
 fn show_one<'a>(scratch: &'a mut [u8], r: Record, images: &'a [u8], b: u64) -> &'a [u8] {
@@ -169,7 +130,7 @@ fn show_zone_end(three: Record, images: &mut [u8]) -> Record {
 
 fn show_new_block(six: Record, images: &mut [u8]) {
     let bytes = mark(30);
-    array::write(six, images, 30, &bytes);
+    access::write(six, images, 30, &bytes);
     show(six, images, 30, b"6 moves made, written");
     show_without(3, six, images, 30, b"6 moves made, written, disk 3 out");
 }
@@ -195,7 +156,7 @@ fn show_growth(r: Record, images: &mut [u8]) {
 // One stripe on 3 disks, with blocks as long as `bytes`, which block b is written with. Block 0 is on disk 2, block 1 on disk 1.
 fn one_stripe(images: &mut [u8], b: u64, bytes: &[u8]) -> Record {
     let r = formatted(no_array(), images, 3, bytes.len() as u64, 1);
-    array::write(r, images, b, bytes);
+    access::write(r, images, b, bytes);
     r
 }
 

@@ -8,9 +8,9 @@ use lib.Dec.{leb, ltb, eqb}
 use Rattle.layout.specs.declared.Geometry.{Geometry}
 use Rattle.layout.specs.Layout.{totalOf}
 use Rattle.layout.specs.Limits.{GoodArray}
-use Rattle.state.specs.declared.Health.the-variants.{Whole, Out, Lost, Rebuilding}
-use Rattle.state.specs.declared.Health.{Health}
-use Rattle.state.specs.declared.Record.{Record}
+use Rattle.state.specs.declared.types.Health.the-variants.{Whole, Out, Lost, Rebuilding}
+use Rattle.state.specs.declared.types.Health.{Health}
+use Rattle.state.specs.declared.types.Record.{Record}
 
 -- the array that a record speaks of
 abbrev pub geometry : Record → Geometry

@@ -7,9 +7,9 @@ use mathlib.Core.Logic.{_↔_}
 use mathlib.Core.List.{List, [], _∷_}
 use lib.ListN.{length, getD}
 use Rattle.blocks.specs.Block.{AreBytes}
-use Rattle.state.specs.declared.Health.the-variants.{Whole, Out, Lost, Rebuilding}
-use Rattle.state.specs.declared.Health.{Health}
-use Rattle.state.specs.declared.Record.{Record}
+use Rattle.state.specs.declared.types.Health.the-variants.{Whole, Out, Lost, Rebuilding}
+use Rattle.state.specs.declared.types.Health.{Health}
+use Rattle.state.specs.declared.types.Record.{Record}
 use Rattle.state.specs.Good.{geometry, good, GoodRecord}
 use Rattle.state.specs.Bytes.{recordLength, decode, plain, goodBytes, healthByte, diskByte, stripesDone, encode}
 use Rattle.state.specs.Update.{formatted, grownBy, withMoves, withHealth}

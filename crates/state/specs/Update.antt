@@ -1,8 +1,8 @@
 -- The records that calls leave. No other definition makes a record, but `decode`, and the flat list, whose text is its own.
 use Prim.Native.Nat.{ℕ}
-use Rattle.state.specs.declared.Health.the-variants.{Whole}
-use Rattle.state.specs.declared.Health.{Health}
-use Rattle.state.specs.declared.Record.{Record}
+use Rattle.state.specs.declared.types.Health.the-variants.{Whole}
+use Rattle.state.specs.declared.types.Health.{Health}
+use Rattle.state.specs.declared.types.Record.{Record}
 
 -- "**Format** (n, B, T): .. record whole, m = t = 0"
 abbrev pub formatted : ℕ → ℕ → ℕ → Record

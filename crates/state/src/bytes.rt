@@ -3,8 +3,8 @@ ghost use mathlib.Core.Path.{_≡_};
 ghost use lib.ListN.{length};
 ghost use Rattle.state.specs.Bytes.{recordLength, doneFrom, healthOf, decode, healthPlain, plain};
 ghost use Rattle.state.specs.Bytes.{healthByte, diskByte, stripesDone, encode};
-use crate::Health;
-use crate::Record;
+use crate::types::Health;
+use crate::types::Record;
 use blocks::join_four;
 use blocks::join_two;
 

@@ -3,10 +3,10 @@ ghost use Prim.Native.Nat.{_≤_};
 ghost use mathlib.Core.Path.{_≡_};
 ghost use Rattle.state.specs.Good.{geometry, within, oldGood, newGood, addedGood, blockGood, stripesGood};
 ghost use Rattle.state.specs.Good.{movesGood, healthGood, good};
-use crate::Health;
-use crate::Record;
+use crate::types::Health;
+use crate::types::Record;
 use layout::Geometry;
-use layout::moves_fit;
+use placement::moves_fit;
 
 // The array that a record speaks of.
 pub fn geometry_of(r: Record) -> Geometry

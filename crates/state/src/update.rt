@@ -1,8 +1,8 @@
 // The records that calls leave.
 ghost use mathlib.Core.Path.{_≡_};
 ghost use Rattle.state.specs.Update.{formatted, grownBy, withMoves, withHealth};
-use crate::Health;
-use crate::Record;
+use crate::types::Health;
+use crate::types::Record;
 
 // As format leaves it.
 pub fn formatted(n: u8, block: u16, stripes: u32) -> Record

@@ -14,7 +14,7 @@ fn put_line(out: &mut [u8], at: usize, n: u32, m: u32, k: u32) -> usize
     requires { ⌜ Listed n m k × (at + 17 ≤ length (now out)) ⌝ }
     ensures { λ r. ⌜ Stored (now (out .entry)) at (moveLine n m k) (now (out .exit)) r ⌝ }
 {
-    let moved = layout::move_of(n, m, k);
+    let moved = placement::move_of(n, m, k);
     let zone = moved.zone;
     let within = moved.within;
     let from = moved.from;

@@ -11,7 +11,7 @@ use lib.ListN.{length, getD, set, take, length-set}
 use lib.Seq.{take-suc, take-add, take-all, length-take-le}
 use Rattle.blocks.specs.Block.{store, blockAt}
 use Rattle.blocks.specs.Xor.{xorB}
-use Rattle.blocks.specs.declared.Group.{Group}
+use Rattle.blocks.specs.declared.types.Group.{Group}
 use Rattle.blocks.specs.Sum.{Begun}
 use Rattle.blocks.proofs.Laws.Block.{length-store, store-nil, store-append, store-snoc, getD-store-other, blockAt-other, store-whole, getD-blockAt, length-blockAt}
 use Rattle.blocks.proofs.Laws.Xor.{getD-xorB, length-xorB}

@@ -13,7 +13,7 @@ use lib.ListN.{length}
 use Rattle.blocks.specs.Block.{blockAt, zeros}
 use Rattle.blocks.specs.Xor.{xorB}
 use Rattle.blocks.specs.Stripe.{offset, place, others}
-use Rattle.blocks.specs.declared.Group.{Group}
+use Rattle.blocks.specs.declared.types.Group.{Group}
 use Rattle.blocks.specs.Sum.{sumTo, Begun, GroupBegun, PartBegun}
 use Rattle.blocks.proofs.Laws.Block.{blockAt-within, blockAt-zeros}
 use Rattle.blocks.proofs.Laws.Xor.{blockAt-xorB}

@@ -4,7 +4,7 @@ use mathlib.Core.Path.{_≡_, refl}
 use mathlib.Core.Bool.{true, false}
 use mathlib.Core.List.{List}
 use Rattle.layout.specs.Layout.{layout}
-use Rattle.state.specs.declared.Record.{Record}
+use Rattle.state.specs.declared.types.Record.{Record}
 use Rattle.state.specs.Good.{geometry}
 use Rattle.calls.specs.Call.{read, view, advance, Event, Answer, refused, done, bytes, made, allSound, unsoundAt, figures, placed, owned, accepted, number}
 use Rattle.calls.specs.Health.{absent}

@@ -11,11 +11,11 @@ use Rattle.layout.specs.declared.Geometry.{Geometry}
 use Rattle.layout.specs.Layout.{capacity, totalOf, layout}
 use Rattle.layout.specs.Limits.{GoodArray}
 use Rattle.layout.proofs.Laws.Opening.{capacity-rises}
-use Rattle.state.specs.declared.Health.the-variants.{Whole}
-use Rattle.state.specs.declared.Record.{Record}
+use Rattle.state.specs.declared.types.Health.the-variants.{Whole}
+use Rattle.state.specs.declared.types.Record.{Record}
 use Rattle.state.specs.Good.{geometry}
 use Rattle.state.specs.Update.{withMoves}
-use Rattle.calls.specs.Call.{advance, made}
+use Rattle.calls.specs.Call.{advance, on, made}
 use Rattle.calls.specs.Images.{size, placeIn, Store, block, stored, recorded}
 use Rattle.calls.specs.Table.{idle, laterRows, word}
 use Rattle.calls.specs.Effect.{moveStores, advanceStores, parityAfter, effect, act}
@@ -143,7 +143,7 @@ parity-kept k r img good nz long S lS =
 
 module _ (r : Record) (img room : List ℕ) (bs : List (List ℕ)) (lends : length img ≡ size r → Holding r img bs) (k : ℕ) (cap len : ℕ) where
   pub advances : word (laterRows (advance k) r cap (length img) len) ≡ 0
-      → Leaves (act (record { call = advance k; images = img; room = room }) r) (made (min k (totalOf (geometry r) - r .moves))) (advanced k r)
+      → Leaves (act (on (advance k) img room) r) (made (min k (totalOf (geometry r) - r .moves))) (advanced k r)
       (with-new (geometry (advanced k r)) (r .block) bs)
   unfolding effect
   advances z =

@@ -6,7 +6,7 @@ use mathlib.Core.Logic.{_≢_}
 use mathlib.Core.List.{List, [], _∷_, _++_}
 use lib.Dec.{eqb}
 use borrow.Author.Tests.{eqb-false, not-true}
-use Rattle.state.specs.declared.Record.{Record}
+use Rattle.state.specs.declared.types.Record.{Record}
 use Rattle.state.specs.Good.{good}
 use Rattle.calls.specs.Call.{Call, feed}
 use Rattle.calls.specs.Table.{Row, badRecord, images, Takes, those, imagesRow, terms, laterRows, looks, table, refusal}

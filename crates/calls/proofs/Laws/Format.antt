@@ -13,10 +13,10 @@ use Rattle.blocks.specs.Block.{zeros}
 use Rattle.blocks.proofs.Laws.Grid.{Grid}
 use Rattle.blocks.proofs.Laws.Rows.{sum-zero}
 use Rattle.blocks.proofs.Laws.Xor.{getD-zeros}
-use Rattle.state.specs.declared.Record.{Record}
+use Rattle.state.specs.declared.types.Record.{Record}
 use Rattle.state.specs.Good.{geometry, GoodRecord}
 use Rattle.state.specs.Update.{formatted}
-use Rattle.calls.specs.Call.{format, done}
+use Rattle.calls.specs.Call.{format, on, done}
 use Rattle.calls.specs.Health.{absent}
 use Rattle.calls.specs.Images.{disksOf, size, Store, stored, zeroDisks}
 use Rattle.calls.specs.Table.{formable, laterRows, word}
@@ -67,7 +67,7 @@ module _ (n B T : ℕ) where
   empty = omega arith
 
   module _ (img room : List ℕ) (x : Record) (c k : ℕ) (z : word (laterRows (format n B T) x c (length img) k) ≡ 0) where
-    pub formats : Leaves (act (record { call = format n B T; images = img; room = room }) x) done r (blank-blocks (T * (n - 1)) B)
+    pub formats : Leaves (act (on (format n B T) img room) x) done r (blank-blocks (T * (n - 1)) B)
     unfolding effect
     formats =
         let q = passed.formats x c (length img) k n B T z in

@@ -17,12 +17,12 @@ use Rattle.layout.proofs.Laws.Owners.{ownedWith, is-owner, Opened, opened, star
 use Rattle.layout.proofs.Laws.Zones.{total-none}
 use Rattle.blocks.proofs.Laws.Grid.{Grid}
 use Rattle.blocks.proofs.Laws.Rows.{sum-ext, sum-extend}
-use Rattle.state.specs.declared.Health.the-variants.{Whole}
-use Rattle.state.specs.declared.Record.{Record}
+use Rattle.state.specs.declared.types.Health.the-variants.{Whole}
+use Rattle.state.specs.declared.types.Record.{Record}
 use Rattle.state.specs.Good.{geometry, newGood}
 use Rattle.state.specs.Update.{grownBy}
 use Rattle.state.proofs.Laws.Good.{within-true}
-use Rattle.calls.specs.Call.{grow, done}
+use Rattle.calls.specs.Call.{grow, on, done}
 use Rattle.calls.specs.Health.{isLost, absent}
 use Rattle.calls.specs.Images.{disksOf, sizeWith, Store, stored, zeroDisks}
 use Rattle.calls.specs.Table.{laterRows, word}
@@ -101,7 +101,7 @@ module _ (r : Record) (left img room : List ℕ) (bs : List (List ℕ)) (h : Hol
   enough z = omega (arith, count-old z)
 
   pub grows : word (laterRows (grow m) r c (length img) k) ≡ 0
-      → Leaves (act (record { call = grow m; images = img; room = room }) r) done (grownBy r m) (with-new g′ (r .block) bs)
+      → Leaves (act (on (grow m) img room) r) done (grownBy r m) (with-new g′ (r .block) bs)
   unfolding effect Agree
   grows z =
       let q = passed.grows r c (length img) k m z in

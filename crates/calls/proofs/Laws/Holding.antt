@@ -13,9 +13,9 @@ use Rattle.blocks.proofs.Laws.Grid.{Grid}
 use Rattle.blocks.proofs.Laws.Rows.{rest}
 use Rattle.blocks.proofs.Laws.Stripe.{cell, length-place, getD-place, length-others, getD-others}
 use Rattle.conditions.proofs.Tests.{both}
-use Rattle.state.specs.declared.Health.the-variants.{Whole, Out, Lost, Rebuilding}
-use Rattle.state.specs.declared.Health.{Health}
-use Rattle.state.specs.declared.Record.{Record}
+use Rattle.state.specs.declared.types.Health.the-variants.{Whole, Out, Lost, Rebuilding}
+use Rattle.state.specs.declared.types.Health.{Health}
+use Rattle.state.specs.declared.types.Record.{Record}
 use Rattle.state.specs.Good.{geometry, GoodRecord}
 use Rattle.calls.specs.Call.{Answer}
 use Rattle.calls.specs.Health.{isLost, absent}

@@ -12,7 +12,7 @@ use Rattle.layout.specs.Limits.{GoodArray}
 use Rattle.blocks.specs.Stripe.{place}
 use Rattle.blocks.proofs.Laws.Grid.{Grid, storeAt, storeAt-row, storeAt-far}
 use Rattle.blocks.proofs.Laws.Stripe.{cell, place-in, length-place, getD-place}
-use Rattle.state.specs.declared.Record.{Record}
+use Rattle.state.specs.declared.types.Record.{Record}
 use Rattle.state.specs.Good.{geometry}
 use Rattle.calls.specs.Images.{disksOf, size, Store, block, header, stored, recorded}
 use Rattle.calls.specs.Table.{idle}

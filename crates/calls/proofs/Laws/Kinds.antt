@@ -9,7 +9,7 @@ use lib.ListN.{length}
 use Rattle.layout.specs.Layout.{capacity}
 use Rattle.layout.proofs.Laws.Layout.{lawful}
 use Rattle.blocks.proofs.Laws.Stripe.{length-others}
-use Rattle.state.specs.declared.Record.{Record}
+use Rattle.state.specs.declared.types.Record.{Record}
 use Rattle.state.specs.Good.{geometry, GoodRecord}
 use Rattle.calls.specs.Call.{Call, format, read, view, write, grow, advance, out, begin, continue, status, locate, owner, sweep}
 use Rattle.calls.specs.Call.{Event, Fed, feed, Answer, accepted, number, done}

@@ -18,9 +18,9 @@ use Rattle.blocks.specs.Block.{zeros}
 use Rattle.blocks.proofs.Laws.Grid.{Grid}
 use Rattle.blocks.proofs.Laws.Stripe.{length-place, getD-place}
 use Rattle.blocks.proofs.Laws.Xor.{getD-zeros}
-use Rattle.state.specs.declared.Health.the-variants.{Whole}
-use Rattle.state.specs.declared.Health.{Health}
-use Rattle.state.specs.declared.Record.{Record}
+use Rattle.state.specs.declared.types.Health.the-variants.{Whole}
+use Rattle.state.specs.declared.types.Health.{Health}
+use Rattle.state.specs.declared.types.Record.{Record}
 use Rattle.state.specs.Good.{geometry}
 use Rattle.state.specs.Update.{withMoves}
 use Rattle.calls.specs.Health.{absent}

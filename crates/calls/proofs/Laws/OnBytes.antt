@@ -8,16 +8,17 @@ use native.Mathlib.Omega.{arith}
 use lib.ListN.{length}
 use borrow.Author.Tests.{eq-eqb, ne-eqb}
 use Rattle.layout.specs.Layout.{capacity}
-use Rattle.state.specs.declared.Record.{Record}
+use Rattle.state.specs.declared.types.Record.{Record}
 use Rattle.state.specs.Good.{geometry, good}
 use Rattle.state.specs.Bytes.{recordLength, decode, plain, goodBytes, encode}
 use Rattle.state.specs.Update.{formatted}
 use Rattle.state.proofs.Laws.Bytes.{decode-encode, length-encode, plain-encode}
-use Rattle.calls.specs.Call.{Call, format, Event, on, Fed, feed, fed, accepted}
+use Rattle.calls.specs.Call.{Call, format, Event, on, Fed, feed, fed, number}
 use Rattle.calls.specs.Images.{zeroDisks}
 use Rattle.calls.specs.Table.{looks, terms, laterRows, table, word, refusal, rowsBytes, refusalBytes}
 use Rattle.calls.specs.Effect.{effect, Left, act, untouched, settle, called, sealed, calledBytes}
 use Rattle.calls.proofs.Laws.Stores.{recorded-last}
+use Rattle.calls.proofs.Laws.Acting.{zero-done}
 use Rattle.calls.proofs.Laws.Kinds.{facts}
 
 pub good-encode : (r : Record) → goodBytes (encode r) ≡ good r
@@ -66,14 +67,14 @@ pub record Seals (b : List ℕ) (x : Left (List ℕ)) (y : Left Record) : Type 0
   pub answer : x .answer ≡ y .answer
   pub images : x .images ≡ y .images
   pub room : x .room ≡ y .room
-  pub kept : accepted (y .answer) ≡ false → x .state ≡ b
-  pub written : accepted (y .answer) ≡ true → x .state ≡ encode (y .state)
+  pub kept : number (y .answer) ≢ 0 → x .state ≡ b
+  pub written : number (y .answer) ≡ 0 → x .state ≡ encode (y .state)
 
 seals : (e : Event) (b : List ℕ) (r : Record) (n : ℕ) → Seals b (settle n (untouched e b) (sealed (act e r))) (settle n (untouched e r) (act e r))
 seals e b r zero =
-    let no-refusal : accepted (act e r .answer) ≡ true = facts r e (e .call) .accepts in
-    record { answer = refl; images = refl; room = refl; kept = λ q. absurd (let w : _≡_ {A = ℕ} 0 1 = cc in omega arith); written = λ q. refl }
-seals e b r (suc n) = record { answer = refl; images = refl; room = refl; kept = λ q. refl; written = λ q. absurd (let w : _≡_ {A = ℕ} 0 1 = cc in omega arith) }
+    let accepts : number (act e r .answer) ≡ 0 = zero-done (act e r .answer) (facts r e (e .call) .accepts) in
+    record { answer = refl; images = refl; room = refl; kept = λ q. absurd (q accepts); written = λ q. refl }
+seals e b r (suc n) = record { answer = refl; images = refl; room = refl; kept = λ q. refl; written = λ q. absurd (omega (arith, q)) }
 
 -- bytes that a record is written as
 module _ (e : Event) (b : List ℕ) (long : length b ≡ recordLength) (p : plain b ≡ true) where

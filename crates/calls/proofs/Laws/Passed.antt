@@ -6,8 +6,8 @@ use mathlib.Core.List.{List}
 use lib.Dec.{eqb, ltb}
 use lib.ListN.{length}
 use borrow.Author.Tests.{not-false}
-use Rattle.state.specs.declared.Health.the-variants.{Whole, Out, Rebuilding}
-use Rattle.state.specs.declared.Record.{Record}
+use Rattle.state.specs.declared.types.Health.the-variants.{Whole, Out, Rebuilding}
+use Rattle.state.specs.declared.types.Record.{Record}
 use Rattle.layout.specs.Layout.{capacity}
 use Rattle.state.specs.Good.{geometry, newGood, good, GoodRecord}
 use Rattle.state.specs.Bytes.{recordLength, decode, goodBytes}

@@ -6,9 +6,9 @@ use mathlib.Core.List.{List, []}
 use lib.ListN.{length, getD}
 use Rattle.layout.specs.Layout.{capacity}
 use Rattle.blocks.specs.Stripe.{offset}
-use Rattle.state.specs.declared.Record.{Record}
+use Rattle.state.specs.declared.types.Record.{Record}
 use Rattle.state.specs.Good.{geometry}
-use Rattle.calls.specs.Call.{read, view, bytes}
+use Rattle.calls.specs.Call.{read, view, on, bytes}
 use Rattle.calls.specs.Health.{absent}
 use Rattle.calls.specs.Images.{size, placeIn, othersIn, seen, stored, recorded}
 use Rattle.calls.specs.Table.{laterRows, word}
@@ -37,11 +37,11 @@ module _ (r : Record) (img room : List ℕ) (bs : List (List ℕ)) (lends : leng
   given q = let h : Holding r img bs = lends (q .long) in (block-is r img bs h b (q .block-lt) (q .here), h)
 
   pub reads : word (laterRows (read b) r (capacity (geometry r)) (length img) (length room)) ≡ 0
-      → Leaves (act (record { call = read b; images = img; room = room }) r) (bytes (getD bs b [])) r bs
+      → Leaves (act (on (read b) img room) r) (bytes (getD bs b [])) r bs
   unfolding effect stored recorded
   reads z = let (p, h) = given (passed.reads r (capacity (geometry r)) (length img) (length room) b z) in record { answer = ap bytes p; state = refl; holding = h }
 
   pub views : word (laterRows (view b) r (capacity (geometry r)) (length img) (length room)) ≡ 0
-      → Leaves (act (record { call = view b; images = img; room = room }) r) (bytes (getD bs b [])) r bs
+      → Leaves (act (on (view b) img room) r) (bytes (getD bs b [])) r bs
   unfolding effect stored recorded
   views z = let (p, h) = given (passed.views r (capacity (geometry r)) (length img) (length room) b z) in record { answer = ap bytes (viewed-is r img room b ∙ p); state = refl; holding = h }

@@ -11,9 +11,9 @@ use borrow.Author.Tests.{not-true, not-false, eqb-true, eqb-false, ltb-true, lt-
 use Rattle.layout.specs.declared.Geometry.{Geometry}
 use Rattle.layout.specs.Layout.{totalOf}
 use Rattle.layout.proofs.Laws.Basics.{le-or-lt}
-use Rattle.state.specs.declared.Health.the-variants.{Whole, Out, Lost, Rebuilding}
-use Rattle.state.specs.declared.Health.{Health}
-use Rattle.state.specs.declared.Record.{Record}
+use Rattle.state.specs.declared.types.Health.the-variants.{Whole, Out, Lost, Rebuilding}
+use Rattle.state.specs.declared.types.Health.{Health}
+use Rattle.state.specs.declared.types.Record.{Record}
 use Rattle.state.specs.Good.{within, oldGood, blockGood, stripesGood, good, GoodRecord}
 use Rattle.state.proofs.Laws.Good.{within-true, true-within, limits, within-limits}
 use Rattle.calls.specs.Health.{isLost, isDegraded, isOut, isRebuilding}

@@ -16,9 +16,9 @@ use Rattle.blocks.specs.Stripe.{others}
 use Rattle.blocks.proofs.Laws.Grid.{Grid}
 use Rattle.blocks.proofs.Laws.Rows.{put, rest, put-same, put-other}
 use Rattle.blocks.proofs.Laws.Stripe.{length-others, getD-others, others-store}
-use Rattle.state.specs.declared.Health.the-variants.{Whole, Out, Rebuilding}
-use Rattle.state.specs.declared.Health.{Health}
-use Rattle.state.specs.declared.Record.{Record}
+use Rattle.state.specs.declared.types.Health.the-variants.{Whole, Out, Rebuilding}
+use Rattle.state.specs.declared.types.Health.{Health}
+use Rattle.state.specs.declared.types.Record.{Record}
 use Rattle.state.specs.Good.{geometry, HealthWithin, GoodRecord}
 use Rattle.state.specs.Update.{withHealth}
 use Rattle.state.specs.Bytes.{stripesDone}

@@ -7,7 +7,7 @@ use mathlib.Core.List.{List, [], _∷_, _++_}
 use native.Mathlib.Omega.{arith}
 use lib.Dec.{eqb}
 use lib.ListN.{getD}
-use Rattle.state.specs.declared.Record.{Record}
+use Rattle.state.specs.declared.types.Record.{Record}
 use Rattle.calls.specs.Call.{Call, column}
 use Rattle.calls.specs.Table.{Row, table, word}
 use Rattle.calls.specs.Cases.Refusals.{marks, marked, numbers}

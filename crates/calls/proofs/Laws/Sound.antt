@@ -11,7 +11,7 @@ use Rattle.blocks.specs.Block.{zeros}
 use Rattle.blocks.specs.Xor.{xorAll}
 use Rattle.blocks.proofs.Laws.Rows.{_⊕_, sum, sum-ext}
 use Rattle.blocks.proofs.Laws.Xor.{length-xorB, getD-xorB, getD-zeros, xorAll-snoc}
-use Rattle.state.specs.declared.Record.{Record}
+use Rattle.state.specs.declared.types.Record.{Record}
 use Rattle.state.specs.Good.{geometry}
 use Rattle.calls.specs.Health.{isLost, absent}
 use Rattle.calls.specs.Images.{disksOf, seen}

@@ -14,7 +14,7 @@ use Rattle.blocks.proofs.Laws.Grid.{Grid, storeAt, storeAt-same, storeAt-row, s
 use Rattle.blocks.proofs.Laws.Rows.{put, put-same, put-other}
 use Rattle.blocks.proofs.Laws.Stripe.{cell, cell-store}
 use Rattle.blocks.proofs.Laws.Xor.{getD-zeros}
-use Rattle.state.specs.declared.Record.{Record}
+use Rattle.state.specs.declared.types.Record.{Record}
 use Rattle.calls.specs.Theorem.{rising}
 use Rattle.calls.specs.Images.{Store, block, header, stored, recorded, unless, fillDisk, zeroDisks}
 

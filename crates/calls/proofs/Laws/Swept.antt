@@ -3,8 +3,8 @@ use Prim.Native.Nat.{ℕ}
 use mathlib.Core.Path.{_≡_, refl, ap, _∙_}
 use mathlib.Core.List.{List}
 use lib.ListN.{length}
-use Rattle.state.specs.declared.Record.{Record}
-use Rattle.calls.specs.Call.{sweep, allSound}
+use Rattle.state.specs.declared.types.Record.{Record}
+use Rattle.calls.specs.Call.{sweep, on, allSound}
 use Rattle.calls.specs.Health.{isLost}
 use Rattle.calls.specs.Images.{size, stored, recorded}
 use Rattle.calls.specs.Table.{laterRows, word}
@@ -16,7 +16,7 @@ use Rattle.calls.proofs.Laws.Unsound.{answers-none}
 
 pub sweeps : (r : Record) (img room : List ℕ) (bs : List (List ℕ)) → (length img ≡ size r → Holding r img bs) → (c len : ℕ)
     → word (laterRows sweep r c (length img) len) ≡ 0
-    → Leaves (act (record { call = sweep; images = img; room = room }) r) (allSound (r .stripes)) r bs
+    → Leaves (act (on sweep img room) r) (allSound (r .stripes)) r bs
 unfolding effect
 sweeps r img room bs hold c len z =
     let p = passed.sweeps r c (length img) len z in

@@ -13,8 +13,8 @@ use Rattle.layout.specs.declared.Geometry.{Geometry}
 use Rattle.layout.specs.Layout.{totalOf}
 use Rattle.layout.specs.Limits.{GoodArray}
 use lib.ListN.{length}
-use Rattle.state.specs.declared.Health.the-variants.{Lost}
-use Rattle.state.specs.declared.Record.{Record}
+use Rattle.state.specs.declared.types.Health.the-variants.{Lost}
+use Rattle.state.specs.declared.types.Record.{Record}
 use Rattle.state.specs.Good.{newGood, good}
 use Rattle.calls.specs.Call.{Call, format, read, view, write, grow, advance, out, begin, continue}
 use Rattle.calls.specs.Call.{status, locate, owner, sweep, feed}

@@ -21,9 +21,9 @@ use Rattle.blocks.proofs.Laws.Xor.{getD-zeros}
 use Rattle.blocks.proofs.Laws.Stripe.{getD-place, xor-stripe, length-others, others-all}
 use Rattle.blocks.proofs.Laws.Zero.{is-zeros, zeros-are}
 use Rattle.conditions.proofs.Tests.{both, second}
-use Rattle.state.specs.declared.Health.the-variants.{Whole}
-use Rattle.state.specs.declared.Health.{Health}
-use Rattle.state.specs.declared.Record.{Record}
+use Rattle.state.specs.declared.types.Health.the-variants.{Whole}
+use Rattle.state.specs.declared.types.Health.{Health}
+use Rattle.state.specs.declared.types.Record.{Record}
 use Rattle.state.specs.Good.{geometry}
 use Rattle.calls.specs.Call.{allSound, unsoundAt}
 use Rattle.calls.specs.Health.{absent}

@@ -18,9 +18,9 @@ use Rattle.blocks.specs.Xor.{xorB}
 use Rattle.blocks.proofs.Laws.Grid.{Grid, storeAt, storeAt-same, storeAt-row, storeAt-far}
 use Rattle.blocks.proofs.Laws.Rows.{_⊕_, cancel-l}
 use Rattle.blocks.proofs.Laws.Xor.{xor-assoc, length-xorB, getD-xorB}
-use Rattle.state.specs.declared.Record.{Record}
+use Rattle.state.specs.declared.types.Record.{Record}
 use Rattle.state.specs.Good.{geometry, GoodRecord}
-use Rattle.calls.specs.Call.{write, done}
+use Rattle.calls.specs.Call.{write, on, done}
 use Rattle.calls.specs.Health.{isLost, absent}
 use Rattle.calls.specs.Images.{disksOf, size, seen, Store, block, stored, recorded, unless}
 use Rattle.calls.specs.Table.{laterRows, word}
@@ -217,7 +217,7 @@ module _ (r : Record) (img : List ℕ) (bs : List (List ℕ)) (h : Holding r img
 
 module _ (r : Record) (img room : List ℕ) (bs : List (List ℕ)) (lends : length img ≡ size r → Holding r img bs) (b : ℕ) (v : List ℕ) (k : ℕ) where
   pub writes : word (laterRows (write b v) r (capacity (geometry r)) (length img) k) ≡ 0
-      → Leaves (act (record { call = write b v; images = img; room = room }) r) done r (set bs b v)
+      → Leaves (act (on (write b v) img room) r) done r (set bs b v)
   unfolding effect
   writes z =
       let q = passed.writes r (capacity (geometry r)) (length img) k b v z in

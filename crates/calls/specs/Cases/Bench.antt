@@ -9,10 +9,10 @@ use Rattle.layout.specs.Home.{standingAt}
 use Rattle.layout.specs.Moves.{moveOf, total}
 use Rattle.layout.specs.Cases.Paper.{move}
 use Rattle.blocks.specs.Block.{zeros}
-use Rattle.state.specs.declared.Health.the-variants.{Whole}
-use Rattle.state.specs.declared.Record.{Record}
+use Rattle.state.specs.declared.types.Health.the-variants.{Whole}
+use Rattle.state.specs.declared.types.Record.{Record}
 use Rattle.state.specs.Update.{formatted, grownBy, withMoves}
-use Rattle.calls.specs.Call.{Call, format, grow, advance, status, locate, owner}
+use Rattle.calls.specs.Call.{Call, format, grow, advance, status, locate, owner, on, feed}
 use Rattle.calls.specs.Call.{Answer, refused, made, figures, placed, owned}
 use Rattle.calls.specs.Images.{size}
 use Rattle.calls.specs.Table.{refusal}
@@ -27,7 +27,7 @@ mill t = withMoves (grownBy small 2) t
 
 -- what a call that takes no images answers
 abbrev pub asked : Call → Record → Answer
-asked c r = called (record { call = c; images = []; room = [] }) r .answer
+asked c r = called (on c [] []) r .answer
 
 abbrev pub located : ℕ → Record → Answer
 located b r = asked (locate b) r
@@ -71,14 +71,14 @@ pub record Bench : Type 0 where
 
 -- the number that a call is given that is lent images of length len, with an array of capacity c before it
 abbrev pub numbered : Call → ℕ → Record → ℕ → ℕ
-numbered c len r cap = refusal r cap (record { call = c; images = len; room = 0 })
+numbered c len r cap = refusal r cap (feed c len 0)
 
 abbrev pub formats : ℕ → ℕ → ℕ → ℕ
 formats n B T = numbered (format n B T) (n * (T * B)) small 30
 
 -- what advance answers that is lent images of zeroes
 abbrev pub advanced : ℕ → Record → Answer
-advanced k r = called (record { call = advance k; images = zeros (size r); room = [] }) r .answer
+advanced k r = called (on (advance k) (zeros (size r)) []) r .answer
 
 -- 4 disks of 19 stripes, grown by 1
 abbrev pub odd : Record

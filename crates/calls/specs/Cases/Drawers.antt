@@ -6,11 +6,12 @@ use Prim.Native.Nat.{ℕ}
 use mathlib.Core.Path.{_≡_}
 use mathlib.Core.List.{List, [], _∷_, _++_}
 use Rattle.blocks.specs.Block.{zeros}
-use Rattle.state.specs.declared.Health.the-variants.{Whole, Out, Lost, Rebuilding}
-use Rattle.state.specs.declared.Health.{Health}
-use Rattle.state.specs.declared.Record.{Record}
+use Rattle.state.specs.declared.types.Health.the-variants.{Whole, Out, Lost, Rebuilding}
+use Rattle.state.specs.declared.types.Health.{Health}
+use Rattle.state.specs.declared.types.Record.{Record}
 use Rattle.state.specs.Update.{formatted, grownBy, withMoves, withHealth}
-use Rattle.calls.specs.Call.{Call, format, read, view, write, grow, advance, out, begin, continue, Answer, refused, bytes, made, done}
+use Rattle.calls.specs.Call.{Call, format, read, view, write, grow, advance, out, begin, continue}
+use Rattle.calls.specs.Call.{on, Answer, refused, bytes, made, done}
 use Rattle.calls.specs.Images.{block, header}
 use Rattle.calls.specs.Effect.{writeStores, moveStores, continueStores, Left, called}
 
@@ -72,8 +73,8 @@ abbrev pub newDegraded : List ℕ
 newDegraded = disk0 ++ garbage ++ disk2Written ++ disk3
 
 -- a call on these images, with a block or scratch of one byte, 9
-abbrev pub on : List ℕ → Record → Call → Left Record
-on img r c = called (record { call = c; images = img; room = 9 ∷ [] }) r
+abbrev pub run : List ℕ → Record → Call → Left Record
+run img r c = called (on c img (9 ∷ [])) r
 
 abbrev pub left : Record → List ℕ → List ℕ → Answer → Left Record
 left r img room a = record { answer = a; state = r; images = img; room = room }
@@ -113,109 +114,109 @@ abbrev pub wideDegraded : List ℕ
 wideDegraded = wide0 ++ wide1 ++ noise ++ wide3
 
 -- a call on these, with a block or scratch of two bytes, 9 and 9
-abbrev pub onWide : List ℕ → Record → Call → Left Record
-onWide img r c = called (record { call = c; images = img; room = 9 ∷ 9 ∷ [] }) r
+abbrev pub runWide : List ℕ → Record → Call → Left Record
+runWide img r c = called (on c img (9 ∷ 9 ∷ [])) r
 
 abbrev pub leftWide : Record → List ℕ → Answer → Left Record
 leftWide r img a = left r img (9 ∷ 9 ∷ []) a
 
 pub record Drawers : Type 0 where
   -- move 4: block 12, stripe 6, disk 2 to 3; the place left is zeroed
-  pub move : on standing (cabinet Whole 4) (advance 1)
+  pub move : run standing (cabinet Whole 4) (advance 1)
       ≡ left (cabinet Whole 5)
       (disk0 ++ disk1 ++ (1 ∷ 0 ∷ 3 ∷ 7 ∷ 9 ∷ 7 ∷ 0 ∷ 15 ∷ 3 ∷ 19 ∷ 21 ∷ 15 ∷ [])
       ++ (0 ∷ 3 ∷ 5 ∷ 15 ∷ 0 ∷ 0 ∷ 13 ∷ 31 ∷ 0 ∷ 0 ∷ 0 ∷ 0 ∷ []))
       (9 ∷ []) (made 1)
   -- "k = 0 makes none."
-  pub no-move : on standing (cabinet Whole 4) (advance 0) ≡ left (cabinet Whole 4) standing (9 ∷ []) (made 0)
+  pub no-move : run standing (cabinet Whole 4) (advance 0) ≡ left (cabinet Whole 4) standing (9 ∷ []) (made 0)
   -- it copies what is there, sound or not
-  pub move-unsound : on degraded (cabinet Whole 4) (advance 1)
+  pub move-unsound : run degraded (cabinet Whole 4) (advance 1)
       ≡ left (cabinet Whole 5)
       (disk0 ++ disk1 ++ (77 ∷ 77 ∷ 77 ∷ 77 ∷ 77 ∷ 77 ∷ 0 ∷ 77 ∷ 77 ∷ 77 ∷ 77 ∷ 77 ∷ [])
       ++ (0 ∷ 3 ∷ 5 ∷ 15 ∷ 0 ∷ 0 ∷ 77 ∷ 31 ∷ 0 ∷ 0 ∷ 0 ∷ 0 ∷ []))
       (9 ∷ []) (made 1)
   -- block 6 is on disk 2 of stripe 3, its parity has moved to disk 3: 15 xor 7 xor 200 is 192
-  pub written : on standing (cabinet Whole 4) (write 6 (200 ∷ []))
+  pub written : run standing (cabinet Whole 4) (write 6 (200 ∷ []))
       ≡ left (cabinet Whole 4)
       (disk0 ++ disk1 ++ (1 ∷ 0 ∷ 3 ∷ 200 ∷ 9 ∷ 7 ∷ 13 ∷ 15 ∷ 3 ∷ 19 ∷ 21 ∷ 15 ∷ [])
       ++ (0 ∷ 3 ∷ 5 ∷ 192 ∷ 0 ∷ 0 ∷ 0 ∷ 31 ∷ 0 ∷ 0 ∷ 0 ∷ 0 ∷ []))
       (9 ∷ []) done
   -- with disk 2 out: the parity alone
-  pub written-degraded : on degraded (cabinet (Out 2) 4) (write 6 (200 ∷ []))
+  pub written-degraded : run degraded (cabinet (Out 2) 4) (write 6 (200 ∷ []))
       ≡ left (cabinet (Out 2) 4) (disk0 ++ disk1 ++ garbage ++ (0 ∷ 3 ∷ 5 ∷ 192 ∷ 0 ∷ 0 ∷ 0 ∷ 31 ∷ 0 ∷ 0 ∷ 0 ∷ 0 ∷ [])) (9 ∷ []) done
   -- with disk 3, the parity's, out: the data alone
-  pub written-no-parity : on standing (cabinet (Out 3) 4) (write 6 (200 ∷ []))
+  pub written-no-parity : run standing (cabinet (Out 3) 4) (write 6 (200 ∷ []))
       ≡ left (cabinet (Out 3) 4) (disk0 ++ disk1 ++ (1 ∷ 0 ∷ 3 ∷ 200 ∷ 9 ∷ 7 ∷ 13 ∷ 15 ∷ 3 ∷ 19 ∷ 21 ∷ 15 ∷ []) ++ disk3) (9 ∷ []) done
-  pub read-degraded : on degraded (cabinet (Out 2) 4) (read 6) ≡ left (cabinet (Out 2) 4) degraded (7 ∷ []) (bytes (7 ∷ []))
+  pub read-degraded : run degraded (cabinet (Out 2) 4) (read 6) ≡ left (cabinet (Out 2) 4) degraded (7 ∷ []) (bytes (7 ∷ []))
   -- the scratch is filled only if the block's disk is out
-  pub viewed : on standing (cabinet Whole 4) (view 6) ≡ left (cabinet Whole 4) standing (9 ∷ []) (bytes (7 ∷ []))
-  pub viewed-degraded : on degraded (cabinet (Out 2) 4) (view 6) ≡ left (cabinet (Out 2) 4) degraded (7 ∷ []) (bytes (7 ∷ []))
-  pub begun : on degraded (cabinet (Out 2) 4) (begin 2) ≡ left (cabinet (Rebuilding 2 0) 4) degraded (9 ∷ []) done
-  pub rebuilt : on degraded (cabinet (Rebuilding 2 0) 4) (continue 12) ≡ left (cabinet Whole 4) standing (9 ∷ []) (made 12)
+  pub viewed : run standing (cabinet Whole 4) (view 6) ≡ left (cabinet Whole 4) standing (9 ∷ []) (bytes (7 ∷ []))
+  pub viewed-degraded : run degraded (cabinet (Out 2) 4) (view 6) ≡ left (cabinet (Out 2) 4) degraded (7 ∷ []) (bytes (7 ∷ []))
+  pub begun : run degraded (cabinet (Out 2) 4) (begin 2) ≡ left (cabinet (Rebuilding 2 0) 4) degraded (9 ∷ []) done
+  pub rebuilt : run degraded (cabinet (Rebuilding 2 0) 4) (continue 12) ≡ left (cabinet Whole 4) standing (9 ∷ []) (made 12)
   -- in steps: 5 stripes, none, 3 more, and the rest
-  pub rebuilt-some : on degraded (cabinet (Rebuilding 2 0) 4) (continue 5) ≡ left (cabinet (Rebuilding 2 5) 4) halfway (9 ∷ []) (made 5)
-  pub rebuilt-none : on halfway (cabinet (Rebuilding 2 5) 4) (continue 0) ≡ left (cabinet (Rebuilding 2 5) 4) halfway (9 ∷ []) (made 0)
-  pub rebuilt-more : on halfway (cabinet (Rebuilding 2 5) 4) (continue 3)
+  pub rebuilt-some : run degraded (cabinet (Rebuilding 2 0) 4) (continue 5) ≡ left (cabinet (Rebuilding 2 5) 4) halfway (9 ∷ []) (made 5)
+  pub rebuilt-none : run halfway (cabinet (Rebuilding 2 5) 4) (continue 0) ≡ left (cabinet (Rebuilding 2 5) 4) halfway (9 ∷ []) (made 0)
+  pub rebuilt-more : run halfway (cabinet (Rebuilding 2 5) 4) (continue 3)
       ≡ left (cabinet (Rebuilding 2 8) 4)
       (disk0 ++ disk1 ++ (1 ∷ 0 ∷ 3 ∷ 7 ∷ 9 ∷ 7 ∷ 13 ∷ 15 ∷ 77 ∷ 77 ∷ 77 ∷ 77 ∷ []) ++ disk3)
       (9 ∷ []) (made 3)
-  pub rebuilt-but-one : on halfway (cabinet (Rebuilding 2 5) 4) (continue 6)
+  pub rebuilt-but-one : run halfway (cabinet (Rebuilding 2 5) 4) (continue 6)
       ≡ left (cabinet (Rebuilding 2 11) 4)
       (disk0 ++ disk1 ++ (1 ∷ 0 ∷ 3 ∷ 7 ∷ 9 ∷ 7 ∷ 13 ∷ 15 ∷ 3 ∷ 19 ∷ 21 ∷ 77 ∷ []) ++ disk3)
       (9 ∷ []) (made 6)
-  pub rebuilt-rest : on halfway (cabinet (Rebuilding 2 5) 4) (continue 8) ≡ left (cabinet Whole 4) standing (9 ∷ []) (made 7)
+  pub rebuilt-rest : run halfway (cabinet (Rebuilding 2 5) 4) (continue 8) ≡ left (cabinet Whole 4) standing (9 ∷ []) (made 7)
   -- block 6, stripe 3, disk 2: with 4 stripes done the disk is in service there, with 3 it counts as out
-  pub read-done : on third (cabinet (Rebuilding 2 4) 4) (read 6) ≡ left (cabinet (Rebuilding 2 4) 4) third (99 ∷ []) (bytes (99 ∷ []))
-  pub read-not-done : on third (cabinet (Rebuilding 2 3) 4) (read 6) ≡ left (cabinet (Rebuilding 2 3) 4) third (7 ∷ []) (bytes (7 ∷ []))
-  pub viewed-done : on third (cabinet (Rebuilding 2 4) 4) (view 6) ≡ left (cabinet (Rebuilding 2 4) 4) third (9 ∷ []) (bytes (99 ∷ []))
-  pub viewed-not-done : on third (cabinet (Rebuilding 2 3) 4) (view 6) ≡ left (cabinet (Rebuilding 2 3) 4) third (7 ∷ []) (bytes (7 ∷ []))
-  pub written-done : on halfway (cabinet (Rebuilding 2 4) 4) (write 6 (200 ∷ []))
+  pub read-done : run third (cabinet (Rebuilding 2 4) 4) (read 6) ≡ left (cabinet (Rebuilding 2 4) 4) third (99 ∷ []) (bytes (99 ∷ []))
+  pub read-not-done : run third (cabinet (Rebuilding 2 3) 4) (read 6) ≡ left (cabinet (Rebuilding 2 3) 4) third (7 ∷ []) (bytes (7 ∷ []))
+  pub viewed-done : run third (cabinet (Rebuilding 2 4) 4) (view 6) ≡ left (cabinet (Rebuilding 2 4) 4) third (9 ∷ []) (bytes (99 ∷ []))
+  pub viewed-not-done : run third (cabinet (Rebuilding 2 3) 4) (view 6) ≡ left (cabinet (Rebuilding 2 3) 4) third (7 ∷ []) (bytes (7 ∷ []))
+  pub written-done : run halfway (cabinet (Rebuilding 2 4) 4) (write 6 (200 ∷ []))
       ≡ left (cabinet (Rebuilding 2 4) 4)
       (disk0 ++ disk1 ++ (1 ∷ 0 ∷ 3 ∷ 200 ∷ 9 ∷ 77 ∷ 77 ∷ 77 ∷ 77 ∷ 77 ∷ 77 ∷ 77 ∷ [])
       ++ (0 ∷ 3 ∷ 5 ∷ 192 ∷ 0 ∷ 0 ∷ 0 ∷ 31 ∷ 0 ∷ 0 ∷ 0 ∷ 0 ∷ []))
       (9 ∷ []) done
-  pub written-not-done : on third (cabinet (Rebuilding 2 3) 4) (write 6 (200 ∷ []))
+  pub written-not-done : run third (cabinet (Rebuilding 2 3) 4) (write 6 (200 ∷ []))
       ≡ left (cabinet (Rebuilding 2 3) 4)
       (disk0 ++ disk1 ++ (1 ∷ 0 ∷ 3 ∷ 99 ∷ 9 ∷ 77 ∷ 77 ∷ 77 ∷ 77 ∷ 77 ∷ 77 ∷ 77 ∷ [])
       ++ (0 ∷ 3 ∷ 5 ∷ 192 ∷ 0 ∷ 0 ∷ 0 ∷ 31 ∷ 0 ∷ 0 ∷ 0 ∷ 0 ∷ []))
       (9 ∷ []) done
   -- block 5, stripe 2, disk 0, its parity on disk 2: 3 xor 6 xor 200 is 205
-  pub parity-done : on halfway (cabinet (Rebuilding 2 3) 4) (write 5 (200 ∷ []))
+  pub parity-done : run halfway (cabinet (Rebuilding 2 3) 4) (write 5 (200 ∷ []))
       ≡ left (cabinet (Rebuilding 2 3) 4)
       ((3 ∷ 4 ∷ 200 ∷ 0 ∷ 10 ∷ 12 ∷ 3 ∷ 16 ∷ 18 ∷ 7 ∷ 22 ∷ 24 ∷ []) ++ disk1
       ++ (1 ∷ 0 ∷ 205 ∷ 7 ∷ 9 ∷ 77 ∷ 77 ∷ 77 ∷ 77 ∷ 77 ∷ 77 ∷ 77 ∷ []) ++ disk3)
       (9 ∷ []) done
-  pub parity-not-done : on second (cabinet (Rebuilding 2 2) 4) (write 5 (200 ∷ []))
+  pub parity-not-done : run second (cabinet (Rebuilding 2 2) 4) (write 5 (200 ∷ []))
       ≡ left (cabinet (Rebuilding 2 2) 4)
       ((3 ∷ 4 ∷ 200 ∷ 0 ∷ 10 ∷ 12 ∷ 3 ∷ 16 ∷ 18 ∷ 7 ∷ 22 ∷ 24 ∷ []) ++ disk1
       ++ (1 ∷ 0 ∷ 99 ∷ 7 ∷ 9 ∷ 77 ∷ 77 ∷ 77 ∷ 77 ∷ 77 ∷ 77 ∷ 77 ∷ []) ++ disk3)
       (9 ∷ []) done
   -- the same disk out, and another; and the growth waits
-  pub out-again : on halfway (cabinet (Rebuilding 2 5) 4) (out 2) ≡ left (cabinet (Out 2) 4) halfway (9 ∷ []) done
-  pub out-other : on halfway (cabinet (Rebuilding 2 5) 4) (out 0) ≡ left (cabinet Lost 4) halfway (9 ∷ []) done
-  pub no-advance : on halfway (cabinet (Rebuilding 2 5) 4) (advance 1) ≡ left (cabinet (Rebuilding 2 5) 4) halfway (9 ∷ []) (refused 3)
-  pub first-out : on standing (cabinet Whole 4) (out 2) ≡ left (cabinet (Out 2) 4) standing (9 ∷ []) done
-  pub second-out : on degraded (cabinet (Out 2) 4) (out 0) ≡ left (cabinet Lost 4) degraded (9 ∷ []) done
+  pub out-again : run halfway (cabinet (Rebuilding 2 5) 4) (out 2) ≡ left (cabinet (Out 2) 4) halfway (9 ∷ []) done
+  pub out-other : run halfway (cabinet (Rebuilding 2 5) 4) (out 0) ≡ left (cabinet Lost 4) halfway (9 ∷ []) done
+  pub no-advance : run halfway (cabinet (Rebuilding 2 5) 4) (advance 1) ≡ left (cabinet (Rebuilding 2 5) 4) halfway (9 ∷ []) (refused 3)
+  pub first-out : run standing (cabinet Whole 4) (out 2) ≡ left (cabinet (Out 2) 4) standing (9 ∷ []) done
+  pub second-out : run degraded (cabinet (Out 2) 4) (out 0) ≡ left (cabinet Lost 4) degraded (9 ∷ []) done
   -- a new disk of garbage, zeroed; and a lost cabinet formatted anew
-  pub grown : on (disk0 ++ disk1 ++ disk2 ++ garbage) fresh (grow 1)
+  pub grown : run (disk0 ++ disk1 ++ disk2 ++ garbage) fresh (grow 1)
       ≡ left (cabinet Whole 0) (disk0 ++ disk1 ++ disk2 ++ zeros 12) (9 ∷ []) done
-  pub formats : on (garbage ++ garbage ++ garbage) (cabinet Lost 4) (format 3 1 12) ≡ left fresh (zeros 36) (9 ∷ []) done
+  pub formats : run (garbage ++ garbage ++ garbage) (cabinet Lost 4) (format 3 1 12) ≡ left fresh (zeros 36) (9 ∷ []) done
   -- ---- a new block in mid-growth: block 26 is on disk 1 of stripe 2, which block 4 left; the parity is on disk 2, 3 xor 0 xor 200 is 203
-  pub written-new : on standing (cabinet Whole 4) (write 26 (200 ∷ [])) ≡ left (cabinet Whole 4) withNew (9 ∷ []) done
+  pub written-new : run standing (cabinet Whole 4) (write 26 (200 ∷ [])) ≡ left (cabinet Whole 4) withNew (9 ∷ []) done
   -- a later move, block 12 again, leaves it
-  pub new-left : on withNew (cabinet Whole 4) (advance 1)
+  pub new-left : run withNew (cabinet Whole 4) (advance 1)
       ≡ left (cabinet Whole 5)
       (disk0 ++ disk1Written ++ (1 ∷ 0 ∷ 203 ∷ 7 ∷ 9 ∷ 7 ∷ 0 ∷ 15 ∷ 3 ∷ 19 ∷ 21 ∷ 15 ∷ [])
       ++ (0 ∷ 3 ∷ 5 ∷ 15 ∷ 0 ∷ 0 ∷ 13 ∷ 31 ∷ 0 ∷ 0 ∷ 0 ∷ 0 ∷ []))
       (9 ∷ []) (made 1)
   -- with disk 1 out it is written to the parity alone, read by the others, and rebuilt
-  pub written-new-degraded : on (disk0 ++ garbage ++ disk2 ++ disk3) (cabinet (Out 1) 4) (write 26 (200 ∷ []))
+  pub written-new-degraded : run (disk0 ++ garbage ++ disk2 ++ disk3) (cabinet (Out 1) 4) (write 26 (200 ∷ []))
       ≡ left (cabinet (Out 1) 4) newDegraded (9 ∷ []) done
-  pub read-new-degraded : on newDegraded (cabinet (Out 1) 4) (read 26)
+  pub read-new-degraded : run newDegraded (cabinet (Out 1) 4) (read 26)
       ≡ left (cabinet (Out 1) 4) newDegraded (200 ∷ []) (bytes (200 ∷ []))
-  pub rebuilt-new : on newDegraded (cabinet (Rebuilding 1 0) 4) (continue 12) ≡ left (cabinet Whole 4) withNew (9 ∷ []) (made 12)
+  pub rebuilt-new : run newDegraded (cabinet (Rebuilding 1 0) 4) (continue 12) ≡ left (cabinet Whole 4) withNew (9 ∷ []) (made 12)
   -- zone 1 is not finished: there is no block 28
-  pub no-block : on standing (cabinet Whole 4) (read 28) ≡ left (cabinet Whole 4) standing (9 ∷ []) (refused 8)
+  pub no-block : run standing (cabinet Whole 4) (read 28) ≡ left (cabinet Whole 4) standing (9 ∷ []) (refused 8)
   -- in order: the copy, the zeroes, the record; the parity, the data; the stripes, the record
   pub move-stores : moveStores (cabinet Whole 4) standing ≡ block 6 3 (13 ∷ []) ∷ block 6 2 (0 ∷ []) ∷ header (cabinet Whole 5) ∷ []
   pub write-stores : writeStores (cabinet Whole 4) standing 6 (200 ∷ []) ≡ block 3 3 (192 ∷ []) ∷ block 3 2 (200 ∷ []) ∷ []
@@ -226,69 +227,69 @@ pub record Drawers : Type 0 where
   -- ---- on stripes that are not sound
   -- a write goes by the old values: on disk 2 of stripe 3 stands 77, on disk 3 the parity 15, and 15 xor 77 xor 200 is 138 (the
   -- other places of the stripe, 0 and 8, would make 192) ..
-  pub written-unsound : on degraded (cabinet Whole 4) (write 6 (200 ∷ []))
+  pub written-unsound : run degraded (cabinet Whole 4) (write 6 (200 ∷ []))
       ≡ left (cabinet Whole 4)
       (disk0 ++ disk1 ++ (77 ∷ 77 ∷ 77 ∷ 200 ∷ 77 ∷ 77 ∷ 77 ∷ 77 ∷ 77 ∷ 77 ∷ 77 ∷ 77 ∷ [])
       ++ (0 ∷ 3 ∷ 5 ∷ 138 ∷ 0 ∷ 0 ∷ 0 ∷ 31 ∷ 0 ∷ 0 ∷ 0 ∷ 0 ∷ []))
       (9 ∷ []) done
   -- .. block 7 is on disk 1: 15 xor 8 xor 200 is 207 (0 and 77 would make 133) ..
-  pub written-beside-unsound : on degraded (cabinet Whole 4) (write 7 (200 ∷ []))
+  pub written-beside-unsound : run degraded (cabinet Whole 4) (write 7 (200 ∷ []))
       ≡ left (cabinet Whole 4)
       (disk0 ++ (2 ∷ 7 ∷ 0 ∷ 200 ∷ 3 ∷ 11 ∷ 14 ∷ 0 ∷ 17 ∷ 20 ∷ 3 ∷ 23 ∷ []) ++ garbage
       ++ (0 ∷ 3 ∷ 5 ∷ 207 ∷ 0 ∷ 0 ∷ 0 ∷ 31 ∷ 0 ∷ 0 ∷ 0 ∷ 0 ∷ []))
       (9 ∷ []) done
   -- .. with disk 2 out, block 12 of stripe 6 counts as 3 xor 14 xor 77, its blank place too: 3 xor 64 xor 200 is 139
-  pub written-degraded-unsound : on spoilt (cabinet (Out 2) 4) (write 12 (200 ∷ []))
+  pub written-degraded-unsound : run spoilt (cabinet (Out 2) 4) (write 12 (200 ∷ []))
       ≡ left (cabinet (Out 2) 4)
       ((3 ∷ 4 ∷ 6 ∷ 0 ∷ 10 ∷ 12 ∷ 139 ∷ 16 ∷ 18 ∷ 7 ∷ 22 ∷ 24 ∷ []) ++ disk1 ++ garbage ++ garbage)
       (9 ∷ []) done
-  pub read-unsound : on degraded (cabinet Whole 4) (read 6) ≡ left (cabinet Whole 4) degraded (77 ∷ []) (bytes (77 ∷ []))
-  pub read-degraded-unsound : on spoilt (cabinet (Out 2) 4) (read 12) ≡ left (cabinet (Out 2) 4) spoilt (64 ∷ []) (bytes (64 ∷ []))
-  pub viewed-degraded-unsound : on spoilt (cabinet (Out 2) 4) (view 12) ≡ left (cabinet (Out 2) 4) spoilt (64 ∷ []) (bytes (64 ∷ []))
+  pub read-unsound : run degraded (cabinet Whole 4) (read 6) ≡ left (cabinet Whole 4) degraded (77 ∷ []) (bytes (77 ∷ []))
+  pub read-degraded-unsound : run spoilt (cabinet (Out 2) 4) (read 12) ≡ left (cabinet (Out 2) 4) spoilt (64 ∷ []) (bytes (64 ∷ []))
+  pub viewed-degraded-unsound : run spoilt (cabinet (Out 2) 4) (view 12) ≡ left (cabinet (Out 2) 4) spoilt (64 ∷ []) (bytes (64 ∷ []))
   -- "the xor of the others", blank or not
-  pub rebuilt-unsound : on spoilt (cabinet (Rebuilding 2 0) 4) (continue 12)
+  pub rebuilt-unsound : run spoilt (cabinet (Rebuilding 2 0) 4) (continue 12)
       ≡ left (cabinet Whole 4)
       (disk0 ++ disk1 ++ (76 ∷ 78 ∷ 75 ∷ 69 ∷ 68 ∷ 74 ∷ 64 ∷ 93 ∷ 78 ∷ 94 ∷ 88 ∷ 66 ∷ []) ++ garbage)
       (9 ∷ []) (made 12)
   -- ---- blocks of two bytes: place (S, d) begins at byte (d × 12 + S) × 2
   -- moves 4 and 5: block 12, stripe 6, disk 2 to 3; block 11, stripe 5, disk 0 to 3
-  pub wide-moves : onWide wideStanding (wide Whole 4) (advance 2)
+  pub wide-moves : runWide wideStanding (wide Whole 4) (advance 2)
       ≡ leftWide (wide Whole 6)
       ((3 ∷ 2 ∷ 4 ∷ 57 ∷ 6 ∷ 53 ∷ 0 ∷ 0 ∷ 10 ∷ 45 ∷ 0 ∷ 0 ∷ 3 ∷ 2 ∷ 16 ∷ 33 ∷ 18 ∷ 29 ∷ 7 ∷ 2 ∷ 22 ∷ 21 ∷ 24 ∷ 17 ∷ [])
       ++ wide1
       ++ (1 ∷ 63 ∷ 0 ∷ 0 ∷ 3 ∷ 2 ∷ 7 ∷ 51 ∷ 9 ∷ 47 ∷ 7 ∷ 2 ∷ 0 ∷ 0 ∷ 15 ∷ 35 ∷ 3 ∷ 2 ∷ 19 ∷ 27 ∷ 21 ∷ 23 ∷ 15 ∷ 2 ∷ [])
       ++ (0 ∷ 0 ∷ 3 ∷ 59 ∷ 5 ∷ 55 ∷ 15 ∷ 2 ∷ 0 ∷ 0 ∷ 12 ∷ 41 ∷ 13 ∷ 39 ∷ 31 ∷ 2 ∷ 0 ∷ 0 ∷ 0 ∷ 0 ∷ 0 ∷ 0 ∷ 0 ∷ 0 ∷ []))
       (made 2)
-  pub wide-written : onWide wideStanding (wide Whole 4) (write 6 (200 ∷ 5 ∷ []))
+  pub wide-written : runWide wideStanding (wide Whole 4) (write 6 (200 ∷ 5 ∷ []))
       ≡ leftWide (wide Whole 4)
       (wide0 ++ wide1
       ++ (1 ∷ 63 ∷ 0 ∷ 0 ∷ 3 ∷ 2 ∷ 200 ∷ 5 ∷ 9 ∷ 47 ∷ 7 ∷ 2 ∷ 13 ∷ 39 ∷ 15 ∷ 35 ∷ 3 ∷ 2 ∷ 19 ∷ 27 ∷ 21 ∷ 23 ∷ 15 ∷ 2 ∷ [])
       ++ (0 ∷ 0 ∷ 3 ∷ 59 ∷ 5 ∷ 55 ∷ 192 ∷ 52 ∷ 0 ∷ 0 ∷ 0 ∷ 0 ∷ 0 ∷ 0 ∷ 31 ∷ 2 ∷ 0 ∷ 0 ∷ 0 ∷ 0 ∷ 0 ∷ 0 ∷ 0 ∷ 0 ∷ []))
       done
-  pub wide-written-unsound : onWide wideDegraded (wide Whole 4) (write 6 (200 ∷ 5 ∷ []))
+  pub wide-written-unsound : runWide wideDegraded (wide Whole 4) (write 6 (200 ∷ 5 ∷ []))
       ≡ leftWide (wide Whole 4)
       (wide0 ++ wide1
       ++ (24 ∷ 25 ∷ 26 ∷ 27 ∷ 28 ∷ 29 ∷ 200 ∷ 5 ∷ 32 ∷ 33 ∷ 34 ∷ 35 ∷ 36 ∷ 37 ∷ 38 ∷ 39 ∷ 40 ∷ 41 ∷ 42 ∷ 43 ∷ 44 ∷ 45 ∷ 46 ∷ 47 ∷ [])
       ++ (0 ∷ 0 ∷ 3 ∷ 59 ∷ 5 ∷ 55 ∷ 217 ∷ 24 ∷ 0 ∷ 0 ∷ 0 ∷ 0 ∷ 0 ∷ 0 ∷ 31 ∷ 2 ∷ 0 ∷ 0 ∷ 0 ∷ 0 ∷ 0 ∷ 0 ∷ 0 ∷ 0 ∷ []))
       done
-  pub wide-written-degraded : onWide wideDegraded (wide (Out 2) 4) (write 6 (200 ∷ 5 ∷ []))
+  pub wide-written-degraded : runWide wideDegraded (wide (Out 2) 4) (write 6 (200 ∷ 5 ∷ []))
       ≡ leftWide (wide (Out 2) 4)
       (wide0 ++ wide1 ++ noise
       ++ (0 ∷ 0 ∷ 3 ∷ 59 ∷ 5 ∷ 55 ∷ 192 ∷ 52 ∷ 0 ∷ 0 ∷ 0 ∷ 0 ∷ 0 ∷ 0 ∷ 31 ∷ 2 ∷ 0 ∷ 0 ∷ 0 ∷ 0 ∷ 0 ∷ 0 ∷ 0 ∷ 0 ∷ []))
       done
-  pub wide-read : onWide wideStanding (wide Whole 4) (read 23)
+  pub wide-read : runWide wideStanding (wide Whole 4) (read 23)
       ≡ left (wide Whole 4) wideStanding (24 ∷ 17 ∷ []) (bytes (24 ∷ 17 ∷ []))
-  pub wide-read-degraded : onWide wideDegraded (wide (Out 2) 4) (read 6)
+  pub wide-read-degraded : runWide wideDegraded (wide (Out 2) 4) (read 6)
       ≡ left (wide (Out 2) 4) wideDegraded (7 ∷ 51 ∷ []) (bytes (7 ∷ 51 ∷ []))
-  pub wide-viewed : onWide wideStanding (wide Whole 4) (view 23) ≡ leftWide (wide Whole 4) wideStanding (bytes (24 ∷ 17 ∷ []))
-  pub wide-viewed-degraded : onWide wideDegraded (wide (Out 2) 4) (view 6)
+  pub wide-viewed : runWide wideStanding (wide Whole 4) (view 23) ≡ leftWide (wide Whole 4) wideStanding (bytes (24 ∷ 17 ∷ []))
+  pub wide-viewed-degraded : runWide wideDegraded (wide (Out 2) 4) (view 6)
       ≡ left (wide (Out 2) 4) wideDegraded (7 ∷ 51 ∷ []) (bytes (7 ∷ 51 ∷ []))
-  pub wide-rebuilt : onWide wideDegraded (wide (Rebuilding 2 0) 4) (continue 12) ≡ leftWide (wide Whole 4) wideStanding (made 12)
-  pub wide-rebuilt-unsound : onWide wideDegraded (wide (Rebuilding 0 0) 4) (continue 12)
+  pub wide-rebuilt : runWide wideDegraded (wide (Rebuilding 2 0) 4) (continue 12) ≡ leftWide (wide Whole 4) wideStanding (made 12)
+  pub wide-rebuilt-unsound : runWide wideDegraded (wide (Rebuilding 0 0) 4) (continue 12)
       ≡ leftWide (wide Whole 4)
       ((26 ∷ 36 ∷ 30 ∷ 34 ∷ 25 ∷ 42 ∷ 25 ∷ 44 ∷ 35 ∷ 35 ∷ 41 ∷ 8 ∷ 42 ∷ 0 ∷ 57 ∷ 37 ∷ 57 ∷ 54 ∷ 62 ∷ 50 ∷ 47 ∷ 47 ∷ 57 ∷ 60 ∷ [])
       ++ wide1 ++ noise ++ wide3)
       (made 12)
-  pub wide-grown : onWide (wide0 ++ wide1 ++ wide2 ++ noise) freshWide (grow 1)
+  pub wide-grown : runWide (wide0 ++ wide1 ++ wide2 ++ noise) freshWide (grow 1)
       ≡ leftWide (wide Whole 0) (wide0 ++ wide1 ++ wide2 ++ zeros 24) done
-  pub wide-formatted : onWide (noise ++ noise ++ noise) (wide Lost 4) (format 3 2 12) ≡ leftWide freshWide (zeros 72) done
+  pub wide-formatted : runWide (noise ++ noise ++ noise) (wide Lost 4) (format 3 2 12) ≡ leftWide freshWide (zeros 72) done

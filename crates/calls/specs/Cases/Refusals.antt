@@ -8,13 +8,13 @@ use mathlib.Core.Bool.{Bool, cond}
 use mathlib.Core.List.{List, [], _∷_, _++_}
 use lib.Dec.{eqb}
 use lib.ListN.{getD, take, drop, replicate}
-use Rattle.state.specs.declared.Health.the-variants.{Whole, Out, Lost, Rebuilding}
-use Rattle.state.specs.declared.Health.{Health}
-use Rattle.state.specs.declared.Record.{Record}
+use Rattle.state.specs.declared.types.Health.the-variants.{Whole, Out, Lost, Rebuilding}
+use Rattle.state.specs.declared.types.Health.{Health}
+use Rattle.state.specs.declared.types.Record.{Record}
 use Rattle.state.specs.Bytes.{recordLength, encode}
 use Rattle.state.specs.Update.{formatted, grownBy, withMoves, withHealth}
 use Rattle.calls.specs.Call.{Call, column, format, read, view, write, grow, advance, out, begin, continue}
-use Rattle.calls.specs.Call.{status, locate, owner, sweep}
+use Rattle.calls.specs.Call.{status, locate, owner, sweep, feed}
 use Rattle.calls.specs.Table.{Row, table, refusalBytes}
 
 -- ---- which calls each number is for: the table's last column, a line a number, a column a call (`column` of Call). `rowwise` proves that
@@ -88,7 +88,7 @@ long = small ++ 0 ∷ []
 
 -- the number of a call on a record, lent images of len bytes and a block or scratch of room
 abbrev pub asks : List ℕ → Call → ℕ → ℕ → ℕ
-asks b c len room = refusalBytes b (record { call = c; images = len; room = room })
+asks b c len room = refusalBytes b (feed c len room)
 
 -- a call that would be let through, on each kind of record that 1 is for
 abbrev pub ones : Call → ℕ → ℕ → List ℕ

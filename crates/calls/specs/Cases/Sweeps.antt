@@ -5,10 +5,10 @@ use Prim.Native.Nat.{ℕ, zero, suc, _+_, _*_}
 use mathlib.Core.Path.{_≡_}
 use mathlib.Core.List.{List, [], _∷_, _++_}
 use lib.ListN.{getD, set, replicate}
-use Rattle.state.specs.declared.Health.the-variants.{Whole, Out}
-use Rattle.state.specs.declared.Record.{Record}
+use Rattle.state.specs.declared.types.Health.the-variants.{Whole, Out}
+use Rattle.state.specs.declared.types.Record.{Record}
 use Rattle.state.specs.Update.{formatted, grownBy, withMoves}
-use Rattle.calls.specs.Call.{sweep, Answer, allSound, unsoundAt, beside}
+use Rattle.calls.specs.Call.{sweep, on, Answer, allSound, unsoundAt, beside}
 use Rattle.calls.specs.Effect.{called}
 use Rattle.calls.specs.Cases.Drawers.{fresh, cabinet, standing}
 
@@ -48,7 +48,7 @@ entirely =
 -- ---- what a sweep answers
 
 abbrev pub swept : Record → List ℕ → Answer
-swept r img = called (record { call = sweep; images = img; room = [] }) r .answer
+swept r img = called (on sweep img []) r .answer
 
 -- no byte of these cabinets has the bit of 64: it is set in byte i
 abbrev pub spoilt : ℕ → List ℕ → List ℕ

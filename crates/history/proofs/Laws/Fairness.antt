@@ -8,7 +8,7 @@ use native.Mathlib.Omega.{arith}
 use lib.Dec.{eqb}
 use lib.ListN.{length}
 use borrow.Author.Tests.{eqb-true, eq-eqb}
-use Rattle.state.specs.declared.Record.{Record}
+use Rattle.state.specs.declared.types.Record.{Record}
 use Rattle.conditions.proofs.Tests.{both, second}
 use Rattle.calls.specs.Call.{Event, fed}
 use Rattle.calls.specs.Health.{absent}

@@ -9,7 +9,7 @@ use native.Mathlib.Omega.{arith}
 use lib.ListN.{length, getD, set, length-append, length-replicate, length-set, getD-replicate, List·getD-append}
 use lib.Seq.{getD-append-add, getD-set-same, getD-set-other}
 use Rattle.blocks.specs.Block.{zeros}
-use Rattle.state.specs.declared.Record.{Record}
+use Rattle.state.specs.declared.types.Record.{Record}
 use Rattle.calls.specs.Call.{Call, format, read, view, write, Fed, feed, Answer, bytes, accepted}
 use Rattle.calls.specs.Table.{refusal}
 use Rattle.calls.proofs.Laws.Passed as passed
@@ -86,12 +86,12 @@ module _ (b : ℕ) (v : List ℕ) where
 
   -- read and view give it
   read-gives : (f : Flat) → Is b v (f .numbers) (f .blocks) → (c : Call) (len room : ℕ) → (c ≡ read b) ⊎ (c ≡ view b)
-      → accepted (flatStep (record { call = c; images = len; room = room }) f .0) ≡ true → flatStep (record { call = c; images = len; room = room }) f .0 ≡ bytes v
+      → accepted (flatStep (feed c len room) f .0) ≡ true → flatStep (feed c len room) f .0 ≡ bytes v
   unfolding flatStep flatAct
   read-gives f i c len room q = go (refusal (f .numbers) (length (f .blocks)) e) refl q
     where
       e : Fed
-      e = record { call = c; images = len; room = room }
+      e = feed c len room
 
       Y : ℕ → Answer × Flat
       Y n = flatSettle n f (flatAct c (f .numbers) (f .blocks))
@@ -114,13 +114,13 @@ module _ (b : ℕ) (v : List ℕ) where
 
 -- ---- what an accepted write and an accepted format leave
 
-pub is-written : (f : Flat) (b : ℕ) (v : List ℕ) (len room : ℕ) → accepted (flatStep (record { call = write b v; images = len; room = room }) f .0) ≡ true
-    → Is b v (flatStep (record { call = write b v; images = len; room = room }) f .1 .numbers) (flatStep (record { call = write b v; images = len; room = room }) f .1 .blocks)
+pub is-written : (f : Flat) (b : ℕ) (v : List ℕ) (len room : ℕ) → accepted (flatStep (feed (write b v) len room) f .0) ≡ true
+    → Is b v (flatStep (feed (write b v) len room) f .1 .numbers) (flatStep (feed (write b v) len room) f .1 .blocks)
 unfolding flatStep flatAct
 is-written f b v len room = go (refusal (f .numbers) (length (f .blocks)) e) refl
   where
     e : Fed
-    e = record { call = write b v; images = len; room = room }
+    e = feed (write b v) len room
 
     Y : ℕ → Answer × Flat
     Y n = flatSettle n f (flatAct (write b v) (f .numbers) (f .blocks))
@@ -131,10 +131,10 @@ is-written f b v len room = go (refusal (f .numbers) (length (f .blocks)) e) ref
         record { inside = λ h. getD-set-same (f .blocks) b v [] l; outside = λ h. absurd (omega (arith, length-set (f .blocks) b v)) }
     go (suc n) z u = absurd (let w : _≡_ {A = ℕ} 0 1 = cc in omega arith)
 
-pub is-zero : (f : Flat) (n B T len room b : ℕ) → accepted (flatStep (record { call = format n B T; images = len; room = room }) f .0) ≡ true
-    → Is b (zeros B) (flatStep (record { call = format n B T; images = len; room = room }) f .1 .numbers) (flatStep (record { call = format n B T; images = len; room = room }) f .1 .blocks)
+pub is-zero : (f : Flat) (n B T len room b : ℕ) → accepted (flatStep (feed (format n B T) len room) f .0) ≡ true
+    → Is b (zeros B) (flatStep (feed (format n B T) len room) f .1 .numbers) (flatStep (feed (format n B T) len room) f .1 .blocks)
 unfolding flatStep flatAct
-is-zero f n B T len room b = go (refusal (f .numbers) (length (f .blocks)) (record { call = format n B T; images = len; room = room }))
+is-zero f n B T len room b = go (refusal (f .numbers) (length (f .blocks)) (feed (format n B T) len room))
   where
     Y : ℕ → Answer × Flat
     Y k = flatSettle k f (flatAct (format n B T) (f .numbers) (f .blocks))

@@ -11,9 +11,9 @@ use borrow.Author.Tests.{eqb-false, eq-eqb}
 use Rattle.layout.proofs.Laws.Basics.{le-or-lt}
 use Rattle.blocks.specs.Stripe.{offset}
 use Rattle.blocks.proofs.Laws.Stripe.{place-in, length-place, getD-place}
-use Rattle.state.specs.declared.Health.the-variants.{Out, Rebuilding}
-use Rattle.state.specs.declared.Health.{Health}
-use Rattle.state.specs.declared.Record.{Record}
+use Rattle.state.specs.declared.types.Health.the-variants.{Out, Rebuilding}
+use Rattle.state.specs.declared.types.Health.{Health}
+use Rattle.state.specs.declared.types.Record.{Record}
 use Rattle.calls.specs.Call.{Call, Event}
 use Rattle.calls.specs.Health.{absent}
 use Rattle.calls.specs.Images.{disksOf, size, placeIn}

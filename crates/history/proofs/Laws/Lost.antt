@@ -7,13 +7,13 @@ use mathlib.Core.List.{List, [], _∷_}
 use native.Mathlib.Omega.{arith}
 use lib.ListN.{length}
 use borrow.Author.Tests.{ne-eqb}
-use Rattle.state.specs.declared.Health.the-variants.{Out, Lost, Rebuilding}
-use Rattle.state.specs.declared.Health.{Health}
-use Rattle.state.specs.declared.Record.{Record}
+use Rattle.state.specs.declared.types.Health.the-variants.{Out, Lost, Rebuilding}
+use Rattle.state.specs.declared.types.Health.{Health}
+use Rattle.state.specs.declared.types.Record.{Record}
 use Rattle.state.specs.Good.{good}
 use Rattle.state.specs.Update.{withHealth}
 use Rattle.state.proofs.Laws.Good.{limits, within-limits, turned}
-use Rattle.calls.specs.Call.{Call, format, read, view, write, grow, advance, out, Fed, Answer, refused, accepted}
+use Rattle.calls.specs.Call.{Call, format, read, view, write, grow, advance, out, Fed, feed, Answer, refused, accepted}
 use Rattle.calls.specs.Table.{terms, refusal}
 use Rattle.calls.proofs.Laws.Table.{StopsLost, given-2}
 use Rattle.history.specs.Flat.{Flat, fallen, flatAct, flatSettle, flatStep}
@@ -47,7 +47,7 @@ module _ (f : Flat) where
 
   module _ (len room : ℕ) (g : good (f .numbers) ≡ true) (h : f .numbers .health ≡ Lost) where
     abbrev call : Call → Fed
-    call c = record { call = c; images = len; room = room }
+    call c = feed c len room
 
     -- the number of a call whose rows go on with 2
     is-2 : (c : Call) → StopsLost (f .numbers) c → R (call c) ≡ 2
@@ -82,20 +82,20 @@ no-reads : (es : List Fed) (f : Flat) → good (f .numbers) ≡ true → f .numb
 unfolding NoReads
 no-reads [] f g h = tt
 no-reads (e ∷ es) f g h = (
-  λ b q. given f e 1 (subst (λ (c : Call). R f (record { call = c; images = e .images; room = e .room }) ≡ 2) (sym q) (no-read f (e .images) (e .room) g h b)) .0,
-  λ b q. given f e 1 (subst (λ (c : Call). R f (record { call = c; images = e .images; room = e .room }) ≡ 2) (sym q) (no-view f (e .images) (e .room) g h b)) .0,
+  λ b q. given f e 1 (subst (λ (c : Call). R f (feed c (e .images) (e .room)) ≡ 2) (sym q) (no-read f (e .images) (e .room) g h b)) .0,
+  λ b q. given f e 1 (subst (λ (c : Call). R f (feed c (e .images) (e .room)) ≡ 2) (sym q) (no-view f (e .images) (e .room) g h b)) .0,
   λ u. rw (frozen f (e .images) (e .room) g h (look (f .numbers) (f .blocks) (e .call)) u) (no-reads es f g h),
 )
 
 -- an accepted out of a second disk
 pub lost-then : (f : Flat) (second len room : ℕ) → fallen (f .numbers .health) second ≡ Lost
-    → accepted (flatStep (record { call = out second; images = len; room = room }) f .0) ≡ true
-    → flatStep (record { call = out second; images = len; room = room }) f .1 .numbers ≡ withHealth (f .numbers) Lost
+    → accepted (flatStep (feed (out second) len room) f .0) ≡ true
+    → flatStep (feed (out second) len room) f .1 .numbers ≡ withHealth (f .numbers) Lost
 unfolding flatStep flatAct
 lost-then f second len room q = go (R f e)
   where
     e : Fed
-    e = record { call = out second; images = len; room = room }
+    e = feed (out second) len room
 
     go : (n : ℕ) → accepted (Y f e n .0) ≡ true → Y f e n .1 .numbers ≡ withHealth (f .numbers) Lost
     go zero u = ap {B = Record} (λ (x : Health). withHealth (f .numbers) x) q

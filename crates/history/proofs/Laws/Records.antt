@@ -2,7 +2,7 @@
 use Prim.Native.Nat.{ℕ}
 use mathlib.Core.Path.{_≡_, refl, sym, ap, _∙_}
 use mathlib.Core.List.{List, [], _∷_}
-use Rattle.state.specs.declared.Record.{Record}
+use Rattle.state.specs.declared.types.Record.{Record}
 use Rattle.state.specs.Bytes.{decode, encode}
 use Rattle.state.proofs.Laws.Bytes.{decode-encode}
 use Rattle.calls.specs.Call.{Event, fed}

@@ -12,15 +12,15 @@ use borrow.Author.Tests.{eq-eqb, ne-eqb, lt-ltb, le-ltb}
 use Rattle.layout.specs.Layout.{totalOf, finishedZones, openStripes, capacity}
 use Rattle.layout.proofs.Laws.Basics.{le-or-lt}
 use Rattle.blocks.proofs.Laws.Stripe.{getD-place}
-use Rattle.state.specs.declared.Health.the-variants.{Whole, Out, Lost, Rebuilding}
-use Rattle.state.specs.declared.Health.{Health}
-use Rattle.state.specs.declared.Record.{Record}
+use Rattle.state.specs.declared.types.Health.the-variants.{Whole, Out, Lost, Rebuilding}
+use Rattle.state.specs.declared.types.Health.{Health}
+use Rattle.state.specs.declared.types.Record.{Record}
 use Rattle.state.specs.Good.{geometry}
 use Rattle.state.specs.Bytes.{recordLength, decode, stripesDone, encode}
 use Rattle.state.specs.Update.{grownBy, withHealth}
 use Rattle.state.proofs.Laws.Bytes.{decode-encode}
 use Rattle.calls.specs.Call.{Call, format, read, view, write, grow, advance, out, begin, continue}
-use Rattle.calls.specs.Call.{status, locate, owner, sweep, Event, fed, Answer, made, accepted}
+use Rattle.calls.specs.Call.{status, locate, owner, sweep, on, Event, fed, Answer, made, accepted}
 use Rattle.calls.specs.Health.{afterOut, rebuiltTo}
 use Rattle.calls.specs.Images.{size, recorded}
 use Rattle.calls.specs.Table.{terms, laterRows, table, word, refusal, refusalOf, rowsBytes, refusalBytes}
@@ -90,9 +90,6 @@ same-length r = go (eqb (r .moves) (totalOf (geometry r)))
 longer : {x : Left Record} {a : Answer} (r : Record) (bs : List (List ℕ)) → Leaves x a r (with-new (geometry r) (r .block) bs) → Leaves x a r (lengthened r bs)
 longer {x} {a} r bs l = subst (λ (n : ℕ). Leaves x a r (bs ++ zeroBlocks (n - length bs) (r .block))) (same-length r) l
 
-abbrev event : Call → List ℕ → List ℕ → Event
-event c img room = record { call = c; images = img; room = room }
-
 module _ (r : Record) (left : List ℕ) (bs : List (List ℕ)) (h : Holding r left bs) (img room : List ℕ) where
   abbrev Passes : Call → Type 0
   Passes c = word (laterRows c r (capacity (geometry r)) (length img) (length room)) ≡ 0
@@ -112,7 +109,7 @@ module _ (r : Record) (left : List ℕ) (bs : List (List ℕ)) (h : Holding r le
   -- a continue makes of the health what the flat list makes of it
   continues : (length img ≡ size r → Keeps r left img) → (k : ℕ) → Passes (continue k) →
       let x = min k (r .stripes - stripesDone (r .health)) in
-      Leaves (act (event (continue k) img room) r) (made x) (withHealth r (risen (r .stripes) (r .health) x)) bs
+      Leaves (act (on (continue k) img room) r) (made x) (withHealth r (risen (r .stripes) (r .health) x)) bs
   continues l k z =
       let q = rows.continues r cap (length img) (length room) k z in
       let g : Holding r img bs = lent l (q .long) in
@@ -122,9 +119,9 @@ module _ (r : Record) (left : List ℕ) (bs : List (List ℕ)) (h : Holding r le
       (subst (λ (y : Health). Leaves X (made x) (withHealth r y) bs) rise (carries r img (q .disk) (q .done) (q .health) k (h .limits) (q .long) room bs g))
     where
       X : Left Record
-      X = act (event (continue k) img room) r
+      X = act (on (continue k) img room) r
 
-  acts : (c : Call) → Lends (event c img room) r left → Passes c → Acted c (act (event c img room) r) r left (flatAct c r bs)
+  acts : (c : Call) → Lends (on c img room) r left → Passes c → Acted c (act (on c img room) r) r left (flatAct c r bs)
   unfolding Lends terms flatAct effect recorded
   acts (format n B T) l z = left-by (format n B T) refl refl (formats n B T img room r cap (length room) z)
   acts (read b) l z = left-by (read b) refl refl (reads r img room bs (lent l) b z)
@@ -194,7 +191,7 @@ alike e a f h l =
 
 module _ (n B T : ℕ) (img room : List ℕ) (a : Cabinet (List ℕ)) (f : Flat) where
   abbrev e : Event
-  e = event (format n B T) img room
+  e = on (format n B T) img room
 
   -- the numbers that the two machines are given differ only if the record is too short or too long
   abbrev short : Bool

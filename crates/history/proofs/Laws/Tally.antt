@@ -7,7 +7,7 @@ use mathlib.Core.List.{List}
 use lib.ListN.{length}
 use Rattle.layout.specs.declared.Geometry.{Geometry}
 use Rattle.layout.specs.Layout.{totalOf}
-use Rattle.state.specs.declared.Record.{Record}
+use Rattle.state.specs.declared.types.Record.{Record}
 use Rattle.state.specs.Update.{withHealth}
 use Rattle.calls.specs.Call.{Call, Fed, Answer, accepted, count}
 use Rattle.calls.specs.Table.{idle, refusal}

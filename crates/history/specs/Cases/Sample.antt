@@ -10,10 +10,10 @@ use mathlib.Core.List.{List, [], _∷_, _++_, map}
 use lib.ListN.{take, drop}
 use Rattle.layout.specs.declared.Role.the-variants.{Data, Parity, Blank}
 use Rattle.layout.specs.Home.{standingAt}
-use Rattle.state.specs.declared.Health.the-variants.{Whole, Out, Lost, Rebuilding}
+use Rattle.state.specs.declared.types.Health.the-variants.{Whole, Out, Lost, Rebuilding}
 use Rattle.state.specs.Bytes.{recordLength, decode}
 use Rattle.calls.specs.Call.{Call, format, read, view, write, grow, advance, out, begin, continue}
-use Rattle.calls.specs.Call.{status, locate, owner, sweep, Event, fed}
+use Rattle.calls.specs.Call.{status, locate, owner, sweep, on, Event, fed}
 use Rattle.calls.specs.Call.{Answer, refused, done, bytes, made, allSound, figures, placed, owned}
 use Rattle.history.specs.Flat.{Flat, flat}
 use Rattle.history.specs.Lent.{asBytes, Cabinet, next}
@@ -62,7 +62,7 @@ room len c = record { call = c; change = λ img. img; room = junk 5 len }
 
 -- its event, where img stands
 abbrev pub lent : Step → List ℕ → Event
-lent s img = record { call = s .call; images = s .change img; room = s .room }
+lent s img = on (s .call) (s .change img) (s .room)
 
 -- the events of a script, each lent what the ones before left, changed as the script says
 unfoldable pub play : List Step → Cabinet (List ℕ) → List Event

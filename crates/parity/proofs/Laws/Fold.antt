@@ -11,7 +11,7 @@ use native.Mathlib.Omega.{arith}
 use borrow.Author.Tests.{eq-eqb, ne-eqb}
 use lib.Dec.{eqb}
 use lib.ListN.{length, length-replicate}
-use Rattle.parity.specs.declared.Gapped.{Gapped}
+use Rattle.parity.specs.declared.types.Gapped.{Gapped}
 use Rattle.blocks.specs.Block.{blockAt, store, Disjoint}
 use Rattle.blocks.specs.Xor.{xorB}
 use Rattle.blocks.specs.Stripe.{others}

@@ -3,7 +3,7 @@
 use Prim.Native.Nat.{ℕ}
 use mathlib.Core.Path.{_≡_}
 use mathlib.Core.List.{List, [], _∷_}
-use Rattle.parity.specs.declared.Gapped.{Gapped}
+use Rattle.parity.specs.declared.types.Gapped.{Gapped}
 use Rattle.parity.specs.Fold.{foldedOthers, gapped, newParity, partFolded}
 
 abbrev pub four : Gapped

@@ -10,9 +10,9 @@ use lib.Dec.{eqb}
 use borrow.Author.Tests.{leb-true, eqb-true}
 use Rattle.blocks.specs.Block.{AreBytes}
 use Rattle.blocks.proofs.Laws.Number.{two-back, four-back, two-bytes, four-bytes}
-use Rattle.state.specs.declared.Health.the-variants.{Whole, Out, Lost, Rebuilding}
-use Rattle.state.specs.declared.Health.{Health}
-use Rattle.state.specs.declared.Record.{Record}
+use Rattle.state.specs.declared.types.Health.the-variants.{Whole, Out, Lost, Rebuilding}
+use Rattle.state.specs.declared.types.Health.{Health}
+use Rattle.state.specs.declared.types.Record.{Record}
 use Rattle.state.specs.Good.{HealthWithin}
 use Rattle.state.specs.Bytes.{recordLength, doneFrom, healthOf, decode, healthPlain, plain, healthByte, diskByte, stripesDone, encode}
 use Rattle.conditions.proofs.Tests.{both}

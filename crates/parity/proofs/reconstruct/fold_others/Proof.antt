@@ -4,7 +4,7 @@ use mathlib.Core.Path.{refl}
 use native.Mathlib.Omega.{arith}
 use borrow.Author.Needs.{needs}
 use lib.ListN.{length}
-use Rattle.parity.specs.declared.Gapped.{Gapped}
+use Rattle.parity.specs.declared.types.Gapped.{Gapped}
 use Rattle.parity.specs.Fold.{FoldInside}
 use Rattle.parity.proofs.Laws.Replace.{replaced-none, replaced-on}
 use Rattle.parity.proofs.Laws.Fold.{others-steady, others-all}

@@ -1,0 +1,6 @@
+// Of view, before the part is taken: it begins at this byte of the images, or it is the scratch.
+pub enum Choice {
+    Refused(u8),
+    Part(usize),
+    Scratch,
+}

@@ -1,0 +1,4 @@
+pub mod Bounds
+pub mod Places
+pub mod Called
+pub mod Ready
