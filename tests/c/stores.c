@@ -1,8 +1,9 @@
 /*
  * Calls for a memory trace: tests/tests/stores.rs runs this under valgrind's lackey, which tells every load and store. Each argument
- * is `w`, `c` or `s`, a record of 40 hexadecimal digits, a colon and a number: write the block of that number, continue a rebuild by
- * so many stripes, or sweep, with so many bytes of the images that are not zero, each of which follows behind a comma. Just before a
- * call `begin` is stored to, just behind it `end`. Prints where these stand, and what is lent, and where the stack of the calls ends.
+ * is `w`, `c`, `f`, `g` or `s`, a record of 40 hexadecimal digits, a colon and a number: write the block of that number, continue a
+ * rebuild by so many stripes, format so many stripes of the record's disks and block length, grow by so many disks, or sweep, with so
+ * many bytes of the images that are not zero, each of which follows after a comma. Just before a call `begin` is stored to, just after
+ * it `end`. Prints where these stand, and what is lent, and where the stack of the calls ends.
  */
 #include "pbm.h"
 
@@ -45,13 +46,15 @@ void *memset(void *to, int byte, size_t len)
 
 static uint8_t call(char name, uint64_t of)
 {
-    uint64_t images_len = pbm_images_len_by(record, 0);
+    uint64_t images_len = pbm_images_len_by(record, name == 'g' ? of : 0);
     size_t data_len = record[PBM_AT_BLOCK_LEN] | (size_t)record[PBM_AT_BLOCK_LEN + 1] << 8;
     uint8_t answer;
     if (images_len > sizeof images) exit(2);
     begin = 1;
     if (name == 'w') answer = pbm_write(record, sizeof record, images, images_len, of, data, data_len);
     else if (name == 'c') answer = pbm_continue(record, sizeof record, images, images_len, of, &made);
+    else if (name == 'f') answer = pbm_format(record, sizeof record, images, images_len, record[PBM_AT_N], data_len, of);
+    else if (name == 'g') answer = pbm_grow(record, sizeof record, images, images_len, of);
     else answer = pbm_sweep(record, sizeof record, images, images_len, swept, swept + 1, swept + 2);
     end = 1;
     return answer;

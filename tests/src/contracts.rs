@@ -36,6 +36,12 @@ pub struct Clause {
     pub formula: String,
 }
 
+/// The crates whose public functions are handed anything by anyone, and the program's function that is handed what was typed.
+pub const ENTRY_CRATES: &[&str] = &[
+    "access", "growth", "repair", "scrub", "queries", "lent", "packing", "pbm",
+];
+const ENTRY_POINT: &str = "answer_to";
+
 /// The fields of each struct, with their types.
 pub type Structs = BTreeMap<String, Vec<Parameter>>;
 
@@ -151,19 +157,40 @@ pub fn structs(source: &str) -> Structs {
         .collect()
 }
 
-/// The enums of a source file, with the names of their variants.
-pub fn enums(source: &str) -> BTreeMap<String, Vec<String>> {
+/// The enums of a source file, with the text of each variant.
+fn variants(source: &str) -> Vec<(String, Vec<String>)> {
     let text = without_comments(source);
     text.match_indices("enum ")
         .map(|(at, word)| {
             let (name, rest) = text[at + word.len()..].split_once('{').expect("variants");
             let (variants, _) = bracketed(rest, '{', '}');
-            let variants = split(variants, ',')
-                .map(|v| v.split(['(', '{']).next().unwrap().trim().to_string())
-                .filter(|v| !v.is_empty());
+            let variants = split(variants, ',').map(|v| v.trim().to_string());
+            let variants = variants.filter(|v| !v.is_empty());
             (name.trim().to_string(), variants.collect())
         })
         .collect()
+}
+
+/// The enums of a source file, with the names of their variants.
+pub fn enums(source: &str) -> BTreeMap<String, Vec<String>> {
+    let name = |v: &String| v.split(['(', '{']).next().unwrap().trim().to_string();
+    let all = variants(source).into_iter();
+    all.map(|(of, all)| (of, all.iter().map(name).collect()))
+        .collect()
+}
+
+/// The variants that have fields with names, `Enum::Variant`, with these names in order.
+pub fn named_fields(source: &str) -> BTreeMap<String, Vec<String>> {
+    let mut found = BTreeMap::new();
+    for (of, all) in variants(source) {
+        for (variant, fields) in all.iter().filter_map(|v| v.split_once('{')) {
+            let (fields, _) = bracketed(fields, '{', '}');
+            let fields = split(fields, ',').filter_map(Parameter::of);
+            let names = fields.map(|field| field.name).collect();
+            found.insert(format!("{of}::{}", variant.trim()), names);
+        }
+    }
+    found
 }
 
 /// What a crate's lib.rt hands on from its modules: `pub use module::name;`.
@@ -338,6 +365,12 @@ fn is_open(side: &str) -> bool {
 // ---- the rule
 
 impl Function {
+    /// Whether it is handed anything by anyone, being of this crate.
+    pub fn is_entry_point(&self, in_crate: &str) -> bool {
+        let public = self.visibility == Visibility::Public;
+        self.name == ENTRY_POINT || (public && ENTRY_CRATES.contains(&in_crate))
+    }
+
     /// What the clauses set equal to something that is known at entry.
     fn given(&self) -> Vec<String> {
         let all = self.ensures.iter().flat_map(equations);

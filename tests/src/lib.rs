@@ -19,6 +19,7 @@ pub mod moves;
 pub mod out;
 pub mod outage;
 pub mod pbm;
+pub mod pins;
 pub mod points;
 pub mod program;
 pub mod random;

@@ -55,6 +55,26 @@ pub fn blocks(document: &str) -> Vec<String> {
     all
 }
 
+/// The rows of the tables of a section, each by its cells.
+pub fn table<'a>(document: &'a str, section: &str) -> Vec<Vec<&'a str>> {
+    let title = format!("{section}\n");
+    let mut sections = document.split("\n## ");
+    let text = sections.find(|text| text.starts_with(&title));
+    let cells = |line: &'a str| {
+        let row = line.strip_prefix('|')?;
+        Some(row.trim_end_matches('|').split('|').map(str::trim))
+    };
+    text.unwrap_or("")
+        .lines()
+        .filter_map(|line| cells(line).map(Iterator::collect))
+        .collect()
+}
+
+/// What a cell sets in backquotes.
+pub fn in_backquotes(cell: &str) -> Vec<&str> {
+    mentions(cell).into_iter().map(|(_, name)| name).collect()
+}
+
 /// What a block sets in backquotes, each with the text before it.
 fn mentions(block: &str) -> Vec<(&str, &str)> {
     let pieces: Vec<&str> = block.split('`').collect();

@@ -1,7 +1,8 @@
-//! The table "What is proved" of docs/READING.md: each row names a statement, a closed type of a file of specs/, and the term
+//! The table "What is proved" of docs/PROVED.md: each row names a statement, a closed type of a file of specs/, and the term
 //! that proves it, at the top level of a file of proofs/. So no premise can hide in the term's type.
 
 use crate::definitions::{lines, of_proof_language, Kind};
+use crate::mentions::table;
 use std::collections::BTreeSet;
 
 /// | `Demand1` | `calls/specs/Theorem.antt` | `demand1` | `calls/proofs/Theorem.antt` | fingerprint | what it says |
@@ -19,15 +20,13 @@ pub struct Row {
 
 /// The rows of the table.
 pub fn rows(document: &str) -> Vec<Row> {
-    let section = document
-        .split("\n## ")
-        .find(|section| section.starts_with("What is proved\n"))
-        .unwrap_or("");
-    section.lines().filter_map(row).collect()
+    table(document, "What is proved")
+        .iter()
+        .filter_map(|cells| row(cells))
+        .collect()
 }
 
-fn row(line: &str) -> Option<Row> {
-    let cells: Vec<&str> = line.strip_prefix('|')?.split('|').map(str::trim).collect();
+fn row(cells: &[&str]) -> Option<Row> {
     let name = |at: usize| cells.get(at)?.strip_prefix('`')?.strip_suffix('`');
     Some(Row {
         statement: name(0)?.to_string(),
@@ -92,10 +91,10 @@ fn single_spaced(text: &str) -> String {
 /// A file of specs/: what it defines, and what it takes from others.
 pub struct Specs {
     /// Below crates/.
-    path: String,
+    pub path: String,
     /// Statements, predicates, records, data types and functions: each name with its text.
-    items: Vec<(String, String)>,
-    uses: Vec<Use>,
+    pub items: Vec<(String, String)>,
+    pub uses: Vec<Use>,
 }
 
 impl Specs {
@@ -127,10 +126,24 @@ fn items(specs: &str) -> Vec<(String, String)> {
         .collect()
 }
 
-/// The fingerprint of a statement of this file: of its text and that of every definition that it reaches. A name is that of its own
-/// file, or of the one that the file has it from. A comment, a line's break, and the file that has a definition are no part of it.
-pub fn fingerprint(path: &str, statement: &str, all: &[Specs]) -> String {
-    let is_name = |c: char| c.is_alphanumeric() || "_-′".contains(c);
+/// A definition of a file of specs/.
+#[derive(Clone, Copy, PartialEq, Eq, PartialOrd, Ord)]
+pub struct Item<'a> {
+    /// With single spaces.
+    pub text: &'a str,
+    /// Below crates/.
+    pub file: &'a str,
+    pub name: &'a str,
+}
+
+/// A character that can stand in a name.
+pub fn is_name(c: char) -> bool {
+    c.is_alphanumeric() || "_-′".contains(c)
+}
+
+/// What a statement of this file is made of: itself, and every definition that it reaches. A name is that of its own file, or of the one
+/// that the file has it from.
+pub fn reached<'a>(path: &str, statement: &'a str, all: &'a [Specs]) -> BTreeSet<Item<'a>> {
     let mut reached = BTreeSet::new();
     let mut left: Vec<(&Specs, &str)> = Vec::new();
     left.extend(
@@ -139,8 +152,10 @@ pub fn fingerprint(path: &str, statement: &str, all: &[Specs]) -> String {
             .map(|s| (s, statement)),
     );
     while let Some((specs, name)) = left.pop() {
-        for (_, text) in specs.items.iter().filter(|(item, _)| item == name) {
-            if reached.insert((text, &specs.path)) {
+        for (item, text) in specs.items.iter().filter(|(item, _)| item == name) {
+            let file = &specs.path;
+            let name = item;
+            if reached.insert(Item { text, file, name }) {
                 let words = text.split(|c: char| !is_name(c));
                 left.extend(words.map(|word| (specs, word)));
             }
@@ -150,9 +165,15 @@ pub fn fingerprint(path: &str, statement: &str, all: &[Specs]) -> String {
             left.extend(all.iter().filter(from).map(|s| (s, u.original.as_str())));
         }
     }
-    let text: String = reached
+    reached
+}
+
+/// The fingerprint of a statement of this file: of the text of all that it is made of. A comment, a line's break, and the file that has a
+/// definition are no part of it.
+pub fn fingerprint(path: &str, statement: &str, all: &[Specs]) -> String {
+    let text: String = reached(path, statement, all)
         .iter()
-        .map(|(text, _)| format!("{text}\n"))
+        .map(|item| format!("{}\n", item.text))
         .collect();
     format!("{:016x}", fnv(text.as_bytes()))
 }

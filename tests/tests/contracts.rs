@@ -2,22 +2,18 @@
 //! entry points require nothing: they refuse; the clauses of their crates have names; the symbols mean what the library says; and no
 //! line is too long to be read.
 
+use std::collections::BTreeMap;
 use std::fs;
 use std::path::PathBuf;
 use yuzkamide_tests::contracts::{
-    equations, functions, handed_on, structs, Function, Structs, Visibility, RECORDS,
+    equations, functions, handed_on, named_fields, structs, Function, Structs, Visibility,
+    ENTRY_CRATES, RECORDS,
 };
 use yuzkamide_tests::definitions::{of_proof_language, Kind};
 use yuzkamide_tests::files::texts;
 use yuzkamide_tests::pbm::{family, in_rattle, Way, NAMES};
 use yuzkamide_tests::program::target;
 use yuzkamide_tests::statements::uses;
-
-/// The crates whose public functions are handed anything by anyone, and the program's function that is handed what was typed.
-const ENTRY_CRATES: &[&str] = &[
-    "access", "growth", "repair", "scrub", "queries", "lent", "packing", "pbm",
-];
-const ENTRY_POINT: &str = "answer_to";
 
 /// Functions inside a crate whose answer is left open where no caller looks at it, and limited there: the blanks below a disk
 /// are counted only if it is blank itself, and only where all moves of its zone are made, or none.
@@ -39,8 +35,7 @@ impl Found {
     }
 
     fn is_entry_point(&self) -> bool {
-        let public = self.function.visibility == Visibility::Public;
-        self.function.name == ENTRY_POINT || (public && self.in_entry_crate())
+        self.function.is_entry_point(&self.in_crate)
     }
 
     fn in_entry_crate(&self) -> bool {
@@ -516,6 +511,28 @@ fn long_lines(text: &str) -> Vec<usize> {
         .filter(|(_, line)| is_long(line))
         .map(|(at, _)| at)
         .collect()
+}
+
+/// The prover has the fields of a variant by their order, and not by their names: who exchanged two names would exchange what a caller
+/// reads by them, and no statement would say so. So which name stands where is said here.
+#[test]
+fn fields_of_variants_are_in_order() {
+    let mut found = BTreeMap::new();
+    for (_, text) in texts(&target().join("../crates"), "rt") {
+        found.extend(named_fields(&text));
+    }
+    let wanted: [(&str, &[&str]); 7] = [
+        ("Counted::Made", &["count", "record"]),
+        ("Field::Number", &["value", "next"]),
+        ("Health::Rebuilding", &["disk", "done"]),
+        ("Report::Figures", &["capacity", "moves", "total", "health"]),
+        ("Request::Zone", &["n", "m", "z"]),
+        ("Swept::Sound", &["read"]),
+        ("Swept::Unsound", &["stripe", "read"]),
+    ];
+    let owned = |names: &[&str]| names.iter().map(|n| n.to_string()).collect::<Vec<_>>();
+    let wanted = wanted.map(|(variant, names)| (variant.to_string(), owned(names)));
+    assert_eq!(found, BTreeMap::from(wanted));
 }
 
 #[test]

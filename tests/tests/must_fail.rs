@@ -77,9 +77,11 @@ const COMPUTED: &[(&str, &str, &[&str])] = &[
         "/proofs/Cases/Drawers.antt:",
         "`drawers`",
         &[
+            "calls/blank_of_lost_disk_zero",
             "calls/continue_counts_unwritten",
             "calls/continue_sums_itself",
             "calls/count_kept_after_out",
+            "calls/grow_records_first",
             "calls/parity_on_old_disk",
             "calls/parity_skipped",
             "calls/place_left_full",
@@ -88,6 +90,7 @@ const COMPUTED: &[(&str, &str, &[&str])] = &[
             "calls/refusal_clears_block",
             "calls/second_out_kept",
             "calls/stripe_in_service_early",
+            "calls/table_fed_a_byte",
             "calls/view_fills_always",
         ],
     ),
@@ -133,6 +136,14 @@ const BY_LAW: &[(&str, &str, &[&str])] = &[
         "`not-refused`",
         &["points/long_slice_refused"],
     ),
+    // and which lengths are even is said in bare numbers
+    ("/proofs/Theorem.antt:", "`fills`", &["points/even_by_name"]),
+    // the stripe within its zone that is printed of a move
+    (
+        "/proofs/Laws/Order.antt:",
+        "`within-is`",
+        &["layout/within_one_too_small"],
+    ),
     // format is refused 6 for what document 01 says, and nothing else
     (
         "/proofs/Laws/Reasons.antt:",
@@ -174,6 +185,18 @@ const BY_LAW: &[(&str, &str, &[&str])] = &[
         "/proofs/Laws/Good.antt:",
         "`turned`",
         &["state/health_restarts_growth"],
+    ),
+    // what a disk that is being rebuilt may hold
+    (
+        "/proofs/Laws/Lending.antt:",
+        "`free-to-lend`",
+        &["history/rebuilding_disk_in_service"],
+    ),
+    // only images of the length that is asked for have to be those left
+    (
+        "/proofs/Laws/Lending.antt:",
+        "`by-asked`",
+        &["history/any_length_kept"],
     ),
 ];
 

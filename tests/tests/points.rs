@@ -173,10 +173,11 @@ fn lengths_of_blocks() {
     counts_in_both_orders("lengths_of_blocks", &[240..=272, 2032..=2064]);
 }
 
-/// 64 KiB and a little more, 1 MiB and a little less.
+/// 64 KiB and a little more, 1 MiB and a little less, 2 MiB and a little more.
 #[test]
 fn long_slices() {
-    counts_in_both_orders("long_slices", &[32_768..=32_769, 524_287..=524_288]);
+    let counts = [32_768..=32_769, 524_287..=524_288, 1_048_576..=1_048_577];
+    counts_in_both_orders("long_slices", &counts);
 }
 
 /// Lengths of source and target, by hand: both odd, one of them, and none; one of them longer by a byte, by a point and by much.

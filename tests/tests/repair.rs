@@ -224,6 +224,19 @@ fn steps_of_mixed_lengths() {
     });
 }
 
+/// "as the xor of the others", also where stripes are not sound: in blank places too.
+#[test]
+fn steps_over_any_bytes() {
+    for_each_disk(|random, shape, disk| {
+        let mut rebuild = Rebuild::begin(random, whole(shape), disk);
+        rebuild.random.fill(&mut rebuild.array.0.images);
+        while rebuild.left() > 0 {
+            let k = 1 + rebuild.random.below(5);
+            rebuild.step(k);
+        }
+    });
+}
+
 /// At every count all blocks are written, each behind a scribble on what is not done, and read. What is left is what writes to a whole
 /// array leave.
 #[test]

@@ -1,5 +1,6 @@
 //! What no contract of a write can say, as it sees only entry and exit: which bytes are loaded and stored meanwhile, how often and in
-//! which order; and of a sweep, which stripes it reads, and that it stores nothing. Read off a memory trace of tests/c/stores.c, by
+//! which order; of a format, a grow and a continue in which order they store; and of a sweep, which stripes it reads, and that it stores
+//! nothing. Read off a memory trace of tests/c/stores.c, by
 //! valgrind's lackey.
 
 use std::collections::{BTreeMap, BTreeSet};
@@ -331,6 +332,24 @@ fn a_continue_stores_in_rising_order() {
     }
     let record = addresses.record..addresses.record + RECORD_LEN as u64;
     assert!(last.is_some() && last < stores(&calls[0], record).min());
+}
+
+/// "zeroes the images", "zeroes those behind the first n": each byte once, disk by disk, and the record after them all.
+#[test]
+fn format_and_grow_store_their_record_last() {
+    let home = Record::new(3, 64, 5);
+    let more = 2;
+    let arguments = [('f', home.stripes), ('g', more)].map(|(c, k)| argument(&home, c, k));
+    let (addresses, calls) = traced("stores-of-zeroes", &arguments);
+    let record = addresses.record..addresses.record + RECORD_LEN as u64;
+    let old = home.images_len() as usize;
+    let all = old / home.n as usize * (home.n + more) as usize;
+    for (call, zeroed) in calls.iter().zip([0..old, old..all]) {
+        let seen = addresses.seen(all as u64, call);
+        assert_eq!(seen.order, Vec::from_iter(zeroed));
+        let images = addresses.images..addresses.images + all as u64;
+        assert!(stores(call, images).max() < stores(call, record.clone()).min());
+    }
 }
 
 /// When a call stores to these bytes.

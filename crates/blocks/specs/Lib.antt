@@ -4,3 +4,4 @@ pub mod Number
 pub mod Xor
 pub mod Stripe
 pub mod Sum
+pub mod Theorem

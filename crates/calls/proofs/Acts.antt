@@ -290,6 +290,7 @@ acts e r z =
     record {
       seen-in = seen-in r e;
       seen-out = seen-out r e;
+      place-is = λ b. refl;
       format-images = λ n B T q. of-images (format n B T) (zeros (n * (T * B))) q (format-images r e n B T);
       format-record = λ n B T q. of-record (format n B T) (formatted n B T) q (λ x. format-record r e n B T);
       read-block = λ b q. of-room (read b) _ q refl;

@@ -3,6 +3,7 @@ pub mod Laws
 pub mod Theorem
 pub mod Numbered
 pub mod Absent
+pub mod Stores
 pub mod Alone
 pub mod OneMove
 pub mod Acts

@@ -6,7 +6,7 @@ use mathlib.Core.Logic.{_≢_}
 use mathlib.Core.List.{List, [], _∷_}
 use lib.Dec.{eqb}
 use lib.ListN.{length}
-use borrow.Author.Tests.{ne-eqb}
+use borrow.Author.Tests.{eq-eqb, ne-eqb, eqb-true}
 use Rattle.blocks.specs.Block.{AreBytes}
 use Rattle.conditions.proofs.Tests.{equal}
 use Rattle.state.specs.declared.types.Health.the-variants.{Lost}
@@ -19,11 +19,11 @@ use Rattle.calls.specs.Call.{Call, column, format, read, view, write, gr
 use Rattle.calls.specs.Call.{status, locate, owner, sweep, feed}
 use Rattle.calls.specs.Health.{isLost}
 use Rattle.calls.specs.Images.{disksOf, size, sizeWith}
-use Rattle.calls.specs.Table.{badRecord, badGeometry, images, pastEnd, blockLength, formable, looks}
+use Rattle.calls.specs.Table.{idle, badRecord, badGeometry, images, pastEnd, blockLength, formable, looks}
 use Rattle.calls.specs.Table as rows
 use Rattle.calls.specs.Table.{terms, laterRows, table, refusal, rowsBytes, refusalBytes}
 use Rattle.calls.specs.Numbered.{Reason, Gives, Outside, NotLong, bad, lost, degraded, reached, formed, Numbered}
-use Rattle.calls.proofs.Laws.Reasons.{Tells, Told, gives, differ, past, outside, not-good, is-lost, is-degraded, is-idle, is-other, none-rebuilt, unformable, out-or-past}
+use Rattle.calls.proofs.Laws.Reasons.{Tells, exactly, Told, gives, differ, past, outside, not-good, is-lost, is-degraded, is-idle, is-other, none-rebuilt, unformable, out-or-past}
 use Rattle.calls.proofs.Laws.OnBytes.{refusal-encode}
 
 -- format's rows, but for the first
@@ -104,4 +104,8 @@ numbered =
       format-on-bytes = format-on-bytes;
       no-record = no-record;
       own-bytes = λ r x len room. refusal-encode r (feed x len room);
+      own-capacity = λ r x len room. refl;
+      idle-is = λ g. exactly (idle g) (is-idle g);
+      columns = λ n B T b m k d S v. refl;
+      same-column = λ x y. (eqb-true (column x) (column y), eq-eqb (column x) (column y));
     }

@@ -53,6 +53,8 @@ pub record Does (e : Event) (r : Record) : Type 0 where
   -- "An out disk is never read: its place counts as the xor of the stripe's other places." Any other is read as it stands.
   pub seen-in : (S d : ℕ) → absent (r .health) S d ≡ false → seen r (e .images) S d ≡ placeIn r (e .images) S d
   pub seen-out : (S d : ℕ) → absent (r .health) S d ≡ true → seen r (e .images) S d ≡ othersIn r (e .images) S d
+  -- the place of block b is the layout's
+  pub place-is : (b : ℕ) → placeOf r b ≡ layout (geometry r) .place b .block
   -- format: "zeroes the images; record whole, m = t = 0"
   pub format-images : (n B T : ℕ) → e .call ≡ format n B T → act e r .images ≡ zeros (n * (T * B))
   pub format-record : (n B T : ℕ) → e .call ≡ format n B T → act e r .state ≡ formatted n B T

@@ -31,8 +31,8 @@ isRebuilding (Out o) = false
 isRebuilding Lost = false
 isRebuilding (Rebuilding o c) = true
 
--- *Absent*: disk d counts as out in stripe S. Every read and every store goes by this. Document 02, (d): "Stripes below the count use the
--- disk as in service, others count it out".
+-- *Absent*: disk d counts as out in stripe S. Every read goes by this, and so do a write's stores. Document 02, (d): "Stripes below the
+-- count use the disk as in service, others count it out".
 abbrev pub absent : Health → ℕ → ℕ → Bool
 absent Whole S d = false
 absent (Out o) S d = eqb d o

@@ -1,22 +1,24 @@
 -- The table of refusals of documents 01 and 02 once more, as facts in bare numbers: the number that each call is given, whatever the
--- record, the capacity and the lengths lent are. No condition of Table is named here, so that a mistake in one cannot hide, not even
+-- record, the capacity and the lengths lent are. No condition of Table is named in a row, so that a mistake in one cannot hide, not even
 -- behind another. (`GoodRecord` is facts too, and `geometry` the record's own numbers: `GoodIs` of crate state.)
 -- The statement is `Numbered`; `numbered` of proofs/Numbered.antt proves it.
 use Prim.Native.Nat.{ℕ, _+_, _*_, _≤_, _<_}
 use mathlib.Core.Path.{_≡_}
-use mathlib.Core.Logic.{_⊎_, _≢_}
-use mathlib.Core.List.{List, [], _∷_}
+use mathlib.Core.Bool.{true}
+use mathlib.Core.Logic.{_⊎_, _↔_, _≢_}
+use mathlib.Core.List.{List, [], _∷_, map}
 use lib.ListN.{length}
 use Rattle.blocks.specs.Block.{AreBytes}
+use Rattle.layout.specs.declared.Geometry.{Geometry}
 use Rattle.layout.specs.Layout.{totalOf, capacity}
 use Rattle.state.specs.declared.types.Health.the-variants.{Out, Lost, Rebuilding}
 use Rattle.state.specs.declared.types.Health.{Health}
 use Rattle.state.specs.declared.types.Record.{Record}
 use Rattle.state.specs.Good.{geometry, GoodRecord}
 use Rattle.state.specs.Bytes.{encode}
-use Rattle.calls.specs.Call.{Call, column, format, read, view, write, grow, advance, out, begin, continue}
+use Rattle.calls.specs.Call.{Call, column, sameCall, format, read, view, write, grow, advance, out, begin, continue}
 use Rattle.calls.specs.Call.{status, locate, owner, sweep, feed}
-use Rattle.calls.specs.Table.{refusal, refusalBytes}
+use Rattle.calls.specs.Table.{idle, refusal, refusalOf, refusalBytes}
 
 -- a number, and what it is given for
 abbrev pub Reason : Type 1
@@ -74,6 +76,8 @@ pub record Numbered : Type 0 where
   -- 5, "m = 0 or t is the total"; k is no matter
   pub of-advance : (r : Record) (c len room k : ℕ) → Gives (refusal r c (feed (advance k) len room))
       (bad r ∷ lost r ∷ degraded r ∷ (5, (r .new ≡ 0) ⊎ (r .moves ≡ totalOf (geometry r))) ∷ (7, NotLong r (r .old + r .new) len) ∷ [])
+  -- which is what an advance stops at, too
+  pub idle-is : (g : Geometry) → (idle g ≡ true) ↔ ((g .new ≡ 0) ⊎ (g .moves ≡ totalOf g))
   -- 10, "d not below N, or out already": a disk that is being rebuilt is not
   pub of-out : (r : Record) (c len room d : ℕ) → Gives (refusal r c (feed (out d) len room))
       (bad r ∷ lost r ∷ (10, (r .old + r .new ≤ d) ⊎ (r .health ≡ Out d)) ∷ [])
@@ -101,3 +105,12 @@ pub record Numbered : Type 0 where
       → refusalBytes b (feed x len room) ≡ 1
   pub own-bytes : (r : Record) (x : Call) (len room : ℕ)
       → refusalBytes (encode r) (feed x len room) ≡ refusal r (capacity (geometry r)) (feed x len room)
+  -- by the record's own capacity
+  pub own-capacity : (r : Record) (x : Call) (len room : ℕ)
+      → refusalOf r (feed x len room) ≡ refusal r (capacity (geometry r)) (feed x len room)
+  -- which call it is, whatever it is given
+  pub columns : (n B T b m k d S : ℕ) (v : List ℕ) → map column
+      (format n B T ∷ read b ∷ view b ∷ write b v ∷ grow m ∷ advance k ∷ out d ∷ begin d ∷ continue k ∷ status ∷ locate b ∷ owner S d
+      ∷ sweep ∷ [])
+      ≡ 0 ∷ 1 ∷ 2 ∷ 3 ∷ 4 ∷ 5 ∷ 6 ∷ 7 ∷ 8 ∷ 9 ∷ 10 ∷ 11 ∷ 12 ∷ []
+  pub same-column : (x y : Call) → (sameCall x y ≡ true) ↔ (column x ≡ column y)

@@ -3,7 +3,8 @@
 -- The statement is `Sweeps`; `sweeps` of proofs/Sweep.antt proves it.
 use Prim.Native.Nat.{ℕ, zero, suc, _+_, _*_, _<_}
 use mathlib.Core.Path.{_≡_}
-use mathlib.Core.Bool.{true}
+use mathlib.Core.Bool.{true, cond}
+use lib.Dec.{eqb}
 use mathlib.Core.Logic.{_↔_}
 use mathlib.Core.List.{List}
 use lib.Bits.{bitXor}
@@ -13,7 +14,7 @@ use Rattle.layout.specs.Layout.{layout}
 use Rattle.state.specs.declared.types.Health.the-variants.{Whole}
 use Rattle.state.specs.declared.types.Record.{Record}
 use Rattle.state.specs.Good.{geometry}
-use Rattle.calls.specs.Images.{placeIn}
+use Rattle.calls.specs.Images.{placeIn, othersIn, seen}
 use Rattle.calls.specs.Sound.{Sound, isSound, unsoundStripes}
 
 -- S is one of the numbers of a list
@@ -30,9 +31,23 @@ xorOf zero f = 0
 xorOf (suc k) f = bitXor (xorOf k f) (f k)
 
 pub record Sweeps : Type 0 where
+  -- place (S, d) as it stands, byte by byte; and what counts for it if its disk is out: "the xor of the stripe's other places"
+  pub place-bytes : (r : Record) (img : List ℕ) (S d j : ℕ) → j < r .block → getD (placeIn r img S d) j 0 ≡ byteAt r img S j d
+  pub place-long : (r : Record) (img : List ℕ) (S d : ℕ) → length img ≡ (r .old + r .new) * (r .stripes * r .block)
+      → S < r .stripes → d < r .old + r .new → length (placeIn r img S d) ≡ r .block
+  pub others-bytes : (r : Record) (img : List ℕ) (S d j : ℕ) → j < r .block
+      → getD (othersIn r img S d) j 0 ≡ xorOf (r .old + r .new) (λ e. cond (eqb e d) 0 (byteAt r img S j e))
+  pub others-long : (r : Record) (img : List ℕ) (S d : ℕ) → length (othersIn r img S d) ≡ r .block
   -- the test is the sentence of document 01 ..
   pub tested : (r : Record) (img : List ℕ) (S : ℕ) → (isSound r img S ≡ true) ↔ Sound r img S
-  -- .. which says, where all disks are in and the images are N × T × B bytes long, byte by byte and in bare numbers: "its N places xor to
+  -- .. which says, byte by byte of what a call sees, "the out disk taken as the xor of the others" ..
+  pub in-seen : (r : Record) (img : List ℕ) (S : ℕ) → length img ≡ (r .old + r .new) * (r .stripes * r .block) → S < r .stripes →
+      let N = r .old + r .new in
+      let byte : ℕ → ℕ → ℕ = λ j d. getD (seen r img S d) j 0 in
+      Sound r img S
+      ↔ (((j : ℕ) → j < r .block → xorOf N (byte j) ≡ 0)
+      × ((d j : ℕ) → d < N → j < r .block → layout (geometry r) .owner S d ≡ Blank → byte j d ≡ 0))
+  -- .. and, where all disks are in and the images are N × T × B bytes long, byte by byte and in bare numbers: "its N places xor to
   -- zero and its blanks are zero"
   pub in-bytes : (r : Record) (img : List ℕ) (S : ℕ) → r .health ≡ Whole → length img ≡ (r .old + r .new) * (r .stripes * r .block)
       → S < r .stripes →

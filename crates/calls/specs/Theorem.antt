@@ -1,24 +1,25 @@
 -- DEMAND 1, as far as the definitions go: "The lent images, record, block and scratch hold after a refused call the very bytes they
 -- held before it, nonsense records and lengths included; every call .. refuses exactly as the table says".
--- The statement is `Demand1`; `demand1` of proofs/Theorem.antt proves it, `in-order`, `in-rising-order`, `in-steps`, `on-bytes` and
--- `values` the five behind it.
+-- The statement is `Demand1`; `demand1` of proofs/Theorem.antt proves it, `in-order`, `in-rising-order`, `in-steps`, `on-bytes`, `settles`
+-- and `values` the six after it.
 use Prim.Native.Nat.{ℕ, zero, suc, _+_, _-_, _<_, min}
 use mathlib.Core.Path.{_≡_}
 use mathlib.Core.Bool.{Bool, true, false}
 use mathlib.Core.Logic.{_↔_, _≢_}
 use mathlib.Core.List.{List, [], _∷_, _++_}
-use lib.ListN.{replicate}
+use lib.ListN.{length, replicate}
 use Rattle.layout.specs.declared.Role.the-variants.{Data, Parity, Blank}
 use Rattle.layout.specs.declared.Standing.{Standing}
 use Rattle.state.specs.declared.types.Health.the-variants.{Rebuilding}
 use Rattle.state.specs.declared.types.Health.{Health}
 use Rattle.state.specs.declared.types.Record.{Record}
-use Rattle.state.specs.Bytes.{healthByte, diskByte, stripesDone, encode}
-use Rattle.calls.specs.Call.{Event, fed, Answer, refused, done, bytes, made, allSound, unsoundAt, figures, placed, owned}
+use Rattle.state.specs.Bytes.{healthByte, diskByte, stripesDone, decode, encode}
+use Rattle.calls.specs.Call.{Call, Event, on, feed, fed}
+use Rattle.calls.specs.Call.{Answer, refused, done, bytes, made, allSound, unsoundAt, figures, placed, owned}
 use Rattle.calls.specs.Call.{accepted, number, shown, count, beside}
 use Rattle.calls.specs.Images.{othersIn, Store, block, header, storedIn, recorded}
-use Rattle.calls.specs.Table.{Row, word, rowsBytes, refusalBytes}
-use Rattle.calls.specs.Effect.{advanceStores, stripesMade, continueStores, called, sealed, calledBytes}
+use Rattle.calls.specs.Table.{Row, word, refusalOf, rowsBytes, refusalBytes}
+use Rattle.calls.specs.Effect.{advanceStores, stripesMade, continueStores, Left, act, called, sealed, calledBytes}
 
 -- no condition of these rows holds
 unfoldable pub NoneHolds : List Row → Type 0
@@ -37,6 +38,8 @@ pub record Given (rows : List Row) : Type 0 where
 pub record Answered (e : Event) (b : List ℕ) : Type 0 where
   -- the number returned is the table's ..
   pub number-is : number (calledBytes e b .answer) ≡ refusalBytes b (fed e)
+  -- .. whose rows are these
+  pub word-is : refusalBytes b (fed e) ≡ word (rowsBytes b (fed e))
   pub table-is : Given (rowsBytes b (fed e))
   -- .. with "zeros beside its number, an empty view" ..
   pub zeros : (w : ℕ) → accepted (calledBytes e b .answer) ≡ false
@@ -86,10 +89,28 @@ InSteps =
 abbrev pub OnBytes : Type 0
 OnBytes = (e : Event) (r : Record) → calledBytes e (encode r) ≡ sealed (called e r)
 
+-- And a call is what the table's number makes of it: `act`, of which `Acts` and `Alone` speak, or nothing but the number. (`settles`)
+pub record Settles : Type 0 where
+  -- the table is fed the call and the lengths lent, and nothing else
+  pub fed-is : (e : Event) → fed e ≡ feed (e .call) (length (e .images)) (length (e .room))
+  pub lent : (c : Call) (img room : List ℕ) → (on c img room .call ≡ c) × (on c img room .images ≡ img) × (on c img room .room ≡ room)
+  pub lengths : (c : Call) (len room : ℕ) → (feed c len room .call ≡ c) × (feed c len room .images ≡ len) × (feed c len room .room ≡ room)
+  -- let through: on a record, and on bytes, where the record that is left is written anew
+  pub let-through : (e : Event) (r : Record) → refusalOf r (fed e) ≡ 0 → called e r ≡ act e r
+  pub bytes-through : (e : Event) (b : List ℕ) → refusalBytes b (fed e) ≡ 0 → calledBytes e b ≡ sealed (act e (decode b))
+  pub written : (x : Left Record)
+      → (sealed x .answer ≡ x .answer) × (sealed x .state ≡ encode (x .state)) × (sealed x .images ≡ x .images) × (sealed x .room ≡ x .room)
+  -- refused: "changes no byte" (on bytes that is `Demand1`)
+  pub turned-away : (e : Event) (r : Record) → refusalOf r (fed e) ≢ 0
+      → (called e r .answer ≡ refused (refusalOf r (fed e))) × (called e r .state ≡ r)
+      × (called e r .images ≡ e .images) × (called e r .room ≡ e .room)
+
 -- An answer in numbers, for all of them: "0 is done. A refusal returns zeros beside its number, an empty view". (`values`)
 pub record Values : Type 0 where
   pub refusals : (w k : ℕ) → (number (refused k) ≡ k) × (beside w (refused k) ≡ replicate w 0) × (shown (refused k) ≡ [])
   pub accepts : (a : Answer) → accepted a ≡ true → number a ≡ 0
+  -- and what is not accepted is refused
+  pub only-refused : (a : Answer) → (accepted a ≡ false) ↔ ((k : ℕ) × (a ≡ refused k))
   -- the count of advance and continue
   pub counts : (w k : ℕ) → (beside w (made k) ≡ k ∷ []) × (count (made k) ≡ k) × (count (refused k) ≡ 0)
   -- sweep's: none found, and all stripes read; or one found, which it is, and the stripes read

@@ -1,4 +1,4 @@
--- What a call does to the flat list; the array and the flat list, call by call; the sum of the moves; two disks out; the claim of each call, on bytes and on records; what may be lent; a test of fairness.
+-- What a call does to the flat list; the array and the flat list, call by call; the sum of the moves; two disks out; the claim of each call, on bytes and on records; what may be lent; a test of fairness; what is claimed of each call of a fair history.
 pub mod Look
 pub mod Step
 pub mod Tally
@@ -8,3 +8,4 @@ pub mod Claim
 pub mod Records
 pub mod Lending
 pub mod Fairness
+pub mod Run

@@ -6,10 +6,10 @@
 -- disk out while the first is not rebuilt refuses all reads until a new format." (That number is the total, of which document 02, (a),
 -- says: "The total becomes (T div (n × (n + m))) × n × n × m". Of a rebuild (d) says: "The disk may hold any bytes only in stripes not yet
 -- rebuilt, and reads still follow the flat list.")
--- The statement is `Demand3`; behind it stand `MayBeLent`, `FlatList`, `AlwaysFair`, `NothingFound`, `LastGiven`, `ZeroAtFirst` and
--- `SecondOut`. `demand3`, `may-be-lent`, `flat-list`, `always-fair`, `nothing-found`, `last-given`, `zero-at-first` and `second-out` of
--- proofs/Theorem.antt prove them, and assume nothing.
-use Prim.Native.Nat.{ℕ, suc, _+_, _<_}
+-- The statement is `Demand3`; after it stand `HandedOn`, `MayBeLent`, `FlatList`, `AlwaysFair`, `NothingFound`, `LastGiven`, `ZeroAtFirst`
+-- and `SecondOut`. `demand3`, `handed-on`, `may-be-lent`, `flat-list`, `always-fair`, `nothing-found`, `last-given`, `zero-at-first` and
+-- `second-out` of proofs/Theorem.antt prove them, and assume nothing.
+use Prim.Native.Nat.{ℕ, suc, _+_, _*_, _<_}
 use mathlib.Core.Path.{_≡_}
 use mathlib.Core.Bool.{true, false, cond, _||_}
 use mathlib.Core.Logic.{_⊎_, _↔_, _≢_}
@@ -20,12 +20,13 @@ use Rattle.blocks.specs.Block.{zeros}
 use Rattle.state.specs.declared.types.Health.the-variants.{Out, Lost, Rebuilding}
 use Rattle.state.specs.declared.types.Record.{Record}
 use Rattle.state.specs.Good.{geometry, good}
-use Rattle.calls.specs.Call.{Call, sameCall, format, read, view, write, grow, advance, out, sweep}
+use Rattle.state.specs.Bytes.{decode, goodBytes, encode}
+use Rattle.calls.specs.Call.{Call, sameCall, format, read, view, write, grow, advance, out, begin, continue, status, locate, owner, sweep}
 use Rattle.calls.specs.Call.{Event, on, Fed, feed, fed, Answer, refused, bytes, allSound, accepted, count}
 use Rattle.calls.specs.Health.{isLost, absent}
 use Rattle.calls.specs.Images.{disksOf, size, placeIn, seen}
-use Rattle.calls.specs.Table.{nothing, those, idle, refusal}
-use Rattle.calls.specs.Effect.{placeOf, parityAfter}
+use Rattle.calls.specs.Table.{nothing, anything, those, idle, refusal}
+use Rattle.calls.specs.Effect.{placeOf, parityAfter, called, calledBytes}
 use Rattle.calls.specs.Sound.{Sound}
 use Rattle.history.specs.Flat.{Flat, flatStep}
 use Rattle.history.specs.Lent.{Form, asBytes, asRecord, Cabinet, takes, Lends, leaves, next}
@@ -109,6 +110,36 @@ Demand3On {R} x =
 abbrev pub Demand3 : Type 0
 Demand3 = Demand3On asBytes × Demand3On asRecord
 
+-- ---- what is handed on from call to call, in bare form
+
+-- "Each gets the record, and where it takes images those too, as the calls before left them."
+pub record HandsOn {R : Type 0} (x : Form R) : Type 0 where
+  pub record-on : (e : Event) (a : Cabinet R) → next x e a .rec ≡ leaves x e a .state
+  pub images-on : (e : Event) (a : Cabinet R) → accepted (leaves x e a .answer) ≡ true
+      → takes (e .call) (x .decoded (a .rec)) ≢ nothing → next x e a .img ≡ leaves x e a .images
+  -- a call that takes none, or is refused, leaves those that stood
+  pub none-taken : (e : Event) (a : Cabinet R) → takes (e .call) (x .decoded (a .rec)) ≡ nothing → next x e a .img ≡ a .img
+  pub refused : (e : Event) (a : Cabinet R) → accepted (leaves x e a .answer) ≡ false → next x e a .img ≡ a .img
+
+pub record HandedOn : Type 0 where
+  -- a call on a record's bytes, and on a record
+  pub on-bytes : (e : Event) (a : Cabinet (List ℕ)) → leaves asBytes e a ≡ calledBytes e (a .rec)
+  pub on-record : (e : Event) (a : Cabinet Record) → leaves asRecord e a ≡ called e (a .rec)
+  pub as-bytes : (b : List ℕ) (r : Record)
+      → (asBytes .decoded b ≡ decode b) × (asBytes .encoded r ≡ encode r) × (asBytes .isGood b ≡ goodBytes b)
+  pub as-record : (r : Record) → (asRecord .decoded r ≡ r) × (asRecord .encoded r ≡ r) × (asRecord .isGood r ≡ good r)
+  -- what stands after it
+  pub bytes-on : HandsOn asBytes
+  pub records-on : HandsOn asRecord
+  -- which images a call takes: any of a length; those that stand, of a grow with m disks more; or none
+  pub of-format : (r : Record) (n B T : ℕ) → takes (format n B T) r ≡ anything (n * (T * B))
+  pub of-grow : (r : Record) (m : ℕ) → takes (grow m) r ≡ those ((r .old + m) * (r .stripes * r .block))
+  pub of-others : (r : Record) (b k d : ℕ) (v : List ℕ) → let all = those ((r .old + r .new) * (r .stripes * r .block)) in
+      (takes (read b) r ≡ all) × (takes (view b) r ≡ all) × (takes (write b v) r ≡ all) × (takes (advance k) r ≡ all)
+      × (takes (begin d) r ≡ all) × (takes (continue k) r ≡ all) × (takes sweep r ≡ all)
+  pub of-none : (r : Record) (b S d : ℕ)
+      → (takes (out d) r ≡ nothing) × (takes status r ≡ nothing) × (takes (locate b) r ≡ nothing) × (takes (owner S d) r ≡ nothing)
+
 -- ---- what the premise leaves a lender free to do: e is the call, r the numbers that it is lent images by, left the images that stand
 
 pub record FreeToLend (e : Event) (r : Record) (left : List ℕ) : Type 0 where
@@ -188,7 +219,7 @@ abbrev pub NothingFound : Type 0
 NothingFound = NothingFoundOn asBytes × NothingFoundOn asRecord
 
 -- ---- in the mills' words: the flat list is, "zero at first, of what each block was last given". (This and the rest is
--- said of the flat list; by `FlatList` it holds of the array.)
+-- said of the flat list; `ReadBack` says it of the array.)
 
 -- no call of a list gives block b anything: no format and no write of b is accepted
 unfoldable pub NotGiven : ℕ → List Fed → Flat → Type 0

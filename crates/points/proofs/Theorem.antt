@@ -8,7 +8,7 @@ use lib.ListN.{length, getD}
 use Rattle.blocks.specs.Block.{AreBytes}
 use Rattle.blocks.specs.Number.{two}
 use Rattle.blocks.proofs.Laws.Number.{two-back}
-use Rattle.points.specs.Points.{pointsOf, differences, low, high, sideBySide, Even, plus, fromSides, sums, bytesOf, packed, unpacked}
+use Rattle.points.specs.Points.{pointsOf, differences, low, high, sideBySide, plus, fromSides, sums, bytesOf, packed, unpacked}
 use Rattle.points.specs.Answer.{refused, answer, filled}
 use Rattle.points.specs.Part.{differencesOf}
 use Rattle.points.specs.Theorem.{BothWays, pointAt, differenceAt, Differences, Fills}
@@ -17,22 +17,22 @@ use Rattle.points.proofs.Laws.Elements.{getD-points, getD-differences, 
 use Rattle.points.proofs.Laws.Answer.{refused-odd, refused-unlike, not-refused}
 use Rattle.points.proofs.Laws.Pack.{first-is, length-differencesOf}
 
-back : (l : List ℕ) → AreBytes l → Even l → unpacked (packed l) ≡ l
+back : (l : List ℕ) → AreBytes l → length l % 2 ≡ 0 → unpacked (packed l) ≡ l
 back l h e =
     ap (λ (ds : List ℕ). bytesOf (sums ds)) (from-sides (differences (pointsOf l)))
     ∙ ap bytesOf (sums-differences 0 (pointsOf l) (omega arith) (points-below l h))
     ∙ bytes-points l h e
 
-there : (l : List ℕ) → AreBytes l → Even l → packed (unpacked l) ≡ l
+there : (l : List ℕ) → AreBytes l → length l % 2 ≡ 0 → packed (unpacked l) ≡ l
 there l h e =
     ap (λ (ps : List ℕ). sideBySide (differences ps)) (points-bytes (sums (fromSides l)))
     ∙ ap sideBySide (differences-sums 0 (fromSides l) (omega arith) (from-sides-below l h))
     ∙ to-sides l h e
 
-packed-length : (l : List ℕ) → Even l → length (packed l) ≡ length l
+packed-length : (l : List ℕ) → length l % 2 ≡ 0 → length (packed l) ≡ length l
 packed-length l e = length-sides (differencesOf l) ∙ omega (arith, length-differencesOf l)
 
-unpacked-length : (l : List ℕ) → Even l → length (unpacked l) ≡ length l
+unpacked-length : (l : List ℕ) → length l % 2 ≡ 0 → length (unpacked l) ≡ length l
 unpacked-length l e = length-bytes (sums (fromSides l)) ∙ omega (arith, length-sums 0 (fromSides l), length-from-sides l e)
 
 pub both-ways : BothWays

@@ -6,16 +6,16 @@ use mathlib.Core.Logic.{_≢_}
 use mathlib.Core.List.{List}
 use lib.ListN.{length, getD}
 use Rattle.blocks.specs.Block.{AreBytes}
-use Rattle.points.specs.Points.{Even, packed, unpacked}
+use Rattle.points.specs.Points.{packed, unpacked}
 use Rattle.points.specs.Answer.{answer, filled}
 
 pub record BothWays : Type 0 where
   -- "The way back restores every slice of even length, the empty one too, and both orders of the two give the original."
-  pub back : (l : List ℕ) → AreBytes l → Even l → unpacked (packed l) ≡ l
-  pub there : (l : List ℕ) → AreBytes l → Even l → packed (unpacked l) ≡ l
+  pub back : (l : List ℕ) → AreBytes l → length l % 2 ≡ 0 → unpacked (packed l) ≡ l
+  pub there : (l : List ℕ) → AreBytes l → length l % 2 ≡ 0 → packed (unpacked l) ≡ l
   -- as many bytes, each way
-  pub packed-length : (l : List ℕ) → Even l → length (packed l) ≡ length l
-  pub unpacked-length : (l : List ℕ) → Even l → length (unpacked l) ≡ length l
+  pub packed-length : (l : List ℕ) → length l % 2 ≡ 0 → length (packed l) ≡ length l
+  pub unpacked-length : (l : List ℕ) → length l % 2 ≡ 0 → length (unpacked l) ≡ length l
   pub packed-bytes : (l : List ℕ) → AreBytes (packed l)
   pub unpacked-bytes : (l : List ℕ) → AreBytes (unpacked l)
 
@@ -40,5 +40,5 @@ pub record Fills : Type 0 where
       → (answer source target ≡ 11) × (filled way source target ≡ target)
   pub unlike : (way : List ℕ → List ℕ) (source target : List ℕ) → length source ≢ length target
       → (answer source target ≡ 11) × (filled way source target ≡ target)
-  pub done : (way : List ℕ → List ℕ) (source target : List ℕ) → Even source → length source ≡ length target
+  pub done : (way : List ℕ → List ℕ) (source target : List ℕ) → length source % 2 ≡ 0 → length source ≡ length target
       → (answer source target ≡ 0) × (filled way source target ≡ way source)

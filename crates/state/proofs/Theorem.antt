@@ -2,7 +2,7 @@
 use Prim.Native.Nat.{ℕ, _+_, _<_}
 use mathlib.Core.Path.{_≡_, refl, subst}
 use mathlib.Core.Bool.{true}
-use mathlib.Core.Logic.{_↔_}
+use mathlib.Core.Logic.{_⊎_, inl, inr, _↔_}
 use mathlib.Core.List.{List}
 use native.Mathlib.Omega.{arith}
 use lib.ListN.{length}
@@ -19,6 +19,12 @@ use Rattle.conditions.proofs.Tests.{both}
 use Rattle.state.proofs.Laws.Good.{limits, within-limits, out-lt, rebuilding-lt}
 use Rattle.state.proofs.Laws.Bytes.{decode-encode, length-encode, plain-encode, Fits, bytes-encode, encode-decode}
 
+one-of : (h : Health) → (h ≡ Whole) ⊎ (((d : ℕ) × (h ≡ Out d)) ⊎ ((h ≡ Lost) ⊎ ((d : ℕ) × (c : ℕ) × (h ≡ Rebuilding d c))))
+one-of Whole = inl refl
+one-of (Out d) = inr (inl (d, refl))
+one-of Lost = inr (inr (inl refl))
+one-of (Rebuilding d c) = inr (inr (inr (d, c, refl)))
+
 pub round-trip : RoundTrip
 unfolding encode
 round-trip =
@@ -28,6 +34,7 @@ round-trip =
       plain-only = λ b r e. (subst (λ (x : List ℕ). length x ≡ recordLength) e (length-encode r), subst (λ (x : List ℕ). plain x ≡ true) e (plain-encode r));
       offsets = λ r. (refl, refl, refl, refl, omega arith, refl, refl, omega arith, omega arith, omega arith);
       health-bytes = (refl, refl, refl, (λ d. (refl, refl, refl)), refl, refl, refl, λ d c. (refl, refl, refl));
+      healths = one-of;
       example = refl;
     }
 

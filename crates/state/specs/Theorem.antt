@@ -3,7 +3,7 @@
 use Prim.Native.Nat.{ℕ, _+_, _*_, _/_, _≤_, _<_}
 use mathlib.Core.Path.{_≡_}
 use mathlib.Core.Bool.{true}
-use mathlib.Core.Logic.{_↔_}
+use mathlib.Core.Logic.{_⊎_, _↔_}
 use mathlib.Core.List.{List, [], _∷_}
 use lib.ListN.{length, getD}
 use Rattle.blocks.specs.Block.{AreBytes}
@@ -11,7 +11,7 @@ use Rattle.state.specs.declared.types.Health.the-variants.{Whole, Out, L
 use Rattle.state.specs.declared.types.Health.{Health}
 use Rattle.state.specs.declared.types.Record.{Record}
 use Rattle.state.specs.Good.{geometry, good, GoodRecord}
-use Rattle.state.specs.Bytes.{recordLength, decode, plain, goodBytes, healthByte, diskByte, stripesDone, encode}
+use Rattle.state.specs.Bytes.{decode, plain, goodBytes, healthByte, diskByte, stripesDone, encode}
 use Rattle.state.specs.Update.{formatted, grownBy, withMoves, withHealth}
 
 -- byte i of a record
@@ -21,9 +21,9 @@ byteOf r i = getD (encode r) i 0
 -- the record and its bytes: in and out
 pub record RoundTrip : Type 0 where
   pub record-back : (r : Record) → decode (encode r) ≡ r
-  pub bytes-back : (b : List ℕ) → AreBytes b → length b ≡ recordLength → plain b ≡ true → encode (decode b) ≡ b
+  pub bytes-back : (b : List ℕ) → AreBytes b → length b ≡ 20 → plain b ≡ true → encode (decode b) ≡ b
   -- and bytes that are not `plain` are those of no record
-  pub plain-only : (b : List ℕ) (r : Record) → encode r ≡ b → (length b ≡ recordLength) × (plain b ≡ true)
+  pub plain-only : (b : List ℕ) (r : Record) → encode r ≡ b → (length b ≡ 20) × (plain b ≡ true)
   -- "decimal byte offsets, least byte first: 0 n; 1 m (0 before growth); 2 health ..; 3 the disk that is out ..; 4–5 B; 6–7 zero; 8–11 T;
   -- 12–15 t, the moves done"; "16–19 hold the count"
   pub offsets : (r : Record) → let at : ℕ → ℕ = byteOf r in
@@ -38,6 +38,8 @@ pub record RoundTrip : Type 0 where
       × ((d : ℕ) → (healthByte (Out d) ≡ 1) × (diskByte (Out d) ≡ d) × (stripesDone (Out d) ≡ 0))
       × (healthByte Lost ≡ 2) × (diskByte Lost ≡ 0) × (stripesDone Lost ≡ 0)
       × ((d c : ℕ) → (healthByte (Rebuilding d c) ≡ 3) × (diskByte (Rebuilding d c) ≡ d) × (stripesDone (Rebuilding d c) ≡ c))
+  -- "one of Whole, Out with its disk, Lost", or "Rebuilding .. with disk and stripes done", and nothing else
+  pub healths : (h : Health) → (h ≡ Whole) ⊎ (((d : ℕ) × (h ≡ Out d)) ⊎ ((h ≡ Lost) ⊎ ((d : ℕ) × (c : ℕ) × (h ≡ Rebuilding d c))))
   -- worked out by hand: n = 5, m = 7, disk 11 being rebuilt, B = 515, T = 67,305,985, t = 134,678,021, 202,050,057 stripes done
   pub example : encode (record { old = 5; new = 7; health = Rebuilding 11 202050057; block = 515; stripes = 67305985; moves = 134678021 })
       ≡ 5 ∷ 7 ∷ 3 ∷ 11 ∷ 3 ∷ 2 ∷ 0 ∷ 0 ∷ 1 ∷ 2 ∷ 3 ∷ 4 ∷ 5 ∷ 6 ∷ 7 ∷ 8 ∷ 9 ∷ 10 ∷ 11 ∷ 12 ∷ []
@@ -58,7 +60,7 @@ pub record GoodIs : Type 0 where
   -- its bytes are bytes
   pub fits : (r : Record) → GoodRecord r → AreBytes (encode r)
   -- and so many bytes are good exactly if they are those of a good record: "bytes 6–7 zero included"
-  pub bytes : (b : List ℕ) → AreBytes b → length b ≡ recordLength
+  pub bytes : (b : List ℕ) → AreBytes b → length b ≡ 20
       → (goodBytes b ≡ true) ↔ ((r : Record) × (good r ≡ true) × (encode r ≡ b))
 
 -- What every field is behind each update. One equation holds them all: a field more, and these lines have to say what becomes of it.

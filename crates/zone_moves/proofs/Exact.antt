@@ -14,7 +14,7 @@ use Rattle.zone_moves.specs.declared.parse.Request.the-variants.{Zone, R
 use Rattle.zone_moves.specs.declared.parse.Request.{Request}
 use Rattle.zone_moves.specs.Decimal.{spell, decimal}
 use Rattle.zone_moves.specs.Request.{Limited, isDigit, inLimits, fieldOf, fieldAt, askZone, askNew, askOld, requestOf}
-use Rattle.zone_moves.specs.Listing.{column, moveLine, linesOf, indices, zoneMoves, refusal, answered, answer}
+use Rattle.zone_moves.specs.Listing.{column, moveLine, linesOf, indices, zoneMoves, refusal, answered, answer, written}
 use Rattle.zone_moves.specs.Exact.{line, ZoneMoves, text, Examples, Exact}
 use Rattle.zone_moves.proofs.Laws.Fields.{limited, limits-pass, zone-asked, Seen, one, two, none, look, Ends, ends, nowhere, field-ends, Line, asks, other, look-line}
 use Rattle.zone_moves.proofs.Laws.Reading.{field-text, field-reads, drop-more}
@@ -208,6 +208,7 @@ computed =
 -- ---- the theorem
 
 pub exact : Exact
+unfolding column written
 exact =
     record {
       reads = line-reads;
@@ -221,5 +222,7 @@ exact =
       asked = asked-is;
       printed = printed-is;
       no-more = no-more-is;
+      columns = λ x stop. refl;
+      stored = λ out text at. refl;
       examples = computed;
     }

@@ -10,7 +10,7 @@ use Rattle.layout.specs.Moves.{moveZone, moveWithin, moveFrom, moveTo}
 use Rattle.zone_moves.specs.declared.parse.Request.the-variants.{Zone}
 use Rattle.zone_moves.specs.Decimal.{decimal}
 use Rattle.zone_moves.specs.Request.{Limited, requestOf}
-use Rattle.zone_moves.specs.Listing.{column, linesOf, zoneMoves, refusal, answer}
+use Rattle.zone_moves.specs.Listing.{column, linesOf, zoneMoves, refusal, answer, written}
 
 -- the line "n m z": "decimal, no leading zeros, single spaces, a line feed behind"
 unfoldable pub line : ℕ → ℕ → ℕ → List ℕ
@@ -122,5 +122,8 @@ pub record Exact : Type 0 where
       ≡ decimal k ++ (sp ∷ decimal (moveZone n m k)) ++ (sp ∷ decimal (moveWithin n m k)) ++ (sp ∷ decimal (moveFrom n m k))
       ++ (sp ∷ decimal (moveTo n m k)) ++ (lf ∷ linesOf n m ks)
   pub no-more : (n m : ℕ) → linesOf n m [] ≡ []
+  pub columns : (x stop : ℕ) → column x stop ≡ decimal x ++ (stop ∷ [])
+  -- a text takes the bytes from `at` on of what the function is lent, and leaves the others
+  pub stored : (out text : List ℕ) (at : ℕ) → written out at text ≡ take at out ++ text ++ drop (at + length text) out
   -- the examples, computed
   pub examples : Examples

@@ -24,7 +24,7 @@ fn answer_buffer() -> [u8; 4352]
 }
 
 // Reads up to and with a line feed, and no further: to the end of the input or of `line` where none comes. Answers how many bytes it put
-// at the start of `line`.
+// at the start of `line`. Which they are is left open, as no contract knows the input: it says that they fit. The rest is run.
 fn read_line(line: &mut [u8]) -> usize
     ensures { λ r. ⌜ Counts r (now (line .exit)) ⌝ }
 {

@@ -1,7 +1,7 @@
 -- What an accepted call answers, by its definition alone. Assumes nothing.
 use Prim.Native.Nat.{ℕ}
 use mathlib.Core.Path.{_≡_, refl}
-use mathlib.Core.Bool.{true, false}
+use mathlib.Core.Bool.{true, false, true≢false}
 use mathlib.Core.List.{List}
 use Rattle.layout.specs.Layout.{layout}
 use Rattle.state.specs.declared.types.Record.{Record}
@@ -22,6 +22,18 @@ zero-done (unsoundAt S x) q = refl
 zero-done (figures c t total h) q = refl
 zero-done (placed p) q = refl
 zero-done (owned o) q = refl
+
+-- and what is not accepted is a refusal
+pub is-refused : (a : Answer) → accepted a ≡ false → (k : ℕ) × (a ≡ refused k)
+is-refused (refused k) q = (k, refl)
+is-refused done q = absurd (true≢false q)
+is-refused (bytes v) q = absurd (true≢false q)
+is-refused (made k) q = absurd (true≢false q)
+is-refused (allSound x) q = absurd (true≢false q)
+is-refused (unsoundAt S x) q = absurd (true≢false q)
+is-refused (figures c t total h) q = absurd (true≢false q)
+is-refused (placed p) q = absurd (true≢false q)
+is-refused (owned o) q = absurd (true≢false q)
 
 -- a read's bytes are those of the block that it fills
 pub fills : (e : Event) (r : Record) (b : ℕ) → e .call ≡ read b → act e r .answer ≡ bytes (act e r .room)

@@ -2,7 +2,7 @@
 use Prim.Native.Nat.{ℕ, _≤_}
 use mathlib.Core.Path.{_≡_, refl, sym, ap, _∙_}
 use mathlib.Core.Bool.{Bool, true, false, true≢false, not, cond, _&&_, _||_}
-use mathlib.Core.Logic.{_⊎_, inl, inr, _≢_}
+use mathlib.Core.Logic.{_⊎_, inl, inr, _≢_, _↔_}
 use mathlib.Core.List.{List, [], _∷_}
 use native.Mathlib.Decide.{ℕ-discrete}
 use native.Mathlib.Omega.{arith}
@@ -26,6 +26,11 @@ use Rattle.calls.proofs.Laws.Table.{some-new, not-total, none-left}
 pub record Tells (b : Bool) (A : Type 0) : Type 0 where
   pub yes : b ≡ true → A
   pub no : b ≡ false → A → ⊥
+
+-- so it is true exactly if A holds
+pub exactly : (b : Bool) {A : Type 0} → Tells b A → (b ≡ true) ↔ A
+exactly true t = (t .yes, λ a. refl)
+exactly false t = (t .yes, λ a. absurd (t .no refl a))
 
 -- each row has its reason's number, and tells whether that holds, if no lower one does
 unfoldable pub Told : List Row → List Reason → Type 0

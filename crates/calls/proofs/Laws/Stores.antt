@@ -9,12 +9,13 @@ use native.Mathlib.Omega.{arith}
 use lib.ListN.{length, getD, length-replicate}
 use Rattle.blocks.specs.Block.{store, zeros}
 use Rattle.blocks.specs.Stripe.{offset}
-use Rattle.blocks.proofs.Laws.Block.{length-store}
+use Rattle.blocks.proofs.Laws.Block.{length-store, blockAt-store, getD-blockAt}
 use Rattle.blocks.proofs.Laws.Grid.{Grid, storeAt, storeAt-same, storeAt-row, storeAt-far, storeAt-cong}
 use Rattle.blocks.proofs.Laws.Rows.{put, put-same, put-other}
 use Rattle.blocks.proofs.Laws.Stripe.{cell, cell-store}
 use Rattle.blocks.proofs.Laws.Xor.{getD-zeros}
 use Rattle.state.specs.declared.types.Record.{Record}
+use Rattle.calls.specs.Stores.{eachDisk}
 use Rattle.calls.specs.Theorem.{rising}
 use Rattle.calls.specs.Images.{Store, block, header, stored, recorded, unless, fillDisk, zeroDisks}
 
@@ -23,6 +24,14 @@ unfoldable pub Within : ℕ → ℕ → ℕ → List Store → Type 0
 Within N B T [] = Unit
 Within N B T (block S d v ∷ ps) = (S < T) × (d < N) × (length v ≡ B) × Within N B T ps
 Within N B T (header x ∷ ps) = Within N B T ps
+
+-- the bytes of one block
+pub getD-stored : (B T S d j : ℕ) (v img : List ℕ) → offset B T S d + length v ≤ length img → j < length v
+    → getD (stored B T (block S d v ∷ []) img) (offset B T S d + j) 0 ≡ getD v j 0
+unfolding stored
+getD-stored B T S d j v img h l =
+    sym (getD-blockAt (store img (offset B T S d) v) (offset B T S d) (length v) j l)
+    ∙ ap (λ (x : List ℕ). getD x j 0) (blockAt-store img (offset B T S d) v (length v) refl h)
 
 -- what the stores make of byte j of every place
 unfoldable pub column : ℕ → List Store → Grid → Grid
@@ -179,6 +188,22 @@ unfolding fillDisk rising
 fill-rising d f S zero = refl
 fill-rising d f S (suc k) =
     ap (λ (ps : List Store). ps ++ (block (S + k) d (f (S + k)) ∷ [])) (fill-rising d f S k) ∙ rising-last (λ x. block x d (f x)) S k
+
+-- zeroes, disk by disk: one disk more at the end is one more at the start
+each-last : (T d k : ℕ) (f : ℕ → ℕ → Store) → eachDisk T d k f ++ rising 0 T (f (d + k)) ≡ eachDisk T d (suc k) f
+unfolding eachDisk
+each-last T d zero f = (let q : d + 0 ≡ d = omega arith in rw q (sym (append-nil (rising 0 T (f d)))))
+each-last T d (suc k) f =
+    append-assoc (rising 0 T (f d)) (eachDisk T (suc d) k f) (rising 0 T (f (d + suc k)))
+    ∙ ap (λ (x : ℕ). rising 0 T (f d) ++ (eachDisk T (suc d) k f ++ rising 0 T (f x))) (let q : d + suc k ≡ suc d + k = omega arith in q)
+    ∙ ap (λ (ps : List Store). rising 0 T (f d) ++ ps) (each-last T (suc d) k f)
+
+pub zero-each : (B T d k : ℕ) → zeroDisks B T d k ≡ eachDisk T d k (λ e S. block S e (zeros B))
+unfolding zeroDisks eachDisk
+zero-each B T d zero = refl
+zero-each B T d (suc k) =
+    ap₂ (λ (ps qs : List Store). ps ++ qs) (zero-each B T d k) (fill-rising (d + k) (λ S. zeros B) 0 T)
+    ∙ each-last T d k (λ e S. block S e (zeros B))
 
 module _ (B T first : ℕ) where
   pub column-below : (j k : ℕ) (I : Grid) (S e : ℕ) → S < T → e < first → column j (zeroDisks B T first k) I S e ≡ I S e

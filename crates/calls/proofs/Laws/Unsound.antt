@@ -1,13 +1,14 @@
 -- The test of a stripe is `Sound`; the list of unsound stripes, and what a sweep answers of it. Assumes nothing.
 use Prim.Native.Nat.{ℕ, zero, suc, _+_, _≤_, _<_}
-use mathlib.Core.Path.{_≡_, refl, sym, ap, _∙_}
+use mathlib.Core.Path.{_≡_, refl, sym, ap, ap₂, _∙_}
 use mathlib.Core.Bool.{Bool, true, false, true≢false, cond, not, _&&_, _||_}
 use mathlib.Core.Logic.{_⊎_, inl, inr}
 use mathlib.Core.List.{List, [], _∷_, _++_}
 use native.Mathlib.Decide.{ℕ-discrete}
 use native.Mathlib.Omega.{arith}
+use lib.Dec.{eqb}
 use lib.Bits.{bitXor}
-use lib.ListN.{length, getD, length-append, List·getD-append}
+use lib.ListN.{length, getD, length-append, length-replicate, List·getD-append}
 use lib.Seq.{getD-append-seam}
 use Rattle.layout.specs.declared.Role.the-variants.{Data, Parity, Blank}
 use Rattle.layout.specs.declared.Role.{Role}
@@ -16,9 +17,9 @@ use Rattle.layout.proofs.Laws.Basics.{le-or-lt}
 use Rattle.blocks.specs.Block.{zeros, isZeros}
 use Rattle.blocks.specs.Xor.{xorAll}
 use Rattle.blocks.specs.Stripe.{stripe, others}
-use Rattle.blocks.proofs.Laws.Rows.{sum}
-use Rattle.blocks.proofs.Laws.Xor.{getD-zeros}
-use Rattle.blocks.proofs.Laws.Stripe.{getD-place, xor-stripe, length-others, others-all}
+use Rattle.blocks.proofs.Laws.Rows.{sum, rest, put}
+use Rattle.blocks.proofs.Laws.Xor.{xorAll-snoc, getD-xorB, length-xorB, getD-zeros}
+use Rattle.blocks.proofs.Laws.Stripe.{getD-place, getD-others, length-others, others-all}
 use Rattle.blocks.proofs.Laws.Zero.{is-zeros, zeros-are}
 use Rattle.conditions.proofs.Tests.{both, second}
 use Rattle.state.specs.declared.types.Health.the-variants.{Whole}
@@ -51,6 +52,12 @@ same-sum : (k : ℕ) (f : ℕ → ℕ) → sum k f ≡ xorOf k f
 unfolding sum xorOf
 same-sum zero f = refl
 same-sum (suc k) f = ap (λ (x : ℕ). bitXor x (f k)) (same-sum k f)
+
+pub byte-of-others : (r : Record) (img : List ℕ) (S d j : ℕ) → j < r .block
+    → getD (othersIn r img S d) j 0 ≡ xorOf (disksOf r) (λ e. cond (eqb e d) 0 (byteAt r img S j e))
+unfolding rest put
+byte-of-others r img S d j l =
+    getD-others (r .block) (r .stripes) img S (disksOf r) d j l ∙ same-sum (disksOf r) (λ e. cond (eqb e d) 0 (byteAt r img S j e))
 
 -- ---- a list l, with k behind it unless b
 
@@ -124,7 +131,44 @@ module _ (r : Record) (img : List ℕ) where
     pub not-sound : isSound r img S ≡ false → ¬ Sound r img S
     not-sound q s = true≢false (sym (passes s) ∙ q)
 
-  -- ---- a stripe of which all disks are in, byte by byte
+  -- ---- a stripe byte by byte, as a call sees it
+
+  module _ (S : ℕ) where
+    abbrev seenByte : ℕ → ℕ → ℕ
+    seenByte j d = getD (seen r img S d) j 0
+
+    byte-of-seen : (k j : ℕ) → getD (xorAll (r .block) (seenStripe r img S k)) j 0 ≡ xorOf k (seenByte j)
+    unfolding seenStripe xorOf
+    byte-of-seen zero j = getD-zeros (r .block) j
+    byte-of-seen (suc k) j =
+        ap (λ (v : List ℕ). getD v j 0) (xorAll-snoc (r .block) (seenStripe r img S k) (seen r img S k))
+        ∙ getD-xorB (xorAll (r .block) (seenStripe r img S k)) (seen r img S k) j
+        ∙ ap (λ (x : ℕ). bitXor x (seenByte j k)) (byte-of-seen k j)
+
+    length-of-seen : length img ≡ size r → S < r .stripes → (k : ℕ) → k ≤ disksOf r → length (xorAll (r .block) (seenStripe r img S k)) ≡ r .block
+    unfolding seenStripe
+    length-of-seen long lS zero l = length-replicate {A = ℕ} (r .block) 0
+    length-of-seen long lS (suc k) l =
+        ap length (xorAll-snoc (r .block) (seenStripe r img S k) (seen r img S k))
+        ∙ length-xorB (xorAll (r .block) (seenStripe r img S k)) (seen r img S k) (r .block) (length-of-seen long lS k (omega arith))
+        (length-seen r img S k long lS (omega arith))
+
+    pub to-seen : Sound r img S → ((j : ℕ) → j < r .block → xorOf (disksOf r) (seenByte j) ≡ 0)
+        × ((d j : ℕ) → d < disksOf r → j < r .block → owner S d ≡ Blank → seenByte j d ≡ 0)
+    to-seen s = (
+      (λ j l. sym (byte-of-seen (disksOf r) j) ∙ ap (λ (v : List ℕ). getD v j 0) (s .xor) ∙ getD-zeros (r .block) j),
+      (λ d j ld l o. ap (λ (v : List ℕ). getD v j 0) (s .blanks d ld o) ∙ getD-zeros (r .block) j),
+    )
+
+    pub from-seen : length img ≡ size r → S < r .stripes → ((j : ℕ) → j < r .block → xorOf (disksOf r) (seenByte j) ≡ 0)
+        → ((d j : ℕ) → d < disksOf r → j < r .block → owner S d ≡ Blank → seenByte j d ≡ 0) → Sound r img S
+    from-seen long lS x b =
+        record {
+          xor = zeroes (r .block) (xorAll (r .block) (seenStripe r img S (disksOf r))) (length-of-seen long lS (disksOf r) (omega arith)) (λ j l. byte-of-seen (disksOf r) j ∙ x j l);
+          blanks = λ d ld o. zeroes (r .block) (seen r img S d) (length-seen r img S d long lS ld) (λ j l. b d j ld l o);
+        }
+
+  -- ---- a stripe of which all disks are in
 
   module _ (S : ℕ) (whole : r .health ≡ Whole) where
     pub seen-whole : (d : ℕ) → seen r img S d ≡ placeIn r img S d
@@ -143,28 +187,24 @@ module _ (r : Record) (img : List ℕ) where
     pub length-summed : (k : ℕ) → length (xorAll (r .block) (seenStripe r img S k)) ≡ r .block
     length-summed k = ap length (sym (summed-whole k)) ∙ length-others (r .block) (r .stripes) img S k k
 
-    byte-of-sum : (j : ℕ) → j < r .block → getD (xorAll (r .block) (seenStripe r img S (disksOf r))) j 0 ≡ xorOf (disksOf r) (byteAt r img S j)
-    byte-of-sum j l =
-        ap (λ (x : List (List ℕ)). getD (xorAll (r .block) x) j 0) (stripe-whole (disksOf r))
-        ∙ xor-stripe (r .block) (r .stripes) img S (disksOf r) j l ∙ same-sum (disksOf r) (byteAt r img S j)
-
-    byte-of-place : (d j : ℕ) → j < r .block → getD (seen r img S d) j 0 ≡ byteAt r img S j d
+    byte-of-place : (d j : ℕ) → j < r .block → seenByte S j d ≡ byteAt r img S j d
     byte-of-place d j l = ap (λ (v : List ℕ). getD v j 0) (seen-whole d) ∙ getD-place (r .block) (r .stripes) img S d j l
+
+    same-bytes : (k j : ℕ) → j < r .block → xorOf k (seenByte S j) ≡ xorOf k (byteAt r img S j)
+    unfolding xorOf
+    same-bytes zero j l = refl
+    same-bytes (suc k) j l = ap₂ bitXor (same-bytes k j l) (byte-of-place k j l)
 
     pub to-bytes : Sound r img S → ((j : ℕ) → j < r .block → xorOf (disksOf r) (byteAt r img S j) ≡ 0)
         × ((d j : ℕ) → d < disksOf r → j < r .block → owner S d ≡ Blank → byteAt r img S j d ≡ 0)
-    to-bytes s = (
-      (λ j l. sym (byte-of-sum j l) ∙ ap (λ (v : List ℕ). getD v j 0) (s .xor) ∙ getD-zeros (r .block) j),
-      (λ d j ld l o. sym (byte-of-place d j l) ∙ ap (λ (v : List ℕ). getD v j 0) (s .blanks d ld o) ∙ getD-zeros (r .block) j),
-    )
+    to-bytes s =
+        let (x, b) = to-seen S s in
+        ((λ j l. sym (same-bytes (disksOf r) j l) ∙ x j l), (λ d j ld l o. sym (byte-of-place d j l) ∙ b d j ld l o))
 
     pub from-bytes : length img ≡ size r → S < r .stripes → ((j : ℕ) → j < r .block → xorOf (disksOf r) (byteAt r img S j) ≡ 0)
         → ((d j : ℕ) → d < disksOf r → j < r .block → owner S d ≡ Blank → byteAt r img S j d ≡ 0) → Sound r img S
     from-bytes long lS x b =
-        record {
-          xor = zeroes (r .block) (xorAll (r .block) (seenStripe r img S (disksOf r))) (length-summed (disksOf r)) (λ j l. byte-of-sum j l ∙ x j l);
-          blanks = λ d ld o. zeroes (r .block) (seen r img S d) (length-seen r img S d long lS ld) (λ j l. byte-of-place d j l ∙ b d j ld l o);
-        }
+        from-seen S long lS (λ j l. same-bytes (disksOf r) j l ∙ x j l) (λ d j ld l o. byte-of-place d j l ∙ b d j ld l o)
 
   -- ---- the list: one stripe more
 

@@ -13,7 +13,7 @@ use Rattle.state.specs.Update.{formatted, grownBy, withMoves, withHealth}
 use Rattle.calls.specs.Call.{Call, format, read, view, write, grow, advance, out, begin, continue}
 use Rattle.calls.specs.Call.{on, Answer, refused, bytes, made, done}
 use Rattle.calls.specs.Images.{block, header}
-use Rattle.calls.specs.Effect.{writeStores, moveStores, continueStores, Left, called}
+use Rattle.calls.specs.Effect.{writeStores, moveStores, continueStores, stores, effect, Left, called}
 
 -- before growth, and with this health after t moves
 abbrev pub fresh : Record
@@ -224,6 +224,17 @@ pub record Drawers : Type 0 where
       ≡ block 5 2 (7 ∷ []) ∷ block 6 2 (13 ∷ []) ∷ header (cabinet (Rebuilding 2 7) 4) ∷ []
   pub last-stores : continueStores 2 (cabinet (Rebuilding 2 10) 4) standing
       ≡ block 10 2 (21 ∷ []) ∷ block 11 2 (15 ∷ []) ∷ header (cabinet Whole 4) ∷ []
+  -- of 2 stripes and 3 disks: the zeroes, disk by disk, then the record; of a growth by 2 those of the new disks
+  pub format-stores : effect (format 3 1 2) fresh (on (format 3 1 2) [] [])
+      ≡ stores done (formatted 3 1 2)
+      (block 0 0 (0 ∷ []) ∷ block 1 0 (0 ∷ []) ∷ block 0 1 (0 ∷ []) ∷ block 1 1 (0 ∷ []) ∷ block 0 2 (0 ∷ []) ∷ block 1 2 (0 ∷ [])
+      ∷ header (formatted 3 1 2) ∷ [])
+  pub grow-stores : effect (grow 2) (formatted 3 1 2) (on (grow 2) [] [])
+      ≡ stores done (formatted 3 1 2)
+      (block 0 3 (0 ∷ []) ∷ block 1 3 (0 ∷ []) ∷ block 0 4 (0 ∷ []) ∷ block 1 4 (0 ∷ []) ∷ header (grownBy (formatted 3 1 2) 2) ∷ [])
+  -- what the images hold is no matter for a refusal: 3 disks of one byte, the first of them 255
+  pub any-first-byte : run (255 ∷ 7 ∷ 248 ∷ []) (formatted 3 1 1) (read 0)
+      ≡ left (formatted 3 1 1) (255 ∷ 7 ∷ 248 ∷ []) (248 ∷ []) (bytes (248 ∷ []))
   -- ---- on stripes that are not sound
   -- a write goes by the old values: on disk 2 of stripe 3 stands 77, on disk 3 the parity 15, and 15 xor 77 xor 200 is 138 (the
   -- other places of the stripe, 0 and 8, would make 192) ..
@@ -251,6 +262,9 @@ pub record Drawers : Type 0 where
       ≡ left (cabinet Whole 4)
       (disk0 ++ disk1 ++ (76 ∷ 78 ∷ 75 ∷ 69 ∷ 68 ∷ 74 ∷ 64 ∷ 93 ∷ 78 ∷ 94 ∷ 88 ∷ 66 ∷ []) ++ garbage)
       (9 ∷ []) (made 12)
+  -- .. of the disk itself too: disk 3 is blank in its last four stripes, and disk 2 has 77 there
+  pub blank-unsound : continueStores 4 (cabinet (Rebuilding 3 8) 4) degraded
+      ≡ block 8 3 (78 ∷ []) ∷ block 9 3 (94 ∷ []) ∷ block 10 3 (88 ∷ []) ∷ block 11 3 (66 ∷ []) ∷ header (cabinet Whole 4) ∷ []
   -- ---- blocks of two bytes: place (S, d) begins at byte (d × 12 + S) × 2
   -- moves 4 and 5: block 12, stripe 6, disk 2 to 3; block 11, stripe 5, disk 0 to 3
   pub wide-moves : runWide wideStanding (wide Whole 4) (advance 2)

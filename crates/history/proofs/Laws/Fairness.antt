@@ -1,6 +1,6 @@
 -- That a history is fair, by a test that can be computed: `fair`. Assumes nothing.
 use Prim.Native.Nat.{ℕ, zero, suc, _<_}
-use mathlib.Core.Path.{_≡_, refl, ap, ap₂, _∙_}
+use mathlib.Core.Path.{_≡_, refl, ap, ap₂, _∙_, subst}
 use mathlib.Core.Bool.{Bool, true, false, not, _&&_, _||_}
 use mathlib.Core.List.{List, [], _∷_}
 use native.Mathlib.Decide.{ℕ-discrete}
@@ -15,8 +15,9 @@ use Rattle.calls.specs.Health.{absent}
 use Rattle.calls.specs.Images.{disksOf, placeIn}
 use Rattle.calls.specs.Table.{Takes, nothing, anything, those}
 use Rattle.history.specs.Flat.{Flat, flatStep}
-use Rattle.history.specs.Lent.{Form, Cabinet, takes, Keeps, Lent, Lends, next}
+use Rattle.history.specs.Lent.{Form, Cabinet, takes, Keeps, Lends, next}
 use Rattle.history.specs.Theorem.{Fair}
+use Rattle.history.proofs.Laws.Lending.{by-asked}
 
 -- ---- tests
 
@@ -66,16 +67,17 @@ is-kept r left lent q S d lS ld u =
     let y = each-below (disksOf r) (λ e. absent (r .health) S e || same (placeIn r lent S e) (placeIn r left S e)) z d ld in
     is-same (placeIn r lent S d) (placeIn r left S d) (second (absent (r .health) S d) (same (placeIn r lent S d) (placeIn r left S d)) y u)
 
-may-lend : (t : Takes) (r : Record) (left lent : List ℕ) → lends t r left lent ≡ true → Lent t r left lent
+may-lend : (e : Event) (r : Record) (left : List ℕ) → lends (takes (e .call) r) r left (e .images) ≡ true → Lends e r left
 unfolding lends
-may-lend nothing r left lent q = tt
-may-lend (anything len) r left lent q = tt
-may-lend (those len) r left lent q =
-    λ z. is-kept r left lent (second (not (eqb (length lent) len)) (keeps r left lent) q (ap not (eq-eqb (length lent) len z)))
+may-lend e r left p =
+    by-asked e r left
+    (λ len q z.
+    let p′ : lends (those len) r left (e .images) ≡ true = subst (λ (t : Takes). lends t r left (e .images) ≡ true) q p in
+    is-kept r left (e .images) (second (not (eqb (length (e .images)) len)) (keeps r left (e .images)) p′ (ap not (eq-eqb (length (e .images)) len z))))
 
 pub fair : {R : Type 0} (x : Form R) (es : List Event) (a : Cabinet R) (f : Flat) → fairly x es a f ≡ true → Fair x es a f
-unfolding fairly Fair Lends
+unfolding fairly Fair
 fair x [] a f q = tt
 fair x (e ∷ es) a f q =
     let z = both (lends (takes (e .call) (f .numbers)) (f .numbers) (a .img) (e .images)) (fairly x es (next x e a) (flatStep (fed e) f .1)) q in
-    (may-lend (takes (e .call) (f .numbers)) (f .numbers) (a .img) (e .images) (z .0), fair x es (next x e a) (flatStep (fed e) f .1) (z .1))
+    (may-lend e (f .numbers) (a .img) (z .0), fair x es (next x e a) (flatStep (fed e) f .1) (z .1))

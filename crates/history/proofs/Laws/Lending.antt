@@ -40,24 +40,21 @@ module _ (r : Record) (left behind : List ℕ) (long : length left ≡ size r) w
       ∙ sym (getD-place (r .block) (r .stripes) left S d j lj))
 
 module _ (e : Event) (r : Record) (left : List ℕ) where
-  -- images that keep what stands may be lent to any call, and so may any to one that asks for none or is lent another length
-  by-keeping : Keeps r left (e .images) → Lends e r left
+  -- it is enough that images of the length asked for keep what stands
+  pub by-asked : ((len : ℕ) → takes (e .call) r ≡ those len → length (e .images) ≡ len → Keeps r left (e .images)) → Lends e r left
   unfolding Lends
-  by-keeping k = go (takes (e .call) r)
-    where
-      go : (t : Takes) → Lent t r left (e .images)
-      go nothing = tt
-      go (anything len) = tt
-      go (those len) = λ z. k
-
-  by-length : ((len : ℕ) → takes (e .call) r ≡ those len → length (e .images) ≢ len) → Lends e r left
-  unfolding Lends
-  by-length ne = go (takes (e .call) r) refl
+  by-asked k = go (takes (e .call) r) refl
     where
       go : (t : Takes) → takes (e .call) r ≡ t → Lent t r left (e .images)
       go nothing q = tt
       go (anything len) q = tt
-      go (those len) q = λ z. absurd (ne len q z)
+      go (those len) q = k len q
+
+  by-keeping : Keeps r left (e .images) → Lends e r left
+  by-keeping k = by-asked (λ len q z. k)
+
+  by-length : ((len : ℕ) → takes (e .call) r ≡ those len → length (e .images) ≢ len) → Lends e r left
+  by-length ne = by-asked (λ len q z. absurd (ne len q z))
 
   same-length : {m n : ℕ} → those m ≡ those n → m ≡ n
   same-length q = ap asked-length q
@@ -72,8 +69,8 @@ module _ (e : Event) (r : Record) (left : List ℕ) where
   others o h S d u = eqb-false d o (ap (λ (x : Health). absent x S d) (sym h) ∙ u)
 
   -- a place of a disk that is being rebuilt and counts as in is of a stripe that is done
-  done-there : (o c : ℕ) → r .health ≡ Rebuilding o c → (S d : ℕ) → absent (r .health) S d ≡ false → d ≡ o → S < c
-  done-there o c h S d u q = go (le-or-lt c S)
+  done-there : (o c : ℕ) → r .health ≡ Rebuilding o c → {S d : ℕ} → absent (r .health) S d ≡ false → d ≡ o → S < c
+  done-there o c h {S} {d} u q = go (le-or-lt c S)
     where
       go : (c ≤ S) ⊎ (S < c) → S < c
       go (inr l) = l
@@ -89,8 +86,8 @@ module _ (e : Event) (r : Record) (left : List ℕ) where
         any-format = λ n B T q. subst (λ (c : Call). Lent (takes c r) r left (e .images)) (sym q) tt;
         any-length = λ len q ne. by-length (λ n p z. ne (z ∙ same-length (sym p ∙ q)));
         turned-away = λ c z. by-length (λ n q. turned-away r c (length (e .images)) (length (e .room)) n (e .call) q z);
-        any-out = λ o h k. by-keeping (λ S d lS ld u. k S d lS ld (others o h S d u));
-        any-not-rebuilt = λ o c h k. by-keeping (λ S d lS ld u. k S d lS ld (done-there o c h S d u));
+        any-out = λ o h k. by-keeping (λ S d lS ld u. k S d lS ld (others o h _ d u));
+        any-not-rebuilt = λ o c h k. by-keeping (λ S d lS ld u. k S d lS ld (done-there o c h u));
         any-lost = λ h. by-keeping (λ S d lS ld u. absurd (let w : _≡_ {A = ℕ} 0 1 = cc (ap (λ (x : Health). absent x S d) h) in omega arith));
         no-images = λ q. subst (λ (t : Takes). Lent t r left (e .images)) (sym q) tt;
       }
