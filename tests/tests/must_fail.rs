@@ -156,10 +156,10 @@ const BY_LAW: &[(&str, &str, &[&str])] = &[
         "`of-grow`",
         &["calls/limit_before_grown"],
     ),
-    // the part of the images that is returned begins where the definition has it
+    // where a view begins is said in bare numbers
     (
-        "/proofs/viewing/part_of/Proof.antt:",
-        "`returns",
+        "/proofs/Theorem.antt:",
+        "`view-begins`",
         &["access/view_elsewhere"],
     ),
     // a record's bytes are read back
