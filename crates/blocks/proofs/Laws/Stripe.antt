@@ -99,15 +99,6 @@ pub length-stripe : (B T : ℕ) (l : List ℕ) (S N : ℕ) → length (stripe B 
 length-stripe B T l S zero = refl
 length-stripe B T l S (suc N) = length-append (stripe B T l S N) (place B T l S N ∷ []) ∙ ap (λ (k : ℕ). k + 1) (length-stripe B T l S N) ∙ omega arith
 
--- of all places, byte by byte
-pub xor-stripe : (B T : ℕ) (l : List ℕ) (S N j : ℕ) → j < B → getD (xorAll B (stripe B T l S N)) j 0 ≡ sum N (cell B T l j S)
-unfolding sum
-xor-stripe B T l S zero j hj = getD-zeros B j
-xor-stripe B T l S (suc N) j hj =
-    ap (λ (b : List ℕ). getD b j 0) (xorAll-snoc B (stripe B T l S N) (place B T l S N))
-    ∙ getD-xorB (xorAll B (stripe B T l S N)) (place B T l S N) j
-    ∙ ap₂ _⊕_ (xor-stripe B T l S N j hj) (getD-place B T l S N j hj)
-
 -- one disk more: its place is xored in, or it is the one left out
 pub others-in : (B T : ℕ) (l : List ℕ) (S N d : ℕ) → N ≢ d → others B T l S (suc N) d ≡ xorB (others B T l S N d) (place B T l S N)
 others-in B T l S N d ne =

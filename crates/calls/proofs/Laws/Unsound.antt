@@ -8,7 +8,7 @@ use native.Mathlib.Decide.{ℕ-discrete}
 use native.Mathlib.Omega.{arith}
 use lib.Dec.{eqb}
 use lib.Bits.{bitXor}
-use lib.ListN.{length, getD, length-append, length-replicate, List·getD-append}
+use lib.ListN.{length, getD, length-append, List·getD-append}
 use lib.Seq.{getD-append-seam}
 use Rattle.layout.specs.declared.Role.the-variants.{Data, Parity, Blank}
 use Rattle.layout.specs.declared.Role.{Role}
@@ -18,7 +18,7 @@ use Rattle.blocks.specs.Block.{zeros, isZeros}
 use Rattle.blocks.specs.Xor.{xorAll}
 use Rattle.blocks.specs.Stripe.{stripe, others}
 use Rattle.blocks.proofs.Laws.Rows.{sum, rest, put}
-use Rattle.blocks.proofs.Laws.Xor.{xorAll-snoc, getD-xorB, length-xorB, getD-zeros}
+use Rattle.blocks.proofs.Laws.Xor.{getD-zeros}
 use Rattle.blocks.proofs.Laws.Stripe.{getD-place, getD-others, length-others, others-all}
 use Rattle.blocks.proofs.Laws.Zero.{is-zeros, zeros-are}
 use Rattle.conditions.proofs.Tests.{both, second}
@@ -33,7 +33,7 @@ use Rattle.calls.specs.Sound.{seenStripe, Sound, blanksZero, isSound, un
 use Rattle.calls.specs.Effect.{sweptTo}
 use Rattle.calls.specs.Sweep.{Listed, byteAt, xorOf}
 use Rattle.calls.proofs.Laws.Holding.{length-seen}
-use Rattle.calls.proofs.Laws.Sound.{zeroes}
+use Rattle.calls.proofs.Laws.Sound.{zeroes, length-all, getD-all}
 
 abbrev Rises : List ℕ → Type 0
 Rises l = (i j : ℕ) → i < j → j < length l → getD l i 0 < getD l j 0
@@ -137,26 +137,13 @@ module _ (r : Record) (img : List ℕ) where
     abbrev seenByte : ℕ → ℕ → ℕ
     seenByte j d = getD (seen r img S d) j 0
 
-    byte-of-seen : (k j : ℕ) → getD (xorAll (r .block) (seenStripe r img S k)) j 0 ≡ xorOf k (seenByte j)
-    unfolding seenStripe xorOf
-    byte-of-seen zero j = getD-zeros (r .block) j
-    byte-of-seen (suc k) j =
-        ap (λ (v : List ℕ). getD v j 0) (xorAll-snoc (r .block) (seenStripe r img S k) (seen r img S k))
-        ∙ getD-xorB (xorAll (r .block) (seenStripe r img S k)) (seen r img S k) j
-        ∙ ap (λ (x : ℕ). bitXor x (seenByte j k)) (byte-of-seen k j)
-
-    length-of-seen : length img ≡ size r → S < r .stripes → (k : ℕ) → k ≤ disksOf r → length (xorAll (r .block) (seenStripe r img S k)) ≡ r .block
-    unfolding seenStripe
-    length-of-seen long lS zero l = length-replicate {A = ℕ} (r .block) 0
-    length-of-seen long lS (suc k) l =
-        ap length (xorAll-snoc (r .block) (seenStripe r img S k) (seen r img S k))
-        ∙ length-xorB (xorAll (r .block) (seenStripe r img S k)) (seen r img S k) (r .block) (length-of-seen long lS k (omega arith))
-        (length-seen r img S k long lS (omega arith))
+    byte-of-seen : (j : ℕ) → getD (xorAll (r .block) (seenStripe r img S (disksOf r))) j 0 ≡ xorOf (disksOf r) (seenByte j)
+    byte-of-seen j = getD-all r img S j (disksOf r) ∙ same-sum (disksOf r) (seenByte j)
 
     pub to-seen : Sound r img S → ((j : ℕ) → j < r .block → xorOf (disksOf r) (seenByte j) ≡ 0)
         × ((d j : ℕ) → d < disksOf r → j < r .block → owner S d ≡ Blank → seenByte j d ≡ 0)
     to-seen s = (
-      (λ j l. sym (byte-of-seen (disksOf r) j) ∙ ap (λ (v : List ℕ). getD v j 0) (s .xor) ∙ getD-zeros (r .block) j),
+      (λ j l. sym (byte-of-seen j) ∙ ap (λ (v : List ℕ). getD v j 0) (s .xor) ∙ getD-zeros (r .block) j),
       (λ d j ld l o. ap (λ (v : List ℕ). getD v j 0) (s .blanks d ld o) ∙ getD-zeros (r .block) j),
     )
 
@@ -164,7 +151,7 @@ module _ (r : Record) (img : List ℕ) where
         → ((d j : ℕ) → d < disksOf r → j < r .block → owner S d ≡ Blank → seenByte j d ≡ 0) → Sound r img S
     from-seen long lS x b =
         record {
-          xor = zeroes (r .block) (xorAll (r .block) (seenStripe r img S (disksOf r))) (length-of-seen long lS (disksOf r) (omega arith)) (λ j l. byte-of-seen (disksOf r) j ∙ x j l);
+          xor = zeroes (r .block) (xorAll (r .block) (seenStripe r img S (disksOf r))) (length-all r img S long lS (disksOf r) (omega arith)) (λ j l. byte-of-seen j ∙ x j l);
           blanks = λ d ld o. zeroes (r .block) (seen r img S d) (length-seen r img S d long lS ld) (λ j l. b d j ld l o);
         }
 
