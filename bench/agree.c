@@ -127,19 +127,35 @@ static uint32_t group_len(struct shape h) { return h.n * (h.n + h.m); }
 static uint32_t total_of(struct shape h) { return h.stripes / group_len(h) * h.n * h.n * h.m; }
 
 static uint32_t one_before(uint32_t moves) { return moves > 0 ? moves - 1 : 0; }
-static uint32_t one_behind(struct shape h, uint32_t moves) { return moves < total_of(h) ? moves + 1 : moves; }
+static uint32_t one_after(struct shape h, uint32_t moves) { return moves < total_of(h) ? moves + 1 : moves; }
 
 static uint64_t any_block(struct random *r, struct shape h, const uint8_t *record)
 {
     return random_below(r, (uint64_t)h.stripes * (h.n + record[PBM_AT_M] - 1) + 1);
 }
 
+/* By a record that may not be good: 0 then, and a blank with block 0. */
+static uint64_t blocks_by(const uint8_t *record)
+{
+    uint64_t capacity, moves, total, health, out, rebuilt;
+    uint8_t number = pbm_status(record, PBM_RECORD_LEN, &capacity, &moves, &total, &health, &out, &rebuilt);
+    return number == PBM_DONE ? capacity : 0;
+}
+
+struct owned {
+    uint64_t role, block;
+};
+
+static struct owned owned_by(const uint8_t *record, uint64_t stripe, uint64_t disk)
+{
+    struct owned x, blank = {PBM_BLANK, 0};
+    return pbm_owner(record, PBM_RECORD_LEN, stripe, disk, &x.role, &x.block) == PBM_DONE ? x : blank;
+}
+
 /* The last one, the first that is not there, and the next. */
 static uint64_t block_at_the_end(struct random *r, const uint8_t *record)
 {
-    uint64_t capacity, moves, total, health, out, rebuilt;
-    pbm_status(record, PBM_RECORD_LEN, &capacity, &moves, &total, &health, &out, &rebuilt);
-    return capacity + random_below(r, 3) - 1;
+    return blocks_by(record) + random_below(r, 3) - 1;
 }
 
 static uint32_t rebuilt_by(const uint8_t *record)
@@ -159,9 +175,9 @@ static uint64_t likely_stripe(struct random *r, struct shape h, const uint8_t *r
 /* What stands on the disk that is out or rebuilt; where that is the parity, or no block yet, another of the stripe. */
 static uint64_t block_on_disk_out(struct random *r, struct shape h, const uint8_t *record)
 {
-    uint64_t stripe = likely_stripe(r, h, record), role, block;
-    pbm_owner(record, PBM_RECORD_LEN, stripe, record[PBM_AT_OUT], &role, &block);
-    return role == PBM_DATA ? block : stripe * (h.n - 1) + random_below(r, h.n - 1);
+    uint64_t stripe = likely_stripe(r, h, record);
+    struct owned x = owned_by(record, stripe, record[PBM_AT_OUT]);
+    return x.role == PBM_DATA ? x.block : stripe * (h.n - 1) + random_below(r, h.n - 1);
 }
 
 static uint64_t likely_block(struct random *r, struct shape h, const uint8_t *record)
@@ -267,7 +283,7 @@ static bool agree_on(struct shape h, struct world *a, struct world *b, runner *p
     return false;
 }
 
-/* A history from one record. One call in three is odd; a record spoilt for it is mended behind it. */
+/* A history from one record. One call in three is odd; a record spoilt for it is mended after it. */
 static bool history(struct random *r, struct shape h, struct world *a, struct world *b, runner *peer, uint32_t moves,
                     uint8_t health)
 {
@@ -281,7 +297,7 @@ static bool history(struct random *r, struct shape h, struct world *a, struct wo
         lend_both(r, a, b);
         struct call c = i % 3 == 0 ? odd_call(r, h, a->record) : likely_call(r, h, a->record);
         if (c.images_len > all)
-            c.images_len = all + 1; /* refused by its length: nothing behind the images is touched */
+            c.images_len = all + 1; /* refused by its length: nothing after the images is touched */
         bool spoilt = memcmp(a->record, kept, sizeof kept) != 0;
         if (!agree_on(h, a, b, peer, moves, &c))
             return false;
@@ -300,8 +316,7 @@ static void fill_sound(struct random *r, struct shape h, const uint8_t *record, 
         uint8_t sum[4096] = {0}, *parity = NULL;
         for (uint64_t d = 0; d < h.n + record[PBM_AT_M]; d++) {
             uint8_t *place = images + d * disk_len(h) + s * h.block_len;
-            uint64_t role, block;
-            pbm_owner(record, PBM_RECORD_LEN, s, d, &role, &block);
+            uint64_t role = owned_by(record, s, d).role;
             memset(place, 0, h.block_len);
             if (role == PBM_PARITY)
                 parity = place;
@@ -337,9 +352,7 @@ static void flip(struct world *w, struct shape h, struct flaw f)
 
 static bool is_blank(struct shape h, const uint8_t *record, struct flaw f, uint32_t i)
 {
-    uint64_t role, block;
-    pbm_owner(record, PBM_RECORD_LEN, f.at / h.block_len, f.disks[i], &role, &block);
-    return role == PBM_BLANK;
+    return owned_by(record, f.at / h.block_len, f.disks[i]).role == PBM_BLANK;
 }
 
 /* One bit spoils a stripe's sum. Two do not: there the stripe is unsound by a blank that is not zero, if by anything. */
@@ -389,7 +402,7 @@ static bool histories(struct random *r, struct shape h, runner *peer)
     size_t all = size(h, h.n + h.m) + 1;
     struct world a = {.images = aligned_alloc(4096, (all + 4095) / 4096 * 4096), .block = aligned_alloc(4096, 4096)};
     struct world b = {.images = aligned_alloc(4096, (all + 4095) / 4096 * 4096), .block = aligned_alloc(4096, 4096)};
-    const uint32_t moves[] = {BEFORE_GROWTH, 0, 1, h.n * h.m / 2, total / 2, one_before(end), end, one_behind(h, end),
+    const uint32_t moves[] = {BEFORE_GROWTH, 0, 1, h.n * h.m / 2, total / 2, one_before(end), end, one_after(h, end),
                               one_before(total), total, total + 1}; /* the last is too many */
     bool agreed = a.images && b.images && a.block && b.block;
     for (size_t i = 0; agreed && i < sizeof moves / sizeof moves[0]; i++)
@@ -437,7 +450,7 @@ static bool same_layout(struct random *r, struct shape h)
 {
     uint32_t total = total_of(h), end = zone_end(r, h);
     const uint32_t moves[] = {BEFORE_GROWTH, 0, (uint32_t)random_below(r, one_before(total) + 1), one_before(end), end,
-                              one_behind(h, end), one_before(total), total};
+                              one_after(h, end), one_before(total), total};
     for (size_t i = 0; i < sizeof moves / sizeof moves[0]; i++) {
         uint8_t record[ROOM];
         start_record(r, h, record, moves[i], 0);
@@ -482,7 +495,7 @@ static const struct shape shapes[] = {
 
 enum { MOST_POINTS = 4096 + 2 }; /* bytes: a block, and a little more */
 
-/* From the same bytes into the same, of which those behind the length stay as they are. */
+/* From the same bytes into the same, of which those after the length stay as they are. */
 static bool same_points(struct random *r, points_call *ours, points_call *peer, size_t from_len, size_t into_len)
 {
     uint8_t from[MOST_POINTS], a[MOST_POINTS], b[MOST_POINTS];

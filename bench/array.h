@@ -121,7 +121,7 @@ static inline uint32_t open_stripes(const struct array *a)
     return a->grown ? a->stripes : a->moves / (a->n * a->m) * a->disks;
 }
 
-/* The stripes of zones of which a move is made: behind these, and behind the open ones, the blanks are the new disks. */
+/* The stripes of zones of which a move is made: after these, and after the open ones, the blanks are the new disks. */
 static inline uint32_t begun_stripes(const struct array *a)
 {
     uint32_t zone_moves = a->n * a->m;
@@ -156,7 +156,7 @@ static inline bool is_open(const struct array *a, struct stripe x)
     return (x.zone + 1) * (a->n * a->m) <= (a->moves | only_if(a->grown, UINT32_MAX));
 }
 
-/* The disk with lag i behind the parity, and back: (P - i) mod n is its own inverse. */
+/* The disk that has lag i from the parity, and back: (P - i) mod n is its own inverse. */
 static inline uint32_t behind(const struct array *a, struct stripe x, uint32_t i)
 {
     return x.parity - i + only_if(x.parity < i, a->n);
@@ -210,7 +210,7 @@ static inline struct runs blank_runs(const struct array *a, struct stripe x)
 {
     uint32_t n = a->n, s = only_if(x.number < a->moving, x.within), next = x.parity + 1;
     uint32_t lo = n - min(s, n), hi = a->disks - max(s, a->m), old = hi - lo;
-    uint32_t split = min(max(next, lo), hi); /* lags below are on disks up to the parity's, the others behind it */
+    uint32_t split = min(max(next, lo), hi); /* lags below are on disks up to the parity's, the others after it */
     return (struct runs){split - lo, old, min(s, a->m), next, max(s, n), next - split, {n - old, split - next, old}};
 }
 

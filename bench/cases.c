@@ -1,4 +1,4 @@
-/* The cases: who plays, on which record, from which list, and what must hold behind it. */
+/* The cases: who plays, on which record, from which list, and what must hold after it. */
 #include "cases.h"
 
 #include <stdlib.h>

@@ -8,13 +8,13 @@
 void cases_run(struct stage *s, struct settings set, struct report *report);
 
 /*
- * Plays the cases that a tail can matter to, on an array of whole groups and on the same with a tail behind them, in turn: two
+ * Plays the cases that a tail can matter to, on an array of whole groups and on the same with a tail after them, in turn: two
  * rows each. Those that reach blocks; those that read the record alone, to which the length of a block is all the same.
  */
 void cases_beside(struct stage *whole, struct stage *tailed, struct settings set, struct report *report);
 void cases_asking_beside(struct stage *whole, struct stage *tailed, struct settings set, struct report *report);
 
-/* The points of the blocks: no record is lent, and the images are no more than many blocks one behind the other. */
+/* The points of the blocks: no record is lent, and the images are no more than many blocks one after the other. */
 void cases_points(struct stage *s, struct settings set, struct report *report);
 
 /* The sweeps of an array with no whole group, which is grown at once and never in the middle of a growth. */

@@ -18,6 +18,12 @@ uint8_t isal_continue(uint8_t *record, size_t record_len, uint8_t *images, size_
 uint8_t isal_sweep(const uint8_t *record, size_t record_len, const uint8_t *images, size_t images_len, uint64_t *found,
                    uint64_t *stripe, uint64_t *read);
 
+/*
+ * Clears what ISA-L leaves in the processor: xor_gen does not clear the upper halves of the vector registers that it used, after
+ * which loops with vectors of 16 bytes, as the library and C have them, are slow on some processors, until this.
+ */
+void isal_clear(void);
+
 /* Do the places of every stripe xor to zero? */
 bool isal_check(const uint8_t *images, size_t disks, size_t stripes, size_t block_len);
 

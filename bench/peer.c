@@ -309,7 +309,7 @@ static void pack(const uint8_t *restrict points, uint8_t *restrict low, uint8_t 
     }
 }
 
-/* Turns differences into points, in place, behind this point; returns the last. */
+/* Turns differences into points, in place, after this point; returns the last. */
 static inline uint16_t add_up(uint8_t *points, size_t first, size_t end, uint16_t point)
 {
     for (size_t i = first; i < end; i++) {

@@ -15,7 +15,7 @@ struct cursor {
 
 static struct cursor first_block(size_t disks) { return (struct cursor){disks, 0, 0, disks - 1}; }
 
-/* Down the disks, past the parity; behind the last block comes the next stripe. */
+/* Down the disks, past the parity; after the last block comes the next stripe. */
 static void next_block(struct cursor *c)
 {
     size_t last = c->parity == 0 ? 1 : 0;

@@ -14,7 +14,7 @@ struct plan {
     size_t images_len; /* wished for: the array has as many whole groups as fit it, or one */
     bool in_cache;
     uint32_t groups; /* so many, whatever was wished for; 0: by the wish; NO_GROUP: none, and nothing moves */
-    uint32_t tail;   /* stripes behind the whole groups */
+    uint32_t tail;   /* stripes after the whole groups */
 };
 
 /* Numbers in random order: blocks, or places as 32 * S + d. */

@@ -156,7 +156,7 @@ static inline bool cancel(const uint8_t *const *sources, unsigned count, size_t 
     return some(block, sources + i, count - i, true, TEST, len);
 }
 
-/* The same of sources of a few whole lanes, each so far behind the one before: to list them would take as long as the sum. */
+/* The same of sources of a few whole lanes, each so far after the one before: to list them would take as long as the sum. */
 static inline bool cancel_lanes(const uint8_t *first, size_t step, unsigned count, size_t len)
 {
     lane any = {0};
@@ -186,7 +186,7 @@ static inline bool cancel_places(const struct array *a, const uint8_t *images, u
     return cancel(sources, count, a->block_len);
 }
 
-/* Are blocks zero, each so far behind the one before? They are read side by side. */
+/* Are blocks zero, each so far after the one before? They are read side by side. */
 static inline bool are_zero(const uint8_t *first, size_t step, unsigned count, size_t len)
 {
     lane a = {0}, b = a, c = a, d = a;

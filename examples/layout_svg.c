@@ -5,13 +5,15 @@
  *
  * T is the number of stripes, 1 to 1048576: without it one group, n * (n + m). Drawn are the stripes from `first` to `last`,
  * both of them included; without `last`, from `first` (without it, from 0) as many as a group has, or as there are. Each zone
- * has a frame, and so has the tail, the stripes behind the last whole group. With m = 0 it is an array before its growth. What
- * stands on a place is asked of pbm_owner, by a record that is written here as pbm.h describes it. A bad argument is named in
- * one line on standard error, and the exit status is 1.
+ * has a frame, and so has the tail, the stripes after the last whole group. With m = 0 it is an array before its growth. What
+ * stands on a place is asked of pbm_owner, by a record that is written here as pbm.h describes it. So a picture shows what the
+ * library answers. Only the total in its title, and where the tail begins, are computed here. Arguments are tested here too, so
+ * that the bad one can be named: in one line on standard error, and the exit status is 1.
  *
  * With --block, which comes last, the drawers of block b and of its parity are lit, as pbm_locate tells them: the one place has a
  * red frame, the other a blue one, and two more rows of the legend name their disks. Without `first` the picture begins with the
- * block's group then, or with the tail if the block stands there; with it, the block must be in one of the stripes drawn.
+ * block's group then, or with the tail if the block stands there; with it, the block must be in one of the stripes drawn, as else
+ * nothing would be lit.
  */
 #include "pbm.h"
 
@@ -21,8 +23,8 @@
 #include <stdlib.h>
 #include <string.h>
 
-/* The limits of pbm.h; and the stripes of one picture, which is large enough then: the largest group has 512. */
-enum { OLD_MIN = 3, DISKS_MAX = 16, STRIPES_MAX = 1048576, DRAWN_MAX = 1024 };
+/* The stripes of one picture, which is large enough then: the largest group has 512, and the largest array would be gigabytes. */
+enum { DRAWN_MAX = 1024 };
 
 /* n old and m new disks, T stripes, t moves done; the stripes drawn; the record of that, and that before the growth */
 static unsigned n, m, T, t, first, last;
@@ -92,6 +94,7 @@ static struct place place_at(unsigned stripe, unsigned disk)
 }
 
 static int is_new(struct place p) { return p.role == PBM_DATA && p.home == n; }
+/* It stood on another disk of its stripe before the growth. */
 static int is_moved(struct place p) { return p.home < n && p.home != p.disk; }
 
 /* ---- the arguments */
@@ -117,9 +120,9 @@ static unsigned argument(const char *name, const char *text, unsigned from, unsi
 
 static void take_growth(int argc, char **argv)
 {
-    n = argument("n", argv[1], OLD_MIN, DISKS_MAX, "");
-    m = argument("m", argv[2], 0, DISKS_MAX, "");
-    T = argc > 4 ? argument("T", argv[4], 1, STRIPES_MAX, "") : group();
+    n = argument("n", argv[1], PBM_N_MIN, PBM_N_MAX, "");
+    m = argument("m", argv[2], 0, PBM_M_MAX, "");
+    T = argc > 4 ? argument("T", argv[4], PBM_STRIPES_MIN, PBM_STRIPES_MAX, "") : group();
     t = argument("t", argv[3], 0, total(), ", n * n * m for each whole group of n * (n + m) stripes");
     set_record(now, m, t);
     set_record(before, 0, 0);
@@ -166,13 +169,13 @@ enum { LEFT = 84, TOP = 118, HIGH = 26, GAP = 6, BETWEEN = 18, LEGEND = 230, LEG
 
 static unsigned digits(unsigned number) { return (unsigned)snprintf(NULL, 0, "%u", number); }
 
-/* A place has room for the longest number and the note behind it. */
+/* A place has room for the longest number and the note after it. */
 static unsigned wide(void) { return 54 + 9 * digits(T * (n + m - 1)); }
 
 /* The room left of the places, for the numbers of zones and stripes. */
 static unsigned left(void) { return LEFT + (digits(last) > 3 ? LETTER * (digits(last) - 3) : 0); }
 
-/* In one frame are the stripes of a zone, or those of the tail, which begins behind the last whole group; without a growth, all. */
+/* In one frame are the stripes of a zone, or those of the tail, which begins after the last whole group; without a growth, all. */
 static unsigned zone(void) { return m > 0 ? n + m : T; }
 static unsigned tail(void) { return m > 0 ? T / group() * group() : T; }
 static unsigned frame_of(unsigned stripe) { return lesser(stripe, tail()) / zone(); }
@@ -190,6 +193,7 @@ static const char *light_at(unsigned stripe, unsigned disk)
     return disk == lit.disk ? "#d1001f" : disk == lit.parity_disk ? "#0063b2" : NULL;
 }
 
+/* A light is a frame inside its place, so that two do not meet. */
 #define NOTE "<text x=\"%u\" y=\"17\" font-size=\"10\" text-anchor=\"end\">"
 #define LIGHT "<rect x=\"3.5\" y=\"3.5\" width=\"%u\" height=\"%d\" rx=\"1\" fill=\"none\" stroke=\"%s\" stroke-width=\"4\"/>"
 
@@ -292,6 +296,10 @@ static void draw_lit(unsigned x)
 
 int main(int argc, char **argv)
 {
+    if (pbm_version() != PBM_VERSION) {
+        fprintf(stderr, "layout_svg: libpbm.a and pbm.h are of two versions\n");
+        return 1;
+    }
     take(argc, argv);
 
     unsigned legend = x_of(n + m) + 6 * GAP, width = legend + wide() + LEGEND, rows = LEGEND_ROWS + (lit.is_asked ? 2 : 0);

@@ -2,12 +2,12 @@
  * line_controller.c - a sawmill line on an array that grows while the line runs.
  *
  * The scanner packs each log's outline, a row of points, and writes it to a numbered block; the saw reads and unpacks it.
- * Meanwhile three disks are added to five; in the middle of that growth a disk is lost, and rebuilt a few stripes at a time
+ * Meanwhile three disks are added to five; in the middle of that growth a disk fails, and is rebuilt a few stripes at a time
  * while the line runs; halfway it fails again, and is rebuilt from its first stripe on. New blocks are used as they come, with
- * each zone that is finished. The disks are of no round size: a tail is left behind the groups that move. Each block that the
+ * each zone that is finished. The disks are of no round size: a tail is left after the groups that move. Each block that the
  * saw reads is compared, point by point, with what the scanner last wrote to it, which this program keeps in a plain array of
- * its own. When a disk is lost, service is told for every block which drawer it is in, and in which its parity is. Before the
- * growth, in the middle of it, behind it and after each rebuild service sweeps the cabinet: all stripes must be sound. Where a
+ * its own. When a disk is out, service is told for every block which drawer it is in, and in which its parity is. Before the
+ * growth, in the middle of it, after it and after each rebuild service sweeps the cabinet: all stripes must be sound. Where a
  * drawer has changed a bit by itself, on a block or on a blank, the sweep must stop at just that stripe.
  *
  *     line_controller [seed]
@@ -41,7 +41,7 @@ enum {
     MOVES = STRIPES / GROUP * OLD * MOVES_ZONE
 };
 
-/* What the library is lent: the record, and the images of all disks one behind the other. */
+/* What the library is lent: the record, and the images of all disks one after the other. */
 static uint8_t record[PBM_RECORD_LEN];
 static uint8_t *images;
 static size_t images_len;
@@ -56,8 +56,8 @@ struct place { uint64_t stripe, disk, parity_disk, moved; };
 static struct place came[BLOCKS_AFTER];
 
 /*
- * Calls for a block: all; those for one on a lost disk, and for a new one in mid-growth; while a disk is rebuilt, those in the
- * stripes that are done, and in the others.
+ * Calls for a block: all; those for one on a disk that is out, and for a new one in mid-growth; while a disk is rebuilt, those
+ * in the stripes that are done, and in the others.
  */
 struct calls { uint64_t all, degraded, early, in_done, in_others; };
 
@@ -402,7 +402,7 @@ static void sweep_is_refused(void)
     must_be("numbers of a refused sweep", found | stripe | read, 0);
 }
 
-/* ---- a disk is lost, and rebuilt while the line runs */
+/* ---- a disk is out, and rebuilt while the line runs */
 
 static void must_tell(uint64_t health, uint64_t disk, uint64_t rebuilt)
 {
@@ -412,7 +412,7 @@ static void must_tell(uint64_t health, uint64_t disk, uint64_t rebuilt)
 }
 
 /*
- * For each block service can light its drawer and that of its parity, also where one of them is lost. The block was moved if it
+ * For each block service can light its drawer and that of its parity, also where one of them is out. The block was moved if it
  * stands on another disk than it came to, whatever its parity did.
  */
 static void drawers_are_told(void)
@@ -428,8 +428,8 @@ static void drawers_are_told(void)
 }
 
 /*
- * What a lost disk holds is of no matter: here, 0xEE in every byte at first. It may be the one that is being rebuilt: what was
- * done of it is gone.
+ * What a disk that is out holds is of no matter: here, 0xEE in every byte at first. It may be the one that is being rebuilt:
+ * what was done of it is gone.
  */
 static void lose(uint64_t disk)
 {
@@ -437,7 +437,7 @@ static void lose(uint64_t disk)
     must("out", pbm_out(record, sizeof record, disk));
     must_tell(PBM_HEALTH_OUT, disk, 0);
     memset(images + disk * DISK, 0xEE, DISK);
-    printf("disk %" PRIu64 " is lost", disk);
+    printf("disk %" PRIu64 " is out", disk);
     if (rebuilt > 0) printf(", and with it the %" PRIu64 " stripes rebuilt", rebuilt);
     printf("\n");
     drawers_are_told();
@@ -487,8 +487,8 @@ static void end_rebuild(uint64_t disk)
 
 static void print_calls(const char *name, struct calls calls)
 {
-    printf("%s %" PRIu64 ", of these %" PRIu64 " of blocks on a lost disk, %" PRIu64 " of new blocks in mid-growth\n", name,
-           calls.all, calls.degraded, calls.early);
+    printf("%s %" PRIu64 ", of these %" PRIu64 " of blocks on a disk that is out, %" PRIu64 " of new blocks in mid-growth\n",
+           name, calls.all, calls.degraded, calls.early);
     printf("    while a disk was rebuilt: %" PRIu64 " in stripes done, %" PRIu64 " in the others\n", calls.in_done,
            calls.in_others);
 }
@@ -510,6 +510,7 @@ int main(int argc, char **argv)
     state = argc == 2 ? strtoull(argv[1], NULL, 10) : 1;
     printf("seed %" PRIu64 "\n", state);
 
+    must_be("the version of libpbm.a", pbm_version(), PBM_VERSION);
     packing_is_known();
     mount(pbm_images_len(OLD, BLOCK, STRIPES));
     must("format", pbm_format(record, sizeof record, images, images_len, OLD, BLOCK, STRIPES));

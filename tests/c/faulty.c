@@ -1,7 +1,7 @@
 /*
  * A library with one fault: it stands between a program and libpbm.a (the linker's --wrap) and hands every call on, but for what
  * the environment's variable FAULT says; without it, or if it is NONE, there is no fault. tests/tests/examples.rs links
- * examples/line_controller.c with it, which must notice.
+ * examples/line_controller.c with it, which must notice; and the other examples, for the version.
  */
 #include "pbm.h"
 
@@ -34,13 +34,14 @@
     X(NOT_TOLD)     /* locate tells of no block that it was moved */ \
     X(BY_PARITY)    /* locate tells that a block was moved if its parity alone was */ \
     X(NEVER_FOUND)  /* sweep holds every stripe as sound */ \
-    X(NEXT_STRIPE)  /* sweep tells the stripe behind the unsound one, and counts it as read */ \
+    X(NEXT_STRIPE)  /* sweep tells the stripe after the unsound one, and counts it as read */ \
     X(NO_BLANKS)    /* sweep looks at no blank: it takes each for zero */ \
     X(SUM_ALONE)    /* sweep asks only if a stripe xors to zero, as if the growth were over */ \
     X(NO_CARRY)     /* points unpack sums the low bytes and the high bytes each by themselves */ \
     X(RUN_ON)       /* points unpack takes the first point from the last one of the call before, not from 0 */ \
     X(TURNED)       /* points pack takes each point from the one before it, and points unpack undoes that */ \
-    X(HALF_POINT)   /* points pack does not refuse an odd length */
+    X(HALF_POINT)   /* points pack does not refuse an odd length */ \
+    X(VERSION)      /* the archive is of the next version */
 
 #define MEMBER(name) name,
 #define STRING(name) #name,
@@ -63,6 +64,7 @@ __attribute__((constructor)) static void choose_fault(void)
     exit(1);
 }
 
+uint64_t __real_pbm_version(void);
 uint8_t __real_pbm_read(const uint8_t *, size_t, const uint8_t *, size_t, uint64_t, uint8_t *, size_t);
 uint8_t __real_pbm_write(const uint8_t *, size_t, uint8_t *, size_t, uint64_t, const uint8_t *, size_t);
 uint8_t __real_pbm_advance(uint8_t *, size_t, uint8_t *, size_t, uint64_t, uint64_t *);
@@ -204,6 +206,8 @@ uint8_t __wrap_pbm_advance(uint8_t *record, size_t record_len, uint8_t *images, 
     return fault == NOT_REFUSED && answer == PBM_DEGRADED ? PBM_DONE : answer;
 }
 
+uint64_t __wrap_pbm_version(void) { return __real_pbm_version() + (fault == VERSION); }
+
 uint8_t __wrap_pbm_out(uint8_t *record, size_t record_len, uint64_t disk)
 {
     int is_again = is_rebuilding(record) && record[PBM_AT_OUT] == disk;
@@ -251,7 +255,7 @@ static void zero_blanks(const uint8_t *record, uint8_t *images)
 {
     uint64_t role, block, places = (record[PBM_AT_N] + record[PBM_AT_M]) * all_stripes(record);
     for (uint64_t i = 0; i < places; i++) {
-        pbm_owner(record, PBM_RECORD_LEN, i % all_stripes(record), i / all_stripes(record), &role, &block);
+        if (pbm_owner(record, PBM_RECORD_LEN, i % all_stripes(record), i / all_stripes(record), &role, &block)) abort();
         if (role == PBM_BLANK) memset(images + i * block_len(record), 0, block_len(record));
     }
 }

@@ -1,6 +1,6 @@
 /*
- * Every call, word and length of pbm.h from C: n = 3, m = 2, T = 15, B = 4; and the growth of n = 4, m = 1, T = 19, which grow
- * itself ends; and scan points. Prints what each returns and leaves; tests/tests/c_interface.rs has the values.
+ * Every call, word, limit and length of pbm.h from C: n = 3, m = 2, T = 15, B = 4; and the growth of n = 4, m = 1, T = 19, which
+ * grow itself ends; and scan points. Prints what each returns and leaves; tests/tests/c_interface.rs has the values.
  */
 #include "pbm.h"
 
@@ -27,6 +27,19 @@ static void show_record(void)
     printf("record");
     for (i = 0; i < PBM_RECORD_LEN; i++) printf(" %d", record[i]);
     printf("\n");
+}
+
+static void show_shape(void)
+{
+    struct pbm_shape shape = pbm_shape_of(record);
+    printf("shape: n %d, m %d, B %d, T %d\n", (int)shape.n, (int)shape.m, (int)shape.block_len, (int)shape.stripes);
+}
+
+static void show_version(void)
+{
+    printf("version %d, header %d\n", (int)pbm_version(), PBM_VERSION);
+    printf("limits: n %d to %d, m %d to %d, B %d to %d, T %d to %d\n", PBM_N_MIN, PBM_N_MAX, PBM_M_MIN, PBM_M_MAX,
+           PBM_BLOCK_LEN_MIN, PBM_BLOCK_LEN_MAX, PBM_STRIPES_MIN, PBM_STRIPES_MAX);
 }
 
 static void show_status(void)
@@ -218,7 +231,7 @@ static void show_rebuild(void)
     show_continue(100);
 }
 
-/* From 2 moves on: behind move 5 zone 0 is finished, and there are 10 blocks more, which stay where they are. */
+/* From 2 moves on: after move 5 zone 0 is finished, and there are 10 blocks more, which stay where they are. */
 static void show_finished_zone(void)
 {
     uint64_t number;
@@ -253,6 +266,15 @@ static void show_finished_zone(void)
     show_read(35);
     show_place(35);
     show_record();
+}
+
+/* A grown array of which two disks are out: the images for a format go by its own numbers, not by the record. */
+static void show_format_anew(void)
+{
+    uint64_t by = pbm_images_len_by(record, 0), own = pbm_images_len(3, BLOCK, STRIPES);
+    printf("format anew, %d bytes: %d\n", (int)by, pbm_format(record, PBM_RECORD_LEN, images, by, 3, BLOCK, STRIPES));
+    printf("format anew, %d bytes: %d\n", (int)own, pbm_format(record, PBM_RECORD_LEN, images, own, 3, BLOCK, STRIPES));
+    show_shape();
 }
 
 /* No whole group: 57 blocks, and with the grow itself 76. */
@@ -331,9 +353,11 @@ int main(void)
     record = take(PBM_RECORD_LEN);
     block = take(BLOCK);
 
+    show_version();
     show_words();
     show_longest();
     format();
+    show_shape();
     show_lengths("formatted", pbm_images_len_by(record, 0), pbm_images_len_by(record, 2));
     show_place(5);
     show_write(4, "four");
@@ -349,6 +373,7 @@ int main(void)
     show_sweep_off(14, 2);
 
     grow();
+    show_shape();
     show_lengths("grown", pbm_images_len_by(record, 0), pbm_images_len_by(record, 2));
     show_owner(3, 0);
     show_advance(2);
@@ -395,6 +420,7 @@ int main(void)
     show_sweep();
     show_status();
     show_place(59);
+    show_format_anew();
 
     show_growth_at_once();
     show_points();

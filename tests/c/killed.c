@@ -223,7 +223,7 @@ static void kill_continues(void)
     printf("continue, stopped %d times: the old record, by which every block is read, and right when made again\n", kills);
 }
 
-/* Made again behind a kill, these leave what they would have left without it. */
+/* Made again after a kill, these leave what they would have left without it. */
 static void kill_others(void)
 {
     for (int s = 0; s < STRIPES; s++) {

@@ -68,7 +68,7 @@ static uint8_t digit(char c)
     exit(4);
 }
 
-/* Sets the bytes of a list, each behind a comma. */
+/* Sets the bytes of a list, each after a comma. */
 static void set(const char *list, uint8_t value)
 {
     while (*list == ',') {

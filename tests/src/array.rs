@@ -30,7 +30,7 @@ impl Array {
         Record::of(self.0.record[..].try_into().unwrap())
     }
 
-    /// With images of the new disks behind the old ones, which hold other bytes before.
+    /// With images of the new disks after the old ones, which hold other bytes before.
     pub fn grow(&mut self, m: u64) -> Answer {
         let Record {
             n,

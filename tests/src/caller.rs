@@ -347,7 +347,7 @@ impl Caller {
         len as usize
     }
 
-    /// The bytes cut to the length, or with any bytes behind them.
+    /// The bytes cut to the length, or with any bytes after them.
     fn stretched(&mut self, bytes: &[u8], len: usize) -> Vec<u8> {
         let mut stretched = bytes[..bytes.len().min(len)].to_vec();
         let more = self.random.bytes(len - stretched.len());

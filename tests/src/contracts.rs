@@ -208,7 +208,7 @@ pub(crate) fn without_comments(text: &str) -> String {
     text.lines().map(code).collect()
 }
 
-/// What stands before the bracket that closes an open one, and behind it.
+/// What stands before the bracket that closes an open one, and after it.
 pub(crate) fn bracketed(text: &str, open: char, close: char) -> (&str, &str) {
     let mut depth = 1;
     for (at, c) in text.char_indices() {
@@ -285,7 +285,7 @@ fn bare(words: &[String]) -> Words {
     }
 }
 
-/// The equations that a clause promises, as two sides each: those behind no premise, for all values of types that have some.
+/// The equations that a clause promises, as two sides each: those under no premise, for all values of types that have some.
 pub fn equations(clause: &Clause) -> Vec<[String; 2]> {
     let mut formula = words(&clause.formula);
     if clause.answer != "_" {

@@ -11,7 +11,7 @@ pub struct Flat {
     pub numbers: Record,
     /// By Layout, where each of the blocks stands.
     pub layout: Layout,
-    /// The list of blocks, one behind the other.
+    /// The list of blocks, one after the other.
     blocks: Vec<u8>,
 }
 
@@ -102,7 +102,7 @@ impl Flat {
         Answer::done(&[made])
     }
 
-    /// "The flat list lengthens by just these zero blocks as they come, at grow itself where the total is 0": behind each of the
+    /// "The flat list lengthens by just these zero blocks as they come, at grow itself where the total is 0": after each of the
     /// moves just made that is the last of a zone by those of its stripes, and at the total by those of the tail.
     fn lengthen(&mut self, made: u64) {
         let Record { n, m, moves, .. } = self.numbers;

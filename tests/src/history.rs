@@ -45,7 +45,7 @@ struct History<'a, M> {
     images: Vec<u8>,
     /// What the images are to hold, but for `loose`.
     wanted: Vec<u8>,
-    /// Disks reported out, each from the stripe on that is not rebuilt since; none behind a format.
+    /// Disks reported out, each from the stripe on that is not rebuilt since; none after a format.
     loose: BTreeMap<u64, u64>,
     /// The new blocks that were written while the growth was under way, and how many calls of `MEANWHILE` have come since.
     written: BTreeMap<u64, usize>,

@@ -56,7 +56,7 @@ pub fn of(flat: &Flat) -> Vec<u8> {
     images
 }
 
-/// Each stripe's parity value, one behind the other.
+/// Each stripe's parity value, one after the other.
 pub fn parity_values(images: &[u8], record: &Record, layout: &Layout) -> Vec<u8> {
     (0..record.stripes)
         .flat_map(|stripe| &images[place(record, stripe, layout.parity(stripe))])

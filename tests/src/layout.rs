@@ -119,7 +119,7 @@ impl Layout {
         }
     }
 
-    /// "After each finished zone its blanks become blocks": a zone is finished if the next move is in a later one. Behind the last
+    /// "After each finished zone its blanks become blocks": a zone is finished if the next move is in a later one. After the last
     /// move all stripes are, those of no whole group too.
     fn fill_finished(&mut self) {
         let finished = match self.moves.get(self.made) {

@@ -53,7 +53,7 @@ pub enum Side {
 /// A slice between protected pages; write-protected itself while it is lent for reading alone.
 pub struct Guarded {
     side: Side,
-    /// Whole pages, with a protected one before and one behind.
+    /// Whole pages, with a protected one before and one after.
     room: *mut u8,
     room_len: usize,
     /// The same pages elsewhere, never protected, so that no access has to change where a test looks at them or sets them. Of `zeros`

@@ -109,7 +109,7 @@ pub fn faults(document: &str, sources: &Sources) -> (usize, Vec<String>) {
     (seen, faults)
 }
 
-/// The file, crate, type or function that stands behind a name, or behind the list that it is in: "`a`, `b` (`file`)", "`a` and
+/// The file, crate, type or function that stands after a name, or after the list that it is in: "`a`, `b` (`file`)", "`a` and
 /// `b` of `whole`". (Of "`a`, `b` of `whole`" a type or function is said to have b alone.)
 fn place_of<'a>(all: &[(&str, &'a str)], at: usize) -> Option<&'a str> {
     let (between, next) = all.get(at + 1)?;
@@ -189,7 +189,7 @@ impl Sources<'_> {
     }
 
     /// An expression. What it begins with is defined where the document says, and what each bracket begins with is a definition or
-    /// constructor; a word behind a dot is a field; every other word is a variable or defined somewhere. (`f .blocks`: what a dot
+    /// constructor; a word after a dot is a field; every other word is a variable or defined somewhere. (`f .blocks`: what a dot
     /// follows may be a variable.)
     fn has_expression(&self, text: &str, here: &[&Definition]) -> bool {
         let text = text.trim_start_matches('&').trim_start_matches("mut ");
@@ -203,7 +203,7 @@ impl Sources<'_> {
             && (first + 1..words.len()).all(|at| self.has_word(&words, at))
     }
 
-    /// The same of one of the words behind the first.
+    /// The same of one of the words after the first.
     fn has_word(&self, words: &[&str], at: usize) -> bool {
         let word = words[at];
         let is_any = |kinds: &[Kind], name: &str| {

@@ -17,14 +17,14 @@ pub struct Outage {
 }
 
 impl Outage {
-    /// Behind a call that was refused.
+    /// After a call that was refused.
     pub fn refused(&mut self, call: Call, number: u8, numbers: &Record) {
         if number == 3 && matches!(numbers.health, Health::Rebuilding { .. }) {
             self.refused.insert(call.name());
         }
     }
 
-    /// Behind one that was accepted, by the numbers before it.
+    /// After one that was accepted, by the numbers before it.
     pub fn accepted(&mut self, call: Call, before: &Record, flat: &Flat, tally: &mut Tally) {
         let health = flat.numbers.health;
         match call {

@@ -96,7 +96,7 @@ struct Path<'a> {
 /// What may stand before a bracket and is no function.
 const KEYWORDS: &[&str] = &["if", "while", "match", "return"];
 
-/// All but fields and methods, which stand behind a dot.
+/// All but fields and methods, which stand after a dot.
 fn paths(text: &str) -> Vec<Path<'_>> {
     let is_part = |c: char| c.is_alphanumeric() || c == '_' || c == ':';
     let mut all = Vec::new();

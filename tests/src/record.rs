@@ -20,6 +20,10 @@ pub mod at {
     pub const STRIPES: Range<usize> = 8..12;
     pub const MOVES: Range<usize> = 12..16;
     pub const REBUILT: Range<usize> = 16..20;
+
+    /// All of them, in their order.
+    pub const ALL: [Range<usize>; 9] =
+        [N, M, HEALTH, OUT, BLOCK_LEN, ZERO, STRIPES, MOVES, REBUILT];
 }
 
 pub fn field(bytes: &[u8], at: Range<usize>) -> u64 {
@@ -161,7 +165,7 @@ impl Record {
         self.n * (self.n + self.m)
     }
 
-    /// The stripes behind the last whole group.
+    /// The stripes after the last whole group.
     pub fn tail(&self) -> u64 {
         self.stripes % self.group()
     }

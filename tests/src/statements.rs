@@ -37,7 +37,7 @@ fn row(cells: &[&str]) -> Option<Row> {
     })
 }
 
-/// The lines that begin something at the top level, each with whether more of it stands indented behind.
+/// The lines that begin something at the top level, each with whether more of it stands indented after it.
 fn beginnings(text: &str) -> Vec<(&str, bool)> {
     let all: Vec<&str> = lines(text).collect();
     let goes_on = |at: usize| all.get(at + 1).is_some_and(|next| next.starts_with(' '));
@@ -179,7 +179,7 @@ pub fn fingerprint(path: &str, statement: &str, all: &[Specs]) -> String {
 }
 
 /// The hash of Fowler, Noll and Vo, FNV-1a, of 64 bits.
-fn fnv(bytes: &[u8]) -> u64 {
+pub fn fnv(bytes: &[u8]) -> u64 {
     bytes.iter().fold(0xcbf2_9ce4_8422_2325, |hash, &byte| {
         (hash ^ u64::from(byte)).wrapping_mul(0x0100_0000_01b3)
     })
@@ -271,7 +271,7 @@ pub fn uses(text: &str) -> Vec<Use> {
         let Some((module, rest)) = code[at + 4..].split_once(".{").filter(|_| is_start) else {
             continue;
         };
-        // `use Module as name`, with another one behind
+        // `use Module as name`, with another one after it
         if module.contains(char::is_whitespace) {
             continue;
         }

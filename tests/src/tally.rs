@@ -182,7 +182,7 @@ impl Tally {
         self.answers[call.kind()][number as usize] += 1;
     }
 
-    /// Notes what is remarkable about an accepted call, by the numbers before it and behind it.
+    /// Notes what is remarkable about an accepted call, by the numbers before it and after it.
     pub fn note(&mut self, call: Call, before: &Record, flat: &Flat) {
         let numbers = &flat.numbers;
         let (is_grown, shape) = (numbers.is_grown(), (numbers.n, numbers.m));
@@ -504,7 +504,7 @@ fn is_early(numbers: &Record, block: u64) -> bool {
     block >= numbers.old_capacity() && !numbers.is_grown()
 }
 
-/// Behind whole groups.
+/// After whole groups.
 fn is_in_tail(numbers: &Record, stripe: u64) -> bool {
     numbers.total() > 0 && stripe >= numbers.stripes - numbers.tail()
 }

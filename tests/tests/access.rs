@@ -1,5 +1,5 @@
 //! Writes of every short length and of the longest ones: with all disks in, and with the disk of the data, of the parity or of
-//! neither out, or being rebuilt, the block's stripe done or not; to old blocks and to new ones. Behind each of them the answer, the
+//! neither out, or being rebuilt, the block's stripe done or not; to old blocks and to new ones. After each of them the answer, the
 //! record, the data and every byte of the images are those of a model that goes by the bytes, in memory that ends the run when a byte
 //! outside of what was lent is touched.
 

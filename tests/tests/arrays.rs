@@ -87,7 +87,7 @@ fn unused() {
 }
 ";
 
-/// `hidden` stands in a contract and behind a dot, `lost` in a comment.
+/// `hidden` stands in a contract and after a dot, `lost` in a comment.
 const A_ONE: &str = "\
 use crate::Kept;
 use crate::two::SIZE;

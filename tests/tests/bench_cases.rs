@@ -39,7 +39,7 @@ fn owners(array: &mut Array, stripe: u64) -> Vec<[u64; 2]> {
         .collect()
 }
 
-/// Ten more blocks behind each zone, of 6 moves: 5 stripes with 2 blanks each.
+/// Ten more blocks after each zone, of 6 moves: 5 stripes with 2 blanks each.
 #[test]
 fn total_18_capacity_30_then_40_50_and_60() {
     let mut array = Array::format(3, 4, 15);
@@ -338,8 +338,8 @@ fn the_sixth_move_finishes_zone_0() {
     }
 }
 
-/// A new block that was written while zone 1 moves is as it was behind the later moves, with its disk out, with another block of
-/// its stripe written meanwhile, in the rebuild and behind it.
+/// A new block that was written while zone 1 moves is as it was after the later moves, with its disk out, with another block of
+/// its stripe written meanwhile, in the rebuild and after it.
 #[test]
 fn a_new_block_is_as_it_was() {
     let mut array = three_and_two(7);
@@ -368,7 +368,7 @@ fn a_new_block_is_as_it_was() {
 }
 
 /// Request (d), after 7 moves: block 4 is on place (2, 3), and its parity on (2, 2). Stripe 2 is written before it is rebuilt and
-/// behind that, and disk 3 fails again in the middle.
+/// after that, and disk 3 fails again in the middle.
 #[test]
 fn a_rebuild_in_steps() {
     let place = |stripe: usize, disk: usize| (disk * 15 + stripe) * 4..(disk * 15 + stripe + 1) * 4;
@@ -501,7 +501,7 @@ fn four_and_one_of_19_stripes() {
     }
 }
 
-/// T = 17: stripes 15 and 16 keep their places, and their new ones are numbered behind all others, with the last move.
+/// T = 17: stripes 15 and 16 keep their places, and their new ones are numbered after all others, with the last move.
 #[test]
 fn three_and_two_of_two_stripes_more() {
     let mut array = Array::format(3, 4, 17);

@@ -8,6 +8,7 @@ use yuzkamide_tests::pbm::{Way, NAMES};
 use yuzkamide_tests::points;
 use yuzkamide_tests::program::target;
 use yuzkamide_tests::record::{Health, Record, BENCH, GROWING};
+use yuzkamide_tests::statements::fnv;
 
 /// What tests/c/interface.c prints.
 fn printed() -> String {
@@ -38,6 +39,8 @@ fn printed() -> String {
     let rising_packed = format!("0{} 0{}", " 188".repeat(39), " 2".repeat(39));
     format!(
         "\
+version 1, header 1
+limits: n 3 to 16, m 1 to 16, B 1 to 4096, T 1 to 1048576
 word 0: done
 word 1: record
 word 2: lost
@@ -59,6 +62,7 @@ format, record of 16 bytes: 1
 format: 0
 record {formatted}
 status 0: capacity 30, moves 0 of 0, health 0, out 0, rebuilt 0
+shape: n 3, m 0, B 4, T 15
 formatted: images of 180 bytes, grown by 2 disks 300
 179 bytes: read 7, write 7, advance 5, begin 7, continue 7, sweep 7
 299 bytes: grow 7
@@ -81,6 +85,7 @@ grow, images of 3 disks: 7
 grow: 0
 grow again: 4
 status 0: capacity 30, moves 0 of 18, health 0, out 0, rebuilt 0
+shape: n 3, m 2, B 4, T 15
 grown: images of 300 bytes, grown by 2 disks 420
 299 bytes: read 7, write 7, advance 7, begin 7, continue 7, sweep 7
 419 bytes: grow 4
@@ -178,6 +183,9 @@ continue 1: 2 made 0
 sweep: 2 found 0, stripe 0, read 0
 status 0: capacity 60, moves 18 of 18, health 2, out 0, rebuilt 0
 locate 59: 0 (14, 3), parity on 4, moved 0
+format anew, 300 bytes: 7
+format anew, 180 bytes: 0
+shape: n 3, m 0, B 4, T 15
 format, 4 disks of 19 blocks: 0
 write 56: 0
 read 57: 8 FIVE
@@ -228,18 +236,156 @@ fn prints(name: &str, compiler: &[&str]) {
 
 #[test]
 fn from_c() {
-    prints("interface-c", &["gcc", "-std=c11"]);
+    prints("interface-c99", &["gcc", "-std=c99"]);
+    prints("interface-c11", &["gcc", "-std=c11"]);
 }
 
 #[test]
 fn from_c_plus_plus() {
-    prints("interface-c++", &["g++", "-std=c++11", "-x", "c++"]);
+    prints("interface-c++11", &["g++", "-std=c++11", "-x", "c++"]);
+    prints("interface-c++17", &["g++", "-std=c++17", "-x", "c++"]);
+}
+
+fn header() -> String {
+    fs::read_to_string(target().join("../include/pbm.h")).unwrap()
+}
+
+/// The header's code: without comments, and with one space where there is any.
+fn code(header: &str) -> String {
+    let (first, rest) = header.split_once("/*").unwrap_or((header, ""));
+    let rest = rest.split("/*").map(|part| part.split_once("*/"));
+    let rest: String = rest.flatten().map(|(_, code)| code).collect();
+    let words: Vec<&str> = (first.split_whitespace())
+        .chain(rest.split_whitespace())
+        .collect();
+    words.join(" ")
+}
+
+/// What a version stands for: the signature of every call, in the header's order, and the bytes of the record.
+fn versioned(header: &str) -> Vec<String> {
+    let code = code(header);
+    let is_versioned = |item: &&str| {
+        let is_call = item.contains("PBM_CALL uint8_t pbm_");
+        is_call || item.contains("PBM_RECORD_LEN =") || item.contains("PBM_AT_N =")
+    };
+    let cut = |item: &str| {
+        let begins = ["PBM_CALL uint8_t", "enum {"].map(|word| item.rfind(word));
+        item[begins.into_iter().flatten().max().unwrap()..].to_string()
+    };
+    code.split(';').filter(is_versioned).map(cut).collect()
+}
+
+/// Who changes a signature or the record raises the version: in include/pbm.h, in `version` of crate pbm, and here, with the
+/// fingerprint that fails. A call that is added needs a new fingerprint alone: an archive without it does not link.
+#[test]
+fn the_version_is_of_these_signatures() {
+    let header = header();
+    let all = versioned(&header);
+    println!("{all:#?}");
+    assert_eq!(all.len(), 2 + NAMES.len() + Way::BOTH.len());
+    let [number, fingerprint] = ["1", "b0e47ea4e1b2d5de"];
+    assert!(header.contains(&format!("\n#define PBM_VERSION {number}\n")));
+    assert_eq!(
+        format!("{:016x}", fnv(all.join("\n").as_bytes())),
+        fingerprint
+    );
+}
+
+#[test]
+fn what_a_version_is_of() {
+    let header = "/* pbm_commented(void); */ enum { PBM_RECORD_LEN = 20 }; /* The bytes. */ enum { PBM_AT_N = 0,\n PBM_AT_M = 1 };
+enum { PBM_DONE = 0 };\nstatic inline int f(void) { return 1; }\n/* Reads. */\nPBM_CALL\nuint8_t pbm_read(const uint8_t *record,
+                 uint64_t block);\nuint64_t pbm_version(void);\n";
+    assert_eq!(
+        versioned(header),
+        [
+            "enum { PBM_RECORD_LEN = 20 }",
+            "enum { PBM_AT_N = 0, PBM_AT_M = 1 }",
+            "PBM_CALL uint8_t pbm_read(const uint8_t *record, uint64_t block)",
+        ]
+    );
+}
+
+/// A number that is not looked at, and a null pointer, are warned of.
+#[test]
+fn a_compiler_warns() {
+    let folder = target().join("c");
+    fs::create_dir_all(&folder).unwrap();
+    let source = folder.join("warned.c");
+    for (line, warning) in [
+        ("if (pbm_out(record, 20, 1)) return 1;", None),
+        ("pbm_out(record, 20, 1);", Some("unused-result")),
+        ("if (pbm_out(NULL, 20, 1)) return 1;", Some("nonnull")),
+    ] {
+        let text = format!("#include \"pbm.h\"\nint main(void)\n{{\n    uint8_t record[20] = {{0}};\n    {line}\n    return record[0];\n}}\n");
+        fs::write(&source, text).unwrap();
+        let mut command = Command::new("gcc");
+        command.args([
+            "-std=c99",
+            "-O2",
+            "-Wall",
+            "-Wextra",
+            "-Wpedantic",
+            "-c",
+            "-o",
+            "/dev/null",
+        ]);
+        let output = run(command
+            .arg("-I")
+            .arg(target().join("../include"))
+            .arg(&source));
+        let said = String::from_utf8(output.stderr).unwrap();
+        match warning {
+            Some(warning) => assert!(said.contains(&format!("-W{warning}")), "{line}: {said}"),
+            None => assert_eq!(said, "", "{line}"),
+        }
+    }
+}
+
+/// README's program, with nothing but the header and the archive beside it, by README's command: as C99, as it stands there, as C11 and
+/// as C++17.
+#[test]
+fn the_program_of_readme() {
+    let readme = fs::read_to_string(target().join("../README.md")).unwrap();
+    let fence = |begin: &str| {
+        let (_, text) = readme.split_once(begin).unwrap();
+        text.split_once("\n```").unwrap().0.to_string()
+    };
+    let program = fence("```c\n");
+    assert!(program.lines().count() <= 12, "{program}");
+    let command = fence("```sh\ncc ");
+    for compiler in [
+        ["cc", "-std=c99", ""],
+        ["cc", "-std=c11", ""],
+        ["c++", "-std=c++17", "-x c++ "],
+    ] {
+        let [name, standard, language] = compiler;
+        let folder = target().join("c/readme");
+        let _ = fs::remove_dir_all(&folder);
+        fs::create_dir_all(folder.join("include")).unwrap();
+        fs::copy(
+            target().join("../include/pbm.h"),
+            folder.join("include/pbm.h"),
+        )
+        .unwrap();
+        fs::copy(archive(), folder.join("libpbm.a")).unwrap();
+        fs::write(folder.join("log.c"), format!("{program}\n")).unwrap();
+        assert!(command.contains("-std=c99") && command.contains(" log.c "));
+        let command = command.replace("-std=c99", standard);
+        let command = command.replace(" log.c ", &format!(" {language}log.c -x none "));
+        let line = format!("{name} -Wall -Wextra -Wpedantic -Werror {command}");
+        run(Command::new("sh").args(["-c", &line]).current_dir(&folder));
+        let output = run(&mut Command::new(folder.join("log")));
+        let printed = text(&output.stdout);
+        assert_eq!(printed, "done: oak, 4 boards\n", "{standard}");
+        assert!(readme.contains(&format!("`{}`", printed.trim_end())));
+    }
 }
 
 /// The words of `pbm_word`, as printed, are those of the table in the header's comment.
 #[test]
 fn the_words_are_those_of_the_headers_table() {
-    let header = fs::read_to_string(target().join("../include/pbm.h")).unwrap();
+    let header = header();
     let (_, table) = header.split_once(" * REFUSALS\n").unwrap();
     let (table, _) = table.split_once(" */\n").unwrap();
     // a row is its number, its word and its conditions, each two spaces or more from the next
@@ -254,7 +400,7 @@ fn the_words_are_those_of_the_headers_table() {
 }
 
 #[test]
-fn the_archive_has_the_fourteen_functions() {
+fn the_archive_has_the_calls_and_its_version() {
     let output = run(Command::new("nm")
         .args(["--extern-only", "--defined-only"])
         .arg(archive()));
@@ -266,7 +412,7 @@ fn the_archive_has_the_fourteen_functions() {
         .map(|words| words[1..].join(" "))
         .collect();
     found.sort_unstable();
-    let names = NAMES.into_iter().chain(Way::BOTH.map(Way::name));
+    let names = (NAMES.into_iter().chain(Way::BOTH.map(Way::name))).chain(["version"]);
     let mut wanted: Vec<String> = names.map(|name| format!("T pbm_{name}")).collect();
     wanted.sort_unstable();
     assert_eq!(found, wanted);

@@ -31,7 +31,7 @@ points are packed: 100, 103, 101 as 100, 3, -2
     a blank is off: a sweep stops at stripe 208, with 209 read
     two blanks are off alike: a sweep stops at stripe 208, with 209 read
     a read of the next new block is refused: 8 past the end
-disk 2 is lost
+disk 2 is out
     advance is refused: 3 degraded
     sweep is refused: 3 degraded
     all 2292 blocks are as last written
@@ -41,7 +41,7 @@ disk 2 is lost
     advance is refused: 3 degraded
     sweep is refused: 3 degraded
     all 2292 blocks are as last written
-disk 2 is lost, and with it the 250 stripes rebuilt
+disk 2 is out, and with it the 250 stripes rebuilt
     all 2292 blocks are as last written
     rebuilding disk 2: [..........] 0 of 417 stripes, 3688 logs so far
     rebuilding disk 2: [###.......] 150 of 417 stripes, 3796 logs so far
@@ -58,7 +58,7 @@ the growth is over: 2919 blocks
     all 1251 new blocks stand where they stood when they came
     all 2919 blocks are as last written
     all 51 new blocks of the tail are written and read
-disk 5 is lost
+disk 5 is out
     all 2919 blocks are as last written
     all 51 new blocks of the tail are written and read
     rebuilding disk 5: [..........] 0 of 417 stripes, 6582 logs so far
@@ -66,9 +66,9 @@ disk 5 is lost
 disk 5 is rebuilt
     all 417 stripes are sound
     all 2919 blocks are as last written
-writes 6848, of these 211 of blocks on a lost disk, 1005 of new blocks in mid-growth
+writes 6848, of these 211 of blocks on a disk that is out, 1005 of new blocks in mid-growth
     while a disk was rebuilt: 363 in stripes done, 363 in the others
-reads 32700, of these 1588 of blocks on a lost disk, 4466 of new blocks in mid-growth
+reads 32700, of these 1588 of blocks on a disk that is out, 4466 of new blocks in mid-growth
     while a disk was rebuilt: 2101 in stripes done, 1159 in the others
 points compared 66969600
 moves 750, refusals met 9
@@ -215,8 +215,9 @@ fn a_line_notices_faults() {
             "HALF_POINT",
             "a pack of two points and a half gives: 0 done; it must give: 11 points",
         ),
+        ("VERSION", "the version of libpbm.a: 2; it must be 1"),
     ];
-    let program = faulty();
+    let program = faulty("line_controller");
     let with = |fault: &str| Command::new(&program).env("FAULT", fault).output().unwrap();
     // those of tests/c/faulty.c, and no others
     let names: Vec<&str> = faults.iter().map(|(fault, _)| *fault).collect();
@@ -245,9 +246,31 @@ fn a_line_notices_faults() {
     }
 }
 
-/// The line with tests/c/faulty.c between it and the library: the variable FAULT names the fault.
-fn faulty() -> PathBuf {
+/// An archive of another version is noticed by each example, before it makes a call.
+#[test]
+fn examples_compare_versions() {
+    for (example, arguments) in [
+        ("line_controller", &[][..]),
+        ("layout_svg", &["3", "2", "9"]),
+        ("mapped_drawers", &["/nowhere"]),
+    ] {
+        let mut command = Command::new(faulty(example));
+        let output = command.args(arguments).env("FAULT", "VERSION").output();
+        let output = output.unwrap();
+        assert_eq!(output.status.code(), Some(1), "{example}");
+        let says = text(&output.stderr);
+        assert!(says.starts_with(&format!("{example}: ")), "{says}");
+        assert!(
+            says.contains("libpbm.a") && says.contains("version"),
+            "{says}"
+        );
+    }
+}
+
+/// An example with tests/c/faulty.c between it and the library: the variable FAULT names the fault.
+fn faulty(example: &str) -> PathBuf {
     let wrapped = [
+        "version",
         "read",
         "write",
         "advance",
@@ -262,8 +285,9 @@ fn faulty() -> PathBuf {
     let wrap = wrapped.map(|call| format!("-Wl,--wrap=pbm_{call}"));
     let mut compiler = GCC.to_vec();
     compiler.extend(wrap.iter().map(String::as_str));
-    let sources = ["examples/line_controller.c", "tests/c/faulty.c"];
-    program("line_controller-faulty", &compiler, &sources)
+    let source = format!("examples/{example}.c");
+    let name = format!("{example}-faulty");
+    program(&name, &compiler, &[&source, "tests/c/faulty.c"])
 }
 
 // ---- the pictures
@@ -277,7 +301,7 @@ fn picture(arguments: &[u64]) -> String {
     picture_by(&words(arguments, None))
 }
 
-/// The arguments, and behind them the block that is to be lit.
+/// The arguments, and after them the block that is to be lit.
 fn words(arguments: &[u64], block: Option<u64>) -> Vec<String> {
     let mut words: Vec<String> = arguments.iter().map(u64::to_string).collect();
     words.extend(
@@ -1023,7 +1047,7 @@ fn a_full_disk_is_told() {
     );
 }
 
-/// docs/pictures/n-m-t.svg, n-m-t-T-first-last.svg, and either with -block-b behind it
+/// docs/pictures/n-m-t.svg, n-m-t-T-first-last.svg, and either with -block-b after it
 #[test]
 fn the_pictures_of_the_documents_are_those_drawn_today() {
     let mut seen = 0;
@@ -1065,16 +1089,17 @@ drawer 1 rebuilt, the growth over: 256 blocks are as written
     }
     assert_eq!(fs::read_dir(&folder).unwrap().count(), 0, "nothing is left");
 
-    // what is there already stays as it is
+    // what is there already stays as it is, and an error says which file and why
     let mine = folder.join("drawer-0");
     fs::write(&mine, "mine").unwrap();
-    let output = output_of(&DRAWERS, &[folder.to_str().unwrap()]);
-    assert_eq!(output.status.code(), Some(1));
-    assert_eq!(
-        text(&output.stderr),
-        "mapped_drawers: a drawer cannot be made\n"
-    );
+    let path = folder.to_str().unwrap();
+    let why = format!("mapped_drawers: {path}/drawer-0: cannot be made: File exists");
+    is_refused(&DRAWERS, &[path], &why);
     assert_eq!(fs::read_to_string(mine).unwrap(), "mine");
+    let none = folder.join("none");
+    let none = none.to_str().unwrap();
+    let why = format!("mapped_drawers: {none}/drawer-0: cannot be made: No such file or directory");
+    is_refused(&DRAWERS, &[none], &why);
 }
 
 // ---- the scripts
@@ -1177,7 +1202,7 @@ fn pictures(root: &Path) -> BTreeMap<String, Vec<u8>> {
         .collect()
 }
 
-const PROVING: &str = "proving and building the library, which may take two minutes; the prover's notes go to build/library.log\n";
+const PROVING: &str = "proving and building the library, which may take four minutes; the prover's notes go to build/library.log\n";
 const BUILT: &str =
     "the library is proved and built already, from these files: target/staticlib/libpbm.a\n";
 

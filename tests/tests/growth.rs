@@ -114,7 +114,7 @@ impl Growth {
     }
 }
 
-/// All calls go by the capacity: its last block is there, and the one behind it is refused.
+/// All calls go by the capacity: its last block is there, and the one after it is refused.
 #[test]
 fn the_capacity_after_every_move() {
     for growth in GROWTHS {
@@ -322,7 +322,7 @@ fn the_models_agree() {
     }
 }
 
-/// The capacity that the flat list has behind its growth by k moves at a time.
+/// The capacity that the flat list has after its growth by k moves at a time.
 fn grown_by(n: u64, m: u64, stripes: u64, k: u64) -> u64 {
     let mut flat = Flat::format(n, 1, stripes);
     let mut step = |call| {

@@ -49,7 +49,7 @@ fn write_new(array: &mut Array, first: u64) {
     write_all(array, new);
 }
 
-/// A sweep finds nothing; and with one bit off that stripe: the last one, behind all others, or one in the middle.
+/// A sweep finds nothing; and with one bit off that stripe: the last one, after all others, or one in the middle.
 fn sweeps(array: &mut Array) {
     let record = array.record();
     let Record { stripes, .. } = record;
@@ -63,7 +63,7 @@ fn sweeps(array: &mut Array) {
     }
 }
 
-/// Grows by these budgets, the last of which must complete it (none where grow does), behind each of which the capacity is the one
+/// Grows by these budgets, the last of which must complete it (none where grow does), after each of which the capacity is the one
 /// beside it; writes the new blocks as they come, reads every block, and sweeps; then loses and rebuilds the first and the last disk.
 fn grows(home: Record, m: u64, budgets: &[(u64, u64)]) {
     let mut array = Array::format(home.n, home.block_len, home.stripes);

@@ -162,6 +162,12 @@ const BY_LAW: &[(&str, &str, &[&str])] = &[
         "`view-begins`",
         &["access/view_elsewhere"],
     ),
+    // the version is a bare number
+    (
+        "/proofs/Theorem.antt:",
+        "`versioned`",
+        &["pbm/version_raised_alone"],
+    ),
     // a record's bytes are read back
     (
         "/proofs/Laws/Bytes.antt:",

@@ -270,7 +270,7 @@ fn records_of_a_rebuild() {
     }
 }
 
-/// "refusal 1 goes by that length": of a record that is good, cut or with zeroes behind it, for every call and before all else.
+/// "refusal 1 goes by that length": of a record that is good, cut or with zeroes after it, for every call and before all else.
 #[test]
 fn records_of_other_lengths() {
     for record in records() {

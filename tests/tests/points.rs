@@ -10,7 +10,7 @@ use yuzkamide_tests::points::{bytes, made, packed, side_by_side, unpacked};
 use yuzkamide_tests::random::Random;
 use yuzkamide_tests::table::points_refusal;
 
-/// Sources and targets, one of each right behind a closed page and one right before one.
+/// Sources and targets, one of each right after a closed page and one right before one.
 struct Desk {
     sources: [Guarded; 2],
     targets: [Guarded; 2],
@@ -115,7 +115,7 @@ const DIFFERENCES: [[u16; 5]; 5] = [
 ];
 
 /// At every place of slices that are a pair alone, a lane of 16 points, two or three of them, or a point more or less: all points
-/// before the pair are as its first one, all behind it as its second.
+/// before the pair are as its first one, all after it as its second.
 #[test]
 fn every_pair_of_edges() {
     let mut desk = Desk::new();

@@ -69,6 +69,7 @@ const STATEMENTS: &[&str] = &[
     "Fills",
     "Tells",
     "ViewBegins",
+    "Versioned",
     "Exact",
     "Paper",
     "Tails",

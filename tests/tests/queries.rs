@@ -234,7 +234,7 @@ fn every_shape_after_some_moves() {
     }
 }
 
-/// As many stripes as there may be: tails of 4 stripes and of 1; or one less, with a group but for one stripe behind the last.
+/// As many stripes as there may be: tails of 4 stripes and of 1; or one less, with a group but for one stripe after the last.
 #[test]
 fn the_largest_arrays() {
     let mut random = Random::new("the_largest_arrays");

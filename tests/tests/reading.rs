@@ -1,13 +1,15 @@
-//! docs/READING.md, docs/PROVED.md, docs/TRUST.md and docs/DECISIONS.md name only what is there, and where it is; and READING.md has
-//! each must-fail edit.
+//! docs/READING.md, docs/EDITS.md, docs/PROVED.md, docs/TRUST.md and docs/DECISIONS.md name only what is there, and where it is; and
+//! EDITS.md is what tools/edits prints of the must-fail edits.
 
 use std::fs;
 use std::path::{Path, PathBuf};
+use std::process::Command;
+use yuzkamide_tests::compile::text;
 use yuzkamide_tests::definitions::{
     definitions, of_header, of_proof_language, of_rattle, Definition, Found, Kind,
 };
 use yuzkamide_tests::files::files;
-use yuzkamide_tests::mentions::{faults, in_backquotes, table, Sources};
+use yuzkamide_tests::mentions::{faults, Sources};
 use yuzkamide_tests::program::target;
 
 fn root() -> PathBuf {
@@ -28,9 +30,10 @@ fn names_only_what_is_there() {
     };
     for (name, least) in [
         ("READING.md", 400),
+        ("EDITS.md", 200),
         ("PROVED.md", 200),
         ("TRUST.md", 30),
-        ("DECISIONS.md", 100),
+        ("DECISIONS.md", 50),
     ] {
         let (seen, faults) = faults(&document(name), &sources);
         println!("{name}: {seen} things in backquotes");
@@ -40,6 +43,17 @@ fn names_only_what_is_there() {
 }
 
 // ---- the must-fail edits
+
+/// What a copy of tools/edits prints in this folder, or what it says of edits that have not the form.
+fn list_of_edits(folder: &Path) -> Result<String, String> {
+    let mut command = Command::new(folder.join("tools/edits"));
+    let output = command.output().unwrap();
+    match output.status.code() {
+        Some(0) => Ok(text(&output.stdout).to_string()),
+        Some(1) if output.stdout.is_empty() => Err(text(&output.stderr).to_string()),
+        status => panic!("{status:?}: {}", text(&output.stderr)),
+    }
+}
 
 /// Every edit of the crates, as `crate/edit`.
 fn edits() -> Vec<String> {
@@ -54,46 +68,92 @@ fn edits() -> Vec<String> {
     files(&crates, "edit").iter().map(|p| label(p)).collect()
 }
 
-/// Why the guide's table of edits is not that of these: edits without just one row, and rows of no edit.
-fn edit_faults(document: &str, edits: &[String]) -> Vec<String> {
-    let table = table(document, "Wrong programs and definitions that are refused");
-    let rows: Vec<&str> = table.iter().flat_map(|row| in_backquotes(row[0])).collect();
-    let count = |edit: &str| rows.iter().filter(|row| **row == edit).count();
-    let missed = edits.iter().filter(|edit| count(edit) != 1);
-    let strange = rows.iter().filter(|row| !edits.iter().any(|e| e == *row));
-    missed
-        .map(|edit| format!("{edit} has {} rows", count(edit)))
-        .chain(strange.map(|row| format!("{row} is no edit")))
-        .collect()
-}
-
+/// docs/EDITS.md is what tools/edits prints, and that has a row for each edit.
 #[test]
-fn every_edit_has_its_row() {
+fn the_list_is_what_the_edits_say() {
+    let list = list_of_edits(&root()).expect("each comment has the form");
     let edits = edits();
     assert!(edits.len() > 80, "the search finds them: {}", edits.len());
-    let faults = edit_faults(&document("READING.md"), &edits);
-    assert!(faults.is_empty(), "{faults:#?}");
+    for edit in &edits {
+        let row = format!("\n| `{edit}` | ");
+        assert_eq!(list.matches(&row).count(), 1, "{edit}");
+    }
+    assert_eq!(list.matches("\n| `").count(), edits.len());
+    assert!(
+        list == document("EDITS.md"),
+        "docs/EDITS.md is not what the edits say: make it anew by tools/edits > docs/EDITS.md"
+    );
 }
 
+/// A folder of one crate, `one`, in which tools/edits reads an edit that begins so, and one after it that is right.
 #[test]
-fn an_edit_without_its_row() {
-    let document = "# A document\n\n## Wrong programs and definitions that are refused\n
-| Edit | The believable error | Refused by |\n|---|---|---|
-| `layout/one` | an error | `Paper`; `layout/proofs` |\n| `pbm/two` | another | `pbm_read` |\n
-## Another section\n\n| `layout/three` | not of the table |\n";
-    let faults = |edits: &[&str]| {
-        let edits: Vec<String> = edits.iter().map(|edit| edit.to_string()).collect();
-        edit_faults(document, &edits)
+fn a_comment_of_another_form() {
+    let tree = target().join("c/tree-edits");
+    let _ = fs::remove_dir_all(&tree);
+    let put = |path: &str, text: &str| {
+        let path = tree.join(path);
+        fs::create_dir_all(path.parent().unwrap()).unwrap();
+        fs::write(path, text).unwrap();
     };
-    assert_eq!(faults(&["layout/one", "pbm/two"]), [""; 0]);
-    assert_eq!(faults(&["layout/one"]), ["pbm/two is no edit"]);
-    assert_eq!(
-        faults(&["layout/one", "layout/three", "pbm/two"]),
-        ["layout/three has 0 rows"]
+    put(
+        "crates.txt",
+        "# NAME: what it depends on\nnone:\none: none\n",
     );
-    let twice = document.replace("pbm/two", "layout/one");
-    let edits = ["layout/one".to_string()];
-    assert_eq!(edit_faults(&twice, &edits), ["layout/one has 2 rows"]);
+    fs::create_dir_all(tree.join("tools")).unwrap();
+    fs::copy(root().join("tools/edits"), tree.join("tools/edits")).unwrap();
+    let changes = "file: src/lib.rt\nold: right # not wrong\nnew: wrong\n";
+    put(
+        "crates/one/must-fail/b.edit",
+        &format!("# Another.\n# Refused by `b`.\n{changes}"),
+    );
+    let list = |comment: &str| {
+        put(
+            "crates/one/must-fail/a.edit",
+            &format!("{comment}{changes}"),
+        );
+        list_of_edits(&tree)
+    };
+    for (comment, row) in [
+        (
+            "# An error.\n# Refused by `name`.\n",
+            "| `one/a` | An error. | `name` |",
+        ),
+        (
+            "# An error, as\n# a definition. It is wrong.\n# Refused by `name`, and\n# so `Other`.\n",
+            "| `one/a` | An error, as a definition. It is wrong. | `name`, and so `Other` |",
+        ),
+    ] {
+        let list = list(comment).unwrap();
+        let (_, rows) = list.split_once("|---|---|---|\n").unwrap();
+        assert_eq!(rows, format!("{row}\n| `one/b` | Another. | `b` |\n"));
+    }
+    for (comment, fault) in [
+        ("", "does not begin with an error"),
+        ("# An error.\n", "does not end with"),
+        ("# An error. Refused by `name`.\n", "does not end with"),
+        ("# Refused by `name`.\n", "does not begin with an error"),
+        (
+            "# An error\n# Refused by `name`.\n",
+            "does not begin with an error",
+        ),
+        ("# An error.\n# Refused by `name`\n", "does not end with"),
+        ("# An error.\n# Refused by name.\n", "does not end with"),
+        (
+            "# An error.\n# Refused by `name`.\n# Refused by `other`.\n",
+            "begins two lines",
+        ),
+        ("# An error | so.\n# Refused by `name`.\n", "has a bar"),
+        (
+            "# An error.\n# Refused by `name`.\nfile: src/lib.rt\n# A comment.\n",
+            "is not at its top",
+        ),
+    ] {
+        let faults = list(comment).unwrap_err();
+        let named = "tools/edits: crates/one/must-fail/a.edit: ";
+        let has = |line: &str| line.starts_with(named) && line.contains(fault);
+        assert!(faults.lines().any(has), "{comment}: {faults}");
+        assert!(!faults.contains("b.edit"), "{comment}: {faults}");
+    }
 }
 
 // ---- definitions and mentions
@@ -178,7 +238,7 @@ pub fn write(x: u64) -> u8
             is("Health", Kind::Type, ""),
         ]
     );
-    let header = "/* pbm_commented */\nuint8_t pbm_read(void); // pbm_behind\n";
+    let header = "/* pbm_commented */\nuint8_t pbm_read(void); // pbm_after\n";
     assert_eq!(names(of_header(header)), [is("pbm_read", Kind::Header, "")]);
 }
 

@@ -498,7 +498,7 @@ impl Case {
             .collect()
     }
 
-    /// Makes the call, its slices once behind a protected page and once before one, and sees that it gives this number; that a
+    /// Makes the call, its slices once after a protected page and once before one, and sees that it gives this number; that a
     /// refusal sets the numbers beside it to 0 and changes no byte, and that what is accepted answers and leaves what it should.
     fn gives(&self, number: u8, how: &str) {
         let lent = self.bytes();

@@ -1,4 +1,4 @@
-//! Request (d) of document 02: rebuilds in steps of every length, of every disk, before, in and behind growths, with tails and with no
+//! Request (d) of document 02: rebuilds in steps of every length, of every disk, before, in and after growths, with tails and with no
 //! whole group. What each step makes, counts and leaves alone; what blocks hold meanwhile, read and written at every count; the disk
 //! that fails again at every count, and another one; and a growth that stands still and then goes on.
 
@@ -166,7 +166,7 @@ impl Rebuild<'_> {
         assert!(left[loose.end..] == twin[loose.end..], "{what:?}");
     }
 
-    /// All steps, behind each of which every block is read, and what they leave.
+    /// All steps, after each of which every block is read, and what they leave.
     fn run(mut self, steps: impl IntoIterator<Item = u64>) -> Bytes {
         for k in steps {
             self.scribble();
@@ -237,7 +237,7 @@ fn steps_over_any_bytes() {
     });
 }
 
-/// At every count all blocks are written, each behind a scribble on what is not done, and read. What is left is what writes to a whole
+/// At every count all blocks are written, each after a scribble on what is not done, and read. What is left is what writes to a whole
 /// array leave.
 #[test]
 fn writes_at_every_count() {
@@ -313,7 +313,7 @@ fn another_disk_at_every_count() {
     });
 }
 
-/// "Grow and advance still see degraded.", and of a sweep request (g) says: "3 also while rebuilding". Behind the rebuild the growth goes
+/// "Grow and advance still see degraded.", and of a sweep request (g) says: "3 also while rebuilding". After the rebuild the growth goes
 /// on, and ends as one that had no disk out.
 #[test]
 fn a_growth_stands_still_at_every_count() {

@@ -1,6 +1,6 @@
-//! Request (g) of document 02, the stripe and the count: one bit off in every place, before, in and behind growths; several stripes;
+//! Request (g) of document 02, the stripe and the count: one bit off in every place, before, in and after growths; several stripes;
 //! errors that cancel each other; any images, and those of another layout, against a check that goes by the documents. That a sweep
-//! stops: the pages behind the stripe that it finds are closed. That what the library writes is sound, and what it rebuilds. Where
+//! stops: the pages after the stripe that it finds are closed. That what the library writes is sound, and what it rebuilds. Where
 //! images are in pages they are lent for reading alone: a byte of them that is written ends the run, as does one outside of them that
 //! is touched.
 
@@ -121,7 +121,7 @@ impl Cabinet {
         }
     }
 
-    /// No byte of the stripes behind this one may be touched, until `open`. Every place is a page.
+    /// No byte of the stripes after this one may be touched, until `open`. Every place is a page.
     fn close_behind(&mut self, stripe: u64) {
         for disk in 0..self.record.disks() {
             let behind = part(&self.record, disk, stripe + 1..self.record.stripes);
@@ -237,7 +237,7 @@ fn one_bit_off_in_every_place() {
 }
 
 /// Each byte of a block, for every short length, and every 13th of the longest ones, on each disk of stripe 1. Before a growth; with no
-/// move of the zone made, and with one; with more disks than are summed at once, in a growth and behind it.
+/// move of the zone made, and with one; with more disks than are summed at once, in a growth and after it.
 #[test]
 fn one_bit_off_in_every_byte() {
     let mut random = Random::new("one_bit_off_in_every_byte");
@@ -360,7 +360,7 @@ fn two_off(cabinet: &mut Cabinet, stripe: u64, disks: [u64; 2], bit: Bit) -> [Ro
 
 // ---- "The images may come from anywhere."
 
-/// A good record of a whole array, before, in or behind a growth, or right at the end of a zone.
+/// A good record of a whole array, before, in or after a growth, or right at the end of a zone.
 fn random_record(random: &mut Random) -> Record {
     let (n, m) = match random.below(8) {
         0 => (3 + random.below(14), random.below(17)),
@@ -515,7 +515,7 @@ const STOPPED: &[(Shape, u64)] = &[
     ((16, 16, 6), 0),
 ];
 
-/// A bit is off on these disks of the stripe, and all pages behind it are closed.
+/// A bit is off on these disks of the stripe, and all pages after it are closed.
 fn finds_before_closed(cabinet: &mut Cabinet, stripe: u64, disks: &[u64], bit: Bit) {
     for &disk in disks {
         cabinet.flip(stripe, disk, bit);
@@ -597,7 +597,7 @@ fn run_again(test: &str, name: &str, value: &str) -> Output {
 
 // ---- arrays that the library has made
 
-/// Writes the blocks from this one on; a sweep finds nothing before that and behind it. How many there are.
+/// Writes the blocks from this one on; a sweep finds nothing before that and after it. How many there are.
 fn write_new(random: &mut Random, array: &mut Array, first: u64) -> u64 {
     let record = array.record();
     let none = Answer::done(&[0, 0, record.stripes]);
@@ -609,7 +609,7 @@ fn write_new(random: &mut Random, array: &mut Array, first: u64) -> u64 {
     record.capacity()
 }
 
-/// Behind every move, and with every block written as it comes.
+/// After every move, and with every block written as it comes.
 #[test]
 fn nothing_is_found_in_a_growth() {
     let mut random = Random::new("nothing_is_found_in_a_growth");

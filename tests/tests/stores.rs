@@ -289,7 +289,7 @@ fn no_block_is_on_the_stack() {
     }
 }
 
-/// A call that does what a write may not is seen to do it: a continue has an array for block bytes, and it stores the record, behind
+/// A call that does what a write may not is seen to do it: a continue has an array for block bytes, and it stores the record, after
 /// the images.
 #[test]
 fn a_continue_is_seen_to_do_more() {
@@ -313,7 +313,7 @@ fn a_continue_is_seen_to_do_more() {
     assert!(stack[1] > stack[0] + 4000, "{stack:?}");
 }
 
-/// "does stripes in rising order", and the record behind them all, where that ends the rebuild too.
+/// "does stripes in rising order", and the record after them all, where that ends the rebuild too.
 #[test]
 fn a_continue_stores_in_rising_order() {
     let case = Case::new(BLOCKS[0], Out::Undone(Disk::Data), 64);
@@ -361,7 +361,7 @@ fn stores(call: &[Access], bytes: Range<u64>) -> impl Iterator<Item = usize> + '
 // ---- sweeps
 
 /// n, m, T and t: before a growth; in a growth with a tail, of few disks and of more than are summed at once, a zone finished and the
-/// next one begun; behind a growth that grow itself has ended.
+/// next one begun; after a growth that grow itself has ended.
 const SWEPT: [(u64, u64, u64, u64); 4] = [
     (3, 0, 3, 0),
     (5, 3, 41, 22),

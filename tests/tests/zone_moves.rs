@@ -170,7 +170,7 @@ fn every_byte_in_every_position() {
     }
 }
 
-/// Lines that are nearly good: numbers around the limits, and now and then another byte between or behind them.
+/// Lines that are nearly good: numbers around the limits, and now and then another byte between or after them.
 #[test]
 fn random_lines() {
     let mut random = Random::new("random_lines");

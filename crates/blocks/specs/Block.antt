@@ -6,7 +6,7 @@ use mathlib.Core.List.{List, [], _∷_}
 use lib.Dec.{eqb}
 use lib.ListN.{getD, take, drop, replicate}
 
--- each number of l is a byte
+-- each number of l is a byte. (A definition takes any numbers: where it matters this is a premise, which the code's types give.)
 abbrev pub AreBytes : List ℕ → Type 0
 AreBytes l = (i : ℕ) → getD l i 0 < 256
 
@@ -29,7 +29,7 @@ copiedTo l to m from len = store l to (blockAt m from len)
 abbrev pub zeros : ℕ → List ℕ
 zeros len = replicate len 0
 
--- is a block one of len zeroes?
+-- is a block one of len zeroes? One that ends too early is not.
 abbrev pub isZeros : ℕ → List ℕ → Bool
 isZeros zero [] = true
 isZeros zero (x ∷ b) = false

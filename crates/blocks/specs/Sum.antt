@@ -33,6 +33,6 @@ PartBegun x l b at n =
     GroupInside x (length b) (length l) × (at + n ≤ length b)
     × Begun x (blockAt b at n) (blockAt (sumTo (length b) l x (x .first)) at n)
 
--- b with these n bytes taken on to the sum behind the group
+-- b with these n bytes taken on to the sum after the group
 abbrev pub partAdded : Group → List ℕ → List ℕ → ℕ → ℕ → List ℕ
 partAdded x l b at n = copiedTo b at (sumTo (length b) l x (x .last)) at n

@@ -1,4 +1,5 @@
-// The xor of all places of a stripe but one disk's: the disks in groups, the block in pieces. A piece stays in registers from disk to disk.
+// The xor of all places of a stripe but one disk's: the disks in groups, the block in pieces. A piece stays in registers from disk to disk,
+// where a sum disk by disk would be loaded and stored again for each. The first group begins from zeroes: the block is not cleared before.
 ghost use mathlib.Core.Path.{_≡_};
 ghost use mathlib.Core.Bool.{cond};
 ghost use Prim.Native.Nat.{_+_, _*_, _≤_, _<_};
@@ -17,12 +18,13 @@ use crate::xor::xor_out;
 // The bytes that are summed at once: as many as there is room for in registers.
 pub(crate) const PIECE: usize = 128;
 
+// Half a piece, which serves blocks of 64 bytes.
 pub(crate) const HALF: usize = 64;
 
 // The disks that are read side by side: with more streams than these, reading gets slower.
 pub const GROUP: usize = 16;
 
-// Takes part, the bytes from at on of a block of len, from the sum before the group to the sum behind it.
+// Takes part, the bytes from at on of a block of len, from the sum before the group to the sum after it.
 pub(crate) fn add_disks(images: &[u8], x: Group, len: usize, at: usize, part: &mut [u8])
     requires { ⌜ GroupInside x len (length (now images)) × (at + length (now part) ≤ len)
         × (now part ≡ blockAt (sumTo len (now images) x (x .first)) at (length (now part))) ⌝ }
@@ -54,7 +56,7 @@ pub(crate) fn begin(block: &[u8], at: usize, first: usize, part: &mut [u8])
     load_bytes(block, at, part);
 }
 
-// Takes the bytes of block from at on, as many as piece has, from the sum before the group to the sum behind it, through piece.
+// Takes the bytes of block from at on, as many as piece has, from the sum before the group to the sum after it, through piece.
 fn add_through(images: &[u8], x: Group, at: usize, block: &mut [u8], piece: &mut [u8])
     requires { ⌜ PartBegun x (now images) (now block) at (length (now piece)) ⌝ }
     ensures { λ _. ⌜ now (block .exit) ≡ partAdded x (now (images .entry)) (now (block .entry)) at (length (now (piece .entry))) ⌝ }
@@ -114,7 +116,7 @@ fn add_group(images: &[u8], x: Group, block: &mut [u8])
     add_less(images, x, at, len - at, block);
 }
 
-// The disk behind the group that begins with disk d.
+// The disk after the group that begins with disk d.
 fn group_end(d: usize, disks: usize) -> usize
     requires { ⌜ d < disks ⌝ }
     ensures { λ e. ⌜ (d < e) × (e ≤ disks) ⌝ }

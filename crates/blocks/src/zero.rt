@@ -25,7 +25,7 @@ pub fn is_zero(source: &[u8], at: usize, len: usize) -> bool
     any == 0
 }
 
-// Are the bytes from at on, as many as piece has, zeroes in the sum behind the group? They are summed in piece.
+// Are the bytes from at on, as many as piece has, zeroes in the sum after the group? They are summed in piece.
 fn part_cancels(images: &[u8], x: Group, at: usize, block: &[u8], piece: &mut [u8]) -> bool
     requires { ⌜ PartBegun x (now images) (now block) at (length (now piece)) ⌝ }
     ensures { λ r. ⌜ r ≡ isZeros (length (now (piece .entry)))
@@ -75,7 +75,7 @@ fn rest_cancels(images: &[u8], x: Group, at: usize, block: &[u8]) -> bool
     less_cancels(images, x, rest, len - rest, block)
 }
 
-// Is all of the sum behind the group zero? Block has the sum of the disks before it; with no disk before it, it is not looked at.
+// Is all of the sum after the group zero? Block has the sum of the disks before it; with no disk before it, it is not looked at.
 pub fn cancels(images: &[u8], x: Group, block: &[u8]) -> bool
     requires { ⌜ GroupBegun x (now images) (now block) ⌝ }
     ensures zero { λ r. ⌜ r ≡

@@ -31,7 +31,7 @@ forms : (n B T len : ℕ) → Told (badGeometry (formable n B T) ∷ images (n *
 unfolding Told
 forms n B T len = (refl, unformable n B T, λ u. (refl, differ len (n * (T * B)), λ v. tt))
 
--- how the rows of many calls begin: 1, 2; A is what is told behind them
+-- how the rows of many calls begin: 1, 2; A is what is told after them
 module _ (r : Record) {A : Type 0} where
   here : (isLost (r .health) ≡ false → A)
       → (_≡_ {A = ℕ} 1 1) × Tells (not (good r)) (GoodRecord r → ⊥)

@@ -27,7 +27,7 @@ use Rattle.calls.specs.Alone.{movedOn}
 abbrev pub leftAt : Event → Record → ℕ → ℕ → List ℕ
 leftAt e r S d = placeIn r (act e r .images) S d
 
--- the record behind one move
+-- the record after one move
 abbrev pub oneMore : Record → Record
 oneMore r = withMoves r (suc (r .moves))
 
@@ -81,7 +81,7 @@ pub record Does (e : Event) (r : Record) : Type 0 where
   pub advance-answer : (k : ℕ) → e .call ≡ advance k → act e r .answer ≡ made (min k (totalOf (geometry r) - r .moves))
   pub advance-record : (k : ℕ) → e .call ≡ advance k
       → act e r .state ≡ withMoves r (r .moves + min k (totalOf (geometry r) - r .moves))
-  -- .. each move on what the one before left (`movedOn`, the images behind the next move: `OneMove`)
+  -- .. each move on what the one before left (`movedOn`, the images after the next move: `OneMove`)
   pub advance-none : e .call ≡ advance 0 → act e r .images ≡ e .images
   pub advance-next : (k : ℕ) → e .call ≡ advance (suc k) → let r′ = oneMore r in
       idle (geometry r′) ≡ false → act e r .images ≡ act (on (advance k) (movedOn r (e .images)) (e .room)) r′ .images

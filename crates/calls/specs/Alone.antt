@@ -32,7 +32,8 @@ StoresInside len (tells a) = Unit
 StoresInside len (fills shown room) = Unit
 StoresInside len (stores a shape ps) = Inside len (shape .block) (shape .stripes) ps
 
--- the calls that fill the lent block or scratch
+-- the calls that fill the lent block or scratch. (A set by its name: what is said of all other calls has one premise, however many they
+-- are, and does not follow the definition that it is about.)
 pub data FillsRoom : Call → Type 0 where
   read-fills : (b : ℕ) → FillsRoom (read b)
   view-fills : (b : ℕ) → FillsRoom (view b)
@@ -81,7 +82,7 @@ Alone = (e : Event) (r : Record) → refusalOf r (fed e) ≡ 0 → LeavesAlone e
 -- ---- a single move of an advance: "A move copies the block to its new place, then zeroes the place it left", and nothing else. (An
 -- advance makes one after the other: `InOrder` of Theorem.)
 
--- the images behind the next move
+-- the images after the next move
 abbrev pub movedOn : Record → List ℕ → List ℕ
 movedOn r img = storedIn r (moveStores r img) img
 

@@ -10,7 +10,7 @@ use Rattle.layout.specs.declared.Standing.{Standing}
 use Rattle.state.specs.declared.types.Health.{Health}
 use Rattle.state.specs.Bytes.{healthByte, diskByte, stripesDone}
 
--- a call with the numbers that it is given, and a write's data
+-- a call with the numbers that it is given, and a write's data, which the flat list is fed too
 pub data Call : Type 0 where
   format : (n B T : ℕ) → Call
   read : (b : ℕ) → Call
@@ -27,7 +27,7 @@ pub data Call : Type 0 where
   sweep : Call
 
 -- which call it is, whatever it is given: its place in document 01's list of calls (begin and continue stand where rebuild stood, those
--- that document 02 adds behind all), and its column in the tables over them
+-- that document 02 adds after all, so that no column moves for them), and its column in the tables over them
 abbrev pub column : Call → ℕ
 column (format n B T) = 0
 column (read b) = 1
@@ -54,7 +54,7 @@ pub record Event : Type 0 where
   pub images : List ℕ
   pub room : List ℕ
 
--- a call lent these (`[]` where it takes none)
+-- a call lent these (`[]` where it takes none). Events are made by `on` and `feed` alone: a field more is one line here
 abbrev pub on : Call → List ℕ → List ℕ → Event
 on c images room = record { call = c; images = images; room = room }
 
@@ -70,7 +70,7 @@ feed c images room = record { call = c; images = images; room = room }
 abbrev pub fed : Event → Fed
 fed e = feed (e .call) (length (e .images)) (length (e .room))
 
--- an answer: a refusal's number, or what the call reports
+-- an answer: a refusal's number, or what the call reports. (A sweep has two, each with the stripes read: no stripe can stand beside none.)
 pub data Answer : Type 0 where
   refused : ℕ → Answer
   done : Answer

@@ -90,7 +90,7 @@ advanceStores (suc k) r img =
       | false ↦ let ps = moveStores r img in ps ++ advanceStores k (recorded ps r) (storedIn r ps img)
     ]
 
--- a stripe's parity value behind the first i moves: "the bytes at the place where Layout, with the moves done so far, has its
+-- a stripe's parity value after the first i moves: "the bytes at the place where Layout, with the moves done so far, has its
 -- parity" (the stores of more moves begin with those of i: `InOrder` of Theorem)
 unfoldable pub parityAfter : ℕ → Record → List ℕ → ℕ → List ℕ
 parityAfter i r img S =
@@ -103,7 +103,8 @@ parityAfter i r img S =
 abbrev pub stripesMade : ℕ → Record → ℕ
 stripesMade k r = min k (r .stripes - stripesDone (r .health))
 
--- "does stripes in rising order": the disk in each as the xor of the others; then the record, with as many more done
+-- "does stripes in rising order": the disk in each as the xor of the others; then the record, with as many more done (with k = 0 the one
+-- that was lent)
 unfoldable pub continueStores : ℕ → Record → List ℕ → List Store
 continueStores k r img =
     let d = diskByte (r .health) in
@@ -138,12 +139,12 @@ effect (view b) r e =
 effect (write b v) r e = stores done r (writeStores r (e .images) b v)
 -- "given images of n + m disks, zeroes those behind the first n; sets m"
 effect (grow m) r e = stores done r (zeroDisks (r .block) (r .stripes) (r .old) m ++ header (grownBy r m) ∷ [])
--- "reports how many, which is t's rise"
+-- "reports how many, which is t's rise": read off the record that the stores leave
 effect (advance k) r e = let ps = advanceStores k r (e .images) in stores (made (recorded ps r .moves - r .moves)) r ps
 effect (out d) r e = stores done r (header (withHealth r (afterOut (r .health) d)) ∷ [])
 -- "begin (d), which changes the record only"
 effect (begin d) r e = stores done r (header (withHealth r (Rebuilding d 0)) ∷ [])
--- "and reports how many"
+-- "and reports how many": a number of its own, as at T the count is gone from the record left
 effect (continue k) r e = stores (made (stripesMade k r)) r (continueStores k r (e .images))
 -- "capacity, t, total, health"
 effect status r e = tells (figures (capacity (geometry r)) (r .moves) (totalOf (geometry r)) (r .health))
@@ -202,7 +203,7 @@ settle (suc k) kept acted = kept (suc k)
 unfoldable pub called : Event → Record → Left Record
 called e r = settle (refusalOf r (fed e)) (untouched e r) (act e r)
 
--- .. and on a record's bytes
+-- .. and on a record's bytes, which differs from it in refusal 1 alone
 abbrev pub sealed : Left Record → Left (List ℕ)
 sealed x = record { answer = x .answer; state = encode (x .state); images = x .images; room = x .room }
 

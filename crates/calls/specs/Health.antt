@@ -1,4 +1,5 @@
--- What the health of an array means for a disk, and what becomes of it.
+-- What the health of an array means for a disk, and what becomes of it. Where it is lost every disk counts as out: a call that would ask is
+-- refused before that, by 2.
 use Prim.Native.Nat.{ℕ}
 use mathlib.Core.Bool.{Bool, true, false, cond, _&&_}
 use lib.Dec.{eqb, leb}
@@ -31,8 +32,8 @@ isRebuilding (Out o) = false
 isRebuilding Lost = false
 isRebuilding (Rebuilding o c) = true
 
--- *Absent*: disk d counts as out in stripe S. Every read goes by this, and so do a write's stores. Document 02, (d): "Stripes below the
--- count use the disk as in service, others count it out".
+-- *Absent*: disk d counts as out in stripe S. Every read and view goes by this, and so do a write's stores and what may be lent. Document
+-- 02, (d): "Stripes below the count use the disk as in service, others count it out".
 abbrev pub absent : Health → ℕ → ℕ → Bool
 absent Whole S d = false
 absent (Out o) S d = eqb d o

@@ -21,7 +21,7 @@ pub record Sound (r : Record) (img : List ℕ) (S : ℕ) : Type 0 where
   pub xor : xorAll (r .block) (seenStripe r img S (disksOf r)) ≡ zeros (r .block)
   pub blanks : (d : ℕ) → d < disksOf r → layout (geometry r) .owner S d ≡ Blank → seen r img S d ≡ zeros (r .block)
 
--- ---- the same as a test (that it is the same: `Sweeps.tested` of Sweep)
+-- ---- the same as a test, which a list needs, where a promise reads better as facts (that it is the same: `Sweeps.tested` of Sweep)
 
 -- are the blanks of stripe S on the first k disks zero?
 unfoldable pub blanksZero : Record → List ℕ → ℕ → ℕ → Bool

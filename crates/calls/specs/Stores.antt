@@ -1,4 +1,5 @@
--- Stores in bare numbers: what a list of them leaves of images and record, and which stores a call makes, in order. (That each move of an
+-- Stores in bare numbers: what a list of them leaves of images and record, and which stores a call makes, in order. They are said of the
+-- call: of a list that it is meant to make a statement would say nothing once the call makes another. (That each move of an
 -- advance is made on what the one before left is `InOrder` of Theorem; a continue's stripes in rising order are `InRisingOrder`.)
 -- The statements are `Storing` and `StoresInOrder`; `storing` and `stores-in-order` of proofs/Stores.antt prove them.
 use Prim.Native.Nat.{ℕ, zero, suc, _+_, _-_, _*_, _≤_, _<_, min}

@@ -1,5 +1,6 @@
 -- What the list of unsound stripes is, of which a sweep answers the head, for every record and all images: document 02, (g). (What a sweep
--- answers is `Does.sweep-first` and `sweep-none` of Acts.)
+-- answers is `Does.sweep-first` and `sweep-none` of Acts.) And `Sound` byte by byte: all that is said of sweeps goes by that name, so that
+-- a weaker one, with code to match, would pass it.
 -- The statement is `Sweeps`; `sweeps` of proofs/Sweep.antt proves it.
 use Prim.Native.Nat.{ℕ, zero, suc, _+_, _*_, _<_}
 use mathlib.Core.Path.{_≡_}
@@ -55,7 +56,7 @@ pub record Sweeps : Type 0 where
       Sound r img S
       ↔ (((j : ℕ) → j < r .block → xorOf N (byteAt r img S j) ≡ 0)
       × ((d j : ℕ) → d < N → j < r .block → layout (geometry r) .owner S d ≡ Blank → byteAt r img S j d ≡ 0))
-  -- It is a matter of its own places: what stands in the stripes behind the first unsound one is none for the answer. ("The sweep stops
+  -- It is a matter of its own places: what stands in the stripes after the first unsound one is none for the answer. ("The sweep stops
   -- there": that they are not looked at either no contract can say.)
   pub own-places : (r : Record) (img img′ : List ℕ) (S : ℕ) → r .health ≡ Whole
       → ((d : ℕ) → d < r .old + r .new → placeIn r img′ S d ≡ placeIn r img S d) → Sound r img S → Sound r img′ S

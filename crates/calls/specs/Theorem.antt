@@ -31,7 +31,7 @@ pub record Given (rows : List Row) : Type 0 where
   pub given : (before after : List Row) (k : ℕ) (holds : Bool) → rows ≡ before ++ (k, holds) ∷ after
       → (word rows ≡ k) ↔ ((holds ≡ true) × NoneHolds before)
   pub zero : (word rows ≡ 0) ↔ NoneHolds rows
-  -- what stands before a row has lower numbers, what stands behind it higher ones
+  -- what stands before a row has lower numbers, what stands after it higher ones
   pub rising : (before middle after : List Row) (x y : Row) → rows ≡ before ++ x ∷ (middle ++ y ∷ after) → x .0 < y .0
 
 -- what is claimed of one call e, lent a record of the bytes b ..
@@ -66,15 +66,15 @@ rising S zero f = []
 rising S (suc k) f = f S ∷ rising (suc S) k f
 
 -- "does stripes in rising order until k are done or none is left" (document 02, (d)): the stores of a continue are those of the disk's next
--- stripes, each once, and behind them all the record that it leaves. (`in-rising-order`)
+-- stripes, each once, and after them all the record that it leaves. (`in-rising-order`)
 abbrev pub InRisingOrder : Type 0
 InRisingOrder =
     (k o c : ℕ) (r : Record) (img : List ℕ) → r .health ≡ Rebuilding o c →
     let ps = continueStores k r img in
     ps ≡ rising c (min k (r .stripes - c)) (λ S. block S o (othersIn r img S o)) ++ header (recorded ps r) ∷ []
 
--- And i + k stripes at once are i, and then k more on what the first leave: the same images and the same record, and the counts add up.
--- (`in-steps`)
+-- And i + k stripes at once are i, and then k more on what the first leave: the same images and the same record, and the counts add up. No
+-- document asks for it: a controller that picks k counts on it. (`in-steps`)
 abbrev pub InSteps : Type 0
 InSteps =
     (i k o c : ℕ) (r : Record) (img : List ℕ) → r .health ≡ Rebuilding o c → c + i < r .stripes →

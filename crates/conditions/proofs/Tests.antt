@@ -1,4 +1,4 @@
--- What tests show, alone and one behind the other. Assumes nothing.
+-- What tests show, alone and one after the other. Assumes nothing.
 use Prim.Native.Nat.{ℕ, _<_}
 use mathlib.Core.Path.{_≡_, refl, sym, _∙_}
 use mathlib.Core.Bool.{Bool, true, false, not, _&&_, _||_}

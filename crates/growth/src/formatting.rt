@@ -12,7 +12,8 @@ use refusals::of_format;
 use state::Record;
 use state::formatted;
 
-// The call once the table lets it through: zeroes everywhere, and a record anew.
+// The call once the table lets it through: zeroes everywhere, and a record anew. (One run of bytes, where the definition has a store for
+// each block: that it is the same is `zeroed` of crate `calls`.)
 fn clear(images: &mut [u8], n: u64, block: u64, stripes: u64) -> Changed
     requires { ⌜ ((r : Record) → refusalOf r (feed (format n block stripes) (length (now images)) 0) ≡ 0) ⌝ }
     ensures answer { λ x. ⌜ ((r : Record) → changedAnswer x ≡ act (on (format n block stripes) (now (images .entry)) []) r .answer) ⌝ }

@@ -12,7 +12,7 @@ use refusals::of_grow;
 use state::Record;
 use state::grown_by;
 
-// The call once the table lets it through.
+// The call once the table lets it through. (Zeroes as one run, as in a format.)
 fn attach_disks(r: Record, images: &mut [u8], m: u64) -> Changed
     requires { ⌜ refusalOf r (feed (grow m) (length (now images)) 0) ≡ 0 ⌝ }
     ensures answer { λ x. ⌜ changedAnswer x ≡ act (on (grow m) (now (images .entry)) []) r .answer ⌝ }

@@ -28,7 +28,7 @@ abbrev pub zeroBlocks : ℕ → ℕ → List (List ℕ)
 zeroBlocks c B = replicate c (zeros B)
 
 -- the length that the list has by its numbers: T × (n − 1) blocks; (n + m) × m more for each finished zone, of which t div (n × m) are,
--- and once t is the total T × m more in all
+-- and once t is the total T × m more in all. A formula of its own: that it is the layout's `capacity` is shown of each step
 abbrev pub reached : Record → ℕ
 reached r =
     r .stripes * (r .old - 1)

@@ -49,7 +49,7 @@ takes c r = terms c r .takes
 unfoldable pub Keeps : Record → List ℕ → List ℕ → Type 0
 Keeps r left lent = (S d : ℕ) → S < r .stripes → d < disksOf r → absent (r .health) S d ≡ false → placeIn r lent S d ≡ placeIn r left S d
 
--- images of the length asked for are those left, with any bytes behind; images of another length are any
+-- images of the length asked for are those left, with any bytes after them; images of another length are any
 abbrev pub Lent : Takes → Record → List ℕ → List ℕ → Type 0
 Lent nothing r left lent = Unit
 Lent (anything len) r left lent = Unit

@@ -63,8 +63,8 @@ pub record Claim {R : Type 0} (x : Form R) (e : Event) (a : Cabinet R) (f : Flat
       → (leaves x e a .state ≡ a .rec) × (leaves x e a .images ≡ e .images) × (leaves x e a .room ≡ e .room)
   -- "After a refused call the next is lent what stood before it"
   pub stays : accepted (leaves x e a .answer) ≡ false → next x e a ≡ a
-  -- "Each move that an advance makes leaves them the same, wherever the parity then stands": the one behind the first i, in every stripe;
-  -- behind none stand the images lent, behind the last of them those left
+  -- "Each move that an advance makes leaves them the same, wherever the parity then stands": the one after the first i, in every stripe;
+  -- after none stand the images lent, after the last of them those left
   pub parity : let r = x .decoded (a .rec) in
       (k i S : ℕ) → e .call ≡ advance k → accepted (leaves x e a .answer) ≡ true → S < r .stripes
       → parityAfter (suc i) r (e .images) S ≡ parityAfter i r (e .images) S
@@ -81,7 +81,7 @@ pub record Claim {R : Type 0} (x : Form R) (e : Event) (a : Cabinet R) (f : Flat
   -- what stands after a call is as long as the record left says: it may be lent to the next one (`FreeToLend.what-stands`)
   pub long : length (next x e a .img) ≡ size (x .decoded (leaves x e a .state))
   -- "Our service bench reads drawers from a stopped line by the published layout": the place where Layout has block b, seen through a disk
-  -- that is out, holds the flat list's block b; and "capacity is that list's length"
+  -- that is out, holds the flat list's block b (where health is lost there is nothing to say); and "capacity is that list's length"
   pub capacity-is : capacity (geometry (x .decoded (leaves x e a .state))) ≡ length (flatStep (fed e) f .1 .blocks)
   pub bench : let r = x .decoded (leaves x e a .state) in
       isLost (r .health) ≡ false → (b : ℕ) → b < capacity (geometry r) →
@@ -106,7 +106,7 @@ Demand3On {R} x =
     (a : Cabinet R) (f : Flat) (sum n B T : ℕ) (img room : List ℕ) → accepted (leaves x (opening n B T img room) a .answer) ≡ true
     → (es : List Event) → Claims x (opening n B T img room ∷ es) a f sum
 
--- of calls on a record's bytes, as the line controller makes them, and of calls on a record
+-- of calls on a record's bytes, as the line controller makes them, and of calls on a record, which follows by `OnBytes` of crate `calls`
 abbrev pub Demand3 : Type 0
 Demand3 = Demand3On asBytes × Demand3On asRecord
 
@@ -143,7 +143,7 @@ pub record HandedOn : Type 0 where
 -- ---- what the premise leaves a lender free to do: e is the call, r the numbers that it is lent images by, left the images that stand
 
 pub record FreeToLend (e : Event) (r : Record) (left : List ℕ) : Type 0 where
-  -- what stands, with or without bytes behind it
+  -- what stands, with or without bytes after it
   pub what-stands : (behind : List ℕ) → length left ≡ size r → e .images ≡ left ++ behind → Lends e r left
   -- "Format may be lent any images instead"
   pub any-format : (n B T : ℕ) → e .call ≡ format n B T → Lends e r left
@@ -188,7 +188,7 @@ FlatListOn {R} x =
 abbrev pub FlatList : Type 0
 FlatList = FlatListOn asBytes × FlatListOn asRecord
 
--- ---- a controller that lends each call what stands, with any bytes behind it, is fair: any list of calls has such a history
+-- ---- a controller that lends each call what stands, with any bytes after it, is fair: any list of calls has such a history
 
 unfoldable pub LentAsLeft : {R : Type 0} → Form R → List Event → Cabinet R → Type 0
 LentAsLeft x [] a = Unit
@@ -230,7 +230,7 @@ NotGiven b (e ∷ es) f =
     × ((v : List ℕ) → e .call ≡ write b v → accepted (y .0) ≡ false)
     × NotGiven b es (y .1)
 
--- the flat list behind a list of calls
+-- the flat list after a list of calls
 unfoldable pub behind : List Fed → Flat → Flat
 behind [] f = f
 behind (e ∷ es) f = behind es (flatStep e f .1)

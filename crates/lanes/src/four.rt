@@ -1,4 +1,4 @@
-// Four lanes, one behind the other: loaded from a slice, xored and stored.
+// Four lanes, one after the other: loaded from a slice, xored and stored.
 ghost use mathlib.Core.Path.{_≡_};
 ghost use Prim.Native.Nat.{_+_, _≤_};
 ghost use lib.ListN.{length};

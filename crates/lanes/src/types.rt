@@ -18,7 +18,7 @@ pub struct Lane {
     pub b15: u8,
 }
 
-// Four lanes, one behind the other.
+// Four lanes, one after the other.
 pub struct Quad {
     pub a: Lane,
     pub b: Lane,

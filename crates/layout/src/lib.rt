@@ -40,6 +40,7 @@ pub struct Move {
 }
 
 // A move, with what it takes to count on to the next: its index, its lag i, and the disk that the move with lag 0 to its new disk leaves.
+// By the index a contract says which move it is at, with no ghost argument.
 pub struct Cursor {
     pub index: u32,
     pub lag: u32,

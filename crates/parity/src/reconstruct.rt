@@ -1,6 +1,9 @@
 // A write whose disk is out, folded into the parity straight from the other disks (a reconstruct-write): the bytes xor the places of all
 // disks but two. No byte of a block is held but in registers, and each byte of the parity is stored once. A sum is called at one place
-// alone, so that the compiler puts it there and keeps its struct of bytes in registers: hence one for each width.
+// alone, so that the compiler puts it there and keeps its struct of bytes in registers: hence one for each width. Called at two places, it
+// would have all go through memory: so reads and rebuilds, which sum into a lent block, cannot share it. Four lanes spread the cost of the
+// loop over the disks. Eight were faster in cache, slower out of it with 32 disks, and one more copy of it all. That the loops over 64, 16
+// and single bytes follow each other, and are no choice in one loop, is for speed too.
 ghost use mathlib.Core.Path.{_≡_};
 ghost use mathlib.Core.List.{[], _∷_};
 ghost use mathlib.Core.Logic.{_≢_};
@@ -137,7 +140,8 @@ fn fold_bytes(images: &mut [u8], g: Gapped, bytes: &[u8], first: usize)
 }
 
 // Folds a write of bytes to the place of stripe s on disk `out` into the parity, the stripe's place on disk `parity`: the xor of the other
-// disks stands for the old block, and the old parity, which is one of them, cancels. The bytes themselves are not stored.
+// disks stands for the old block, and the old parity, which is one of them, cancels. The bytes themselves are not stored. (It cancels only
+// if the two disks differ. That no block stands on its parity's disk the caller has from crate `layout`.)
 pub fn fold_others(
     images: &mut [u8],
     disks: usize,

@@ -28,6 +28,7 @@ pub extern "C" fn pbm_format(
     if rec.len() != RECORD_LENGTH {
         return RECORD;
     }
+    // (decoded for the answer in numbers: nothing is done with what it says, and the compiler leaves it out)
     let s = stepped(decode(rec), growth::format(images, n, block, stripes));
     close(rec, s.rec, s.number)
 }

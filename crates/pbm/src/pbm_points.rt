@@ -1,4 +1,4 @@
-// Scan points, packed before a write and unpacked behind a read. They are lent no record and no images.
+// Scan points, packed before a write and unpacked after a read. They are lent no record and no images.
 ghost use mathlib.Core.Path.{_≡_};
 ghost use Rattle.points.specs.Answer.{answer, filled};
 ghost use Rattle.points.specs.Points.{packed, unpacked};

@@ -81,7 +81,7 @@ fn disk_lift(n: u32, m: u32, x: Stripe, e: u32) -> u32
     lift(n, m, x, r, e < n, e <= x.home, e < x.within)
 }
 
-// Have all moves of the stripe's zone been made?
+// Have all moves of the stripe's zone been made? (With no division, as the stripe is taken apart.)
 pub(crate) fn is_settled(n: u32, m: u32, t: u32, x: Stripe) -> bool
     requires { ⌜ TakenApart n m x ⌝ }
     ensures { λ r. ⌜ r ≡ leb (settled n m (x .number)) t ⌝ }

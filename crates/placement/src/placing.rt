@@ -1,4 +1,5 @@
-// The layout of the whole array: its numbers, places and owners.
+// The layout of the whole array: its numbers, places and owners. The place of a block takes three divisions, an owner two, and the total,
+// where it is asked for, one more. (Before a growth a case for m = 0 would save one. It is left out, so that the functions stay short.)
 ghost use Prim.Native.Nat.{_*_, _<_};
 ghost use mathlib.Core.Path.{_≡_};
 ghost use mathlib.Core.Bool.{false};
@@ -28,7 +29,8 @@ use layout::Slot;
 use layout::Standing;
 use layout::Stripe;
 
-// The moves of the growth: those of its whole groups. With no whole group there is none.
+// The moves of the growth: those of its whole groups. With no whole group there is none. It is formed here alone, by one division: as
+// only whole groups count, to compare products will not do.
 pub fn total_of(g: Geometry) -> u32
     requires { ⌜ Sized g ⌝ }
     ensures { λ r. ⌜ r ≡ totalOf g ⌝ }
@@ -90,7 +92,8 @@ pub fn capacity_of(g: Geometry) -> u32
     old_blocks(g) + open_stripes(g) * g.new
 }
 
-// Is b below the capacity? (Only a new block has to be asked how many there are, and only in mid-growth does that take a division.)
+// Is b below the capacity? (Only a new block has to be asked how many there are, and only in mid-growth does that take a division. The zone
+// of its stripe would tell without one; but test and place would then be one function, too long to become part of each call.)
 pub fn has_block(g: Geometry, b: u64) -> bool
     requires { ⌜ GoodArray g ⌝ }
     ensures { λ r. ⌜ r ≡ ltb b (capacity g) ⌝ }
@@ -178,7 +181,7 @@ pub fn place_of(g: Geometry, b: u64, y: Slot) -> Standing
     }
 }
 
-// Is stripe x open: are its blanks new blocks? Its zone is finished, or the growth is over.
+// Is stripe x open: are its blanks new blocks? Its zone is finished, or the growth is over. (With no division for the zone.)
 fn is_open(g: Geometry, x: Stripe) -> bool
     requires { ⌜ GoodArray g × TakenApart (g .old) (g .new) x × (x .number < g .stripes) ⌝ }
     ensures { λ r. ⌜ r ≡ ltb (x .number) (openStripes g) ⌝ }
@@ -189,7 +192,8 @@ fn is_open(g: Geometry, x: Stripe) -> bool
     is_settled(g.old, g.new, g.moves, x)
 }
 
-// What disk e of stripe x holds, coded, if nothing of before the growth.
+// What disk e of stripe x holds, coded, if nothing of before the growth. It is picked: in mid-growth it cannot be foretold whether the zone
+// of a place is finished. So the blanks are counted for any stripe.
 fn new_code(g: Geometry, x: Stripe, e: u32) -> u32
     requires { ⌜ GoodArray g × TakenApart (g .old) (g .new) x × (x .number < g .stripes) × (e < disks g) ⌝ }
     ensures { λ r. ⌜ (taken (g .old) (g .new) (g .moves) (x .number) e ≡ false → r ≡ code (newOwner g (x .number) e)) ⌝ }

@@ -41,7 +41,8 @@ fn fill_disk(r: Record, images: &mut [u8], d: u64, first: usize, count: usize, b
     }
 }
 
-// The same, with a block of its own to sum into: a short one where that will do, since each call clears it.
+// The same, with a block of its own to sum into: a short one where that will do, since each call clears it. (It is lent to the function
+// that does the work: 4,096 elements in a goal would be dear.)
 fn fill_disk_alone(r: Record, images: &mut [u8], d: u64, first: usize, count: usize)
     requires { ⌜ GoodRecord r × (d < disksOf r) × (first + count ≤ r .stripes) × (length (now images) ≡ size r) ⌝ }
     ensures images { λ _. ⌜ now (images .exit) ≡

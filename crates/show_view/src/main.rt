@@ -1,5 +1,5 @@
 // Shows `view`, the one call that is not exported to C, in its cases: on document 01's array of 3 disks and 15 stripes that grows by 2
-// disks, with blocks of 4 bytes. A line says what was lent, the number, the view, and what the scratch holds behind the call. All calls but
+// disks, with blocks of 4 bytes. A line says what was lent, the number, the view, and what the scratch holds after the call. All calls but
 // the writes are those of `lent`, through `viewer`.
 ghost use mathlib.Core.Path.{_≡_};
 ghost use lib.ListN.{length};
@@ -18,7 +18,8 @@ use viewer::view;
 use viewer::without;
 use viewer::write_marks;
 
-// One view; what it leaves of the scratch is returned. The number is 255 before the call, which no call answers.
+// One view; what it leaves of the scratch is returned: a function that returns something of that lifetime needs no walk by hand in its
+// proof. The number is 255 before the call, which no call answers.
 fn show_one<'a>(scratch: &'a mut [u8], r: Record, images: &'a [u8], b: u64) -> &'a [u8] {
     let mut left = images;
     let mut number = 255u8;
@@ -119,7 +120,7 @@ fn show_moves(five: Record, images: &mut [u8]) -> Record {
     three
 }
 
-// The sixth move is the last of its zone: behind it there is a block 30, in stripe 0 on disk 3.
+// The sixth move is the last of its zone: after it there is a block 30, in stripe 0 on disk 3.
 fn show_zone_end(three: Record, images: &mut [u8]) -> Record {
     let five = moved(three, images, 2);
     show(five, images, 30, b"5 moves made");

@@ -63,7 +63,7 @@ pub record GoodIs : Type 0 where
   pub bytes : (b : List ℕ) → AreBytes b → length b ≡ 20
       → (goodBytes b ≡ true) ↔ ((r : Record) × (good r ≡ true) × (encode r ≡ b))
 
--- What every field is behind each update. One equation holds them all: a field more, and these lines have to say what becomes of it.
+-- What every field is after each update. One equation holds them all: a field more, and these lines have to say what becomes of it.
 pub record Updates : Type 0 where
   -- "record whole, m = t = 0"; n, B, T as given
   pub formatted-is : (n B T : ℕ) → formatted n B T ≡ record { old = n; new = 0; health = Whole; block = B; stripes = T; moves = 0 }

@@ -1,4 +1,5 @@
--- The records that calls leave. No other definition makes a record, but `decode`, and the flat list, whose text is its own.
+-- The records that calls leave. No other definition makes a record, but `decode`, and the flat list, whose text is its own. A field more is
+-- said here, in `decode` and `encode`, in `Updates` of Theorem and in the flat list.
 use Prim.Native.Nat.{ℕ}
 use Rattle.state.specs.declared.types.Health.the-variants.{Whole}
 use Rattle.state.specs.declared.types.Health.{Health}

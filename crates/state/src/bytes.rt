@@ -1,4 +1,5 @@
-// The record's bytes, in and out. Reading tests nothing: `is_plain` and `is_good` are apart, so that no caller tests twice.
+// The record's bytes, in and out. Reading tests nothing: `is_plain` and `is_good` are apart, so that no caller tests twice. Offsets are
+// bare numbers, as in `RoundTrip.offsets`: a named one would ask for a proof of each sum, and save no edit.
 ghost use mathlib.Core.Path.{_≡_};
 ghost use lib.ListN.{length};
 ghost use Rattle.state.specs.Bytes.{recordLength, doneFrom, healthOf, decode, healthPlain, plain};

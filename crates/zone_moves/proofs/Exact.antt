@@ -45,7 +45,7 @@ line-zone n m z rest l =
 
 -- ---- what is read is meant
 
--- a text and a rest are the text and what stands behind it
+-- a text and a rest are the text and what stands after it
 behind : (s t rest : List ℕ) → s ≡ t ++ rest → s ≡ t ++ drop (length t) s
 behind s t rest e = e ∙ ap (λ (l : List ℕ). t ++ l) (sym (ap (drop (length t)) e ∙ drop-append-seam t rest))
 

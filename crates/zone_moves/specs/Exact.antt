@@ -22,7 +22,7 @@ pub record ZoneMoves (n m z : ℕ) (ks : List ℕ) : Type 0 where
   pub all : (k : ℕ) → moveZone n m k ≡ z → (j : ℕ) × (j < length ks) × (getD ks j 0 ≡ k)
   pub rising : (i j : ℕ) → i < j → j < length ks → getD ks i 0 < getD ks j 0
 
--- the number that digits say, behind those that said x
+-- the number that digits say, after those that said x
 unfoldable pub said : ℕ → List ℕ → ℕ
 said x [] = x
 said x (d ∷ ds) = said (10 * x + (d - 48)) ds
@@ -91,7 +91,7 @@ pub record Examples : Type 0 where
   pub past-limits :
       (answer (asks 3 2 3) ≡ refusal) × (answer (asks 2 1 0) ≡ refusal) × (answer (text (1 ∷ 7 ∷ sp ∷ 1 ∷ sp ∷ 0 ∷ lf ∷ [])) ≡ refusal) ×
       (answer (asks 3 0 0) ≡ refusal) × (answer (text (3 ∷ sp ∷ 1 ∷ 7 ∷ sp ∷ 0 ∷ lf ∷ [])) ≡ refusal)
-  -- a leading zero; no line feed; two spaces; a space before it, and behind it; a return before the line feed; two numbers; nothing
+  -- a leading zero; no line feed; two spaces; a space before it, and after it; a return before the line feed; two numbers; nothing
   pub other-lines :
       (answer (text (0 ∷ 3 ∷ sp ∷ 2 ∷ sp ∷ 1 ∷ lf ∷ [])) ≡ refusal) × (answer (text (3 ∷ sp ∷ 2 ∷ sp ∷ 1 ∷ [])) ≡ refusal) ×
       (answer (text (3 ∷ sp ∷ sp ∷ 2 ∷ sp ∷ 1 ∷ lf ∷ [])) ≡ refusal) × (answer (text (sp ∷ 3 ∷ sp ∷ 2 ∷ sp ∷ 1 ∷ lf ∷ [])) ≡ refusal) ×
@@ -99,7 +99,7 @@ pub record Examples : Type 0 where
       (answer (text (3 ∷ sp ∷ 2 ∷ lf ∷ [])) ≡ refusal) × (answer [] ≡ refusal)
 
 pub record Exact : Type 0 where
-  -- a line with numbers in the limits asks for their zone, whatever stands behind it
+  -- a line with numbers in the limits asks for their zone, whatever stands after it
   pub reads : (n m z : ℕ) (rest : List ℕ) → Limited n m z → requestOf (line n m z ++ rest) ≡ Zone n m z
   -- and is answered by the lines of that zone's moves
   pub zone : (n m z : ℕ) (rest : List ℕ) → Limited n m z
@@ -110,7 +110,7 @@ pub record Exact : Type 0 where
   pub refused : (s : List ℕ) → ((n m z : ℕ) (rest : List ℕ) → Limited n m z → s ≢ line n m z ++ rest) → answer s ≡ refusal
   -- nine bytes of the input are enough
   pub first-nine : (s : List ℕ) → answer (take 9 s) ≡ answer s
-  -- what stands behind a line feed does not matter
+  -- what stands after a line feed does not matter
   pub first-line : (s : List ℕ) (k : ℕ) → getD s k 0 ≡ 10 → answer (take (k + 1) s) ≡ answer s
   -- the limits: "n, the old disks, is 3 to 16; m, the new ones, 1 to 16", "z from 0 to n − 1"
   pub limits : (n m z : ℕ) → Limited n m z ↔ ((3 ≤ n) × (n ≤ 16) × (1 ≤ m) × (m ≤ 16) × (z < n))

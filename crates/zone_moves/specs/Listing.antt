@@ -10,7 +10,7 @@ use Rattle.zone_moves.specs.declared.parse.Request.{Request}
 use Rattle.zone_moves.specs.Decimal.{decimal}
 use Rattle.zone_moves.specs.Request.{requestOf}
 
--- the number x, with the byte `stop` behind it
+-- the number x, with the byte `stop` after it
 unfoldable pub column : ℕ → ℕ → List ℕ
 column x stop = decimal x ++ (stop ∷ [])
 
@@ -20,7 +20,7 @@ unfoldable pub moveLine : ℕ → ℕ → ℕ → List ℕ
 moveLine n m k =
     column k 32 ++ column (moveZone n m k) 32 ++ column (moveWithin n m k) 32 ++ column (moveFrom n m k) 32 ++ column (moveTo n m k) 10
 
--- the lines of some moves, one behind the other; a move is given by its index
+-- the lines of some moves, one after the other; a move is given by its index
 unfoldable pub linesOf : ℕ → ℕ → List ℕ → List ℕ
 linesOf n m [] = []
 linesOf n m (k ∷ ks) = moveLine n m k ++ linesOf n m ks
@@ -51,7 +51,7 @@ answer s = answered (requestOf s)
 unfoldable pub written : List ℕ → ℕ → List ℕ → List ℕ
 written out at text = take at out ++ text ++ drop (at + length text) out
 
--- a text was stored in `out` from position `at` on, which left `after`; `next` is the position behind the text
+-- a text was stored in `out` from position `at` on, which left `after`; `next` is the position after the text
 pub record Stored (out : List ℕ) (at : ℕ) (text after : List ℕ) (next : ℕ) : Type 0 where
   pub is : after ≡ written out at text
   pub place : next ≡ at + length text

@@ -1,4 +1,4 @@
--- What a line asks for. A byte behind the end of a line counts as 0, which is no digit, no space and no line feed.
+-- What a line asks for. A byte after the end of a line counts as 0, which is no digit, no space and no line feed.
 use Prim.Native.Nat.{ℕ, _+_, _-_, _*_, _<_}
 use mathlib.Core.Bool.{Bool, cond, not, _&&_}
 use mathlib.Core.List.{List}
@@ -23,7 +23,7 @@ fieldOf a b c at stop =
     (cond (not (eqb a 48) && isDigit b && eqb c stop) (Number (10 * (a - 48) + (b - 48)) (at + 3)) Bad))
     Bad
 
--- the number of one or two digits at a position, no leading zero, with the byte `stop` behind it. Every limit is below 100, so a longer
+-- the number of one or two digits at a position, no leading zero, with the byte `stop` after it. Every limit is below 100, so a longer
 -- number is outside it
 unfoldable pub fieldAt : List ℕ → ℕ → ℕ → Field
 fieldAt s at stop = fieldOf (getD s at 0) (getD s (at + 1) 0) (getD s (at + 2) 0) at stop

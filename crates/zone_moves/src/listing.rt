@@ -40,7 +40,8 @@ fn put_lines(out: &mut [u8], n: u32, m: u32, first: u32, count: u32) -> usize
     at
 }
 
-// Stores the answer to an input at the start of out, and answers its length. A zone has at most 256 lines of at most 17 bytes.
+// Stores the answer to an input at the start of out, and answers its length. A zone has at most 256 lines of at most 17 bytes: the type of
+// out gives that room, and no `requires` is left for a caller to see to.
 pub fn answer_to(input: &[u8], out: &mut [u8; 4352]) -> usize
     ensures { λ r. ⌜ r ≡ length (answer (now (input .entry))) ⌝ }
     ensures { λ _. ⌜ now (out .exit) ≡ written (now (out .entry)) 0 (answer (now (input .entry))) ⌝ }

@@ -23,8 +23,9 @@ fn answer_buffer() -> [u8; 4352]
     [0; 4352]
 }
 
-// Reads up to and with a line feed, and no further: to the end of the input or of `line` where none comes. Answers how many bytes it put
-// at the start of `line`. Which they are is left open, as no contract knows the input: it says that they fit. The rest is run.
+// Reads up to and with a line feed, and no further, so that a line typed at a terminal is answered at once: to the end of the input or of
+// `line` where none comes. A read that fails counts as the end. Answers how many bytes it put at the start of `line`. Which they are is
+// left open, as no contract knows the input: it says that they fit. The rest is run.
 fn read_line(line: &mut [u8]) -> usize
     ensures { λ r. ⌜ Counts r (now (line .exit)) ⌝ }
 {
@@ -49,5 +50,6 @@ fn main() {
     let n = read_line(&mut line);
     let mut out = answer_buffer();
     let k = listing::answer_to(&line[..n], &mut out);
+    // (a write that fails is not reported: a program has no exit status)
     io::write_all(STDOUT_FILENO, &out[..k]);
 }

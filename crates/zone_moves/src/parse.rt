@@ -4,7 +4,7 @@ ghost use mathlib.Core.Path.{_≡_};
 ghost use lib.ListN.{getD};
 ghost use Rattle.zone_moves.specs.Request.{isDigit, inLimits, fieldOf, fieldAt, requestOf};
 
-// What stands at a position: a number, with the position behind the byte that ends it, or none.
+// What stands at a position: a number, with the position after the byte that ends it, or none.
 pub enum Field {
     Number { value: u32, next: usize },
     Bad,
@@ -16,7 +16,7 @@ pub enum Request {
     Refused,
 }
 
-// The byte at i, and 0 behind the end.
+// The byte at i, and 0 after the end.
 fn byte_at(s: &[u8], i: usize) -> u8
     ensures { λ r. ⌜ r ≡ getD (now (s .entry)) i 0 ⌝ }
 {

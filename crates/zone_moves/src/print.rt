@@ -1,4 +1,4 @@
-// Text stored in a lent buffer. Each function stores from `at` on, and answers the position behind what it stored.
+// Text stored in a lent buffer. Each function stores from `at` on, and answers the position after what it stored.
 ghost use Prim.Native.Nat.{_+_, _≤_, _<_};
 ghost use mathlib.Core.Path.{_≡_};
 ghost use mathlib.Core.List.{[], _∷_};

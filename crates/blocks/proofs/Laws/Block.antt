@@ -20,7 +20,7 @@ store-nil [] at = refl
 store-nil (x ∷ l) (suc at) = rw (store-nil l at)
 store-nil (x ∷ l) zero = refl
 
--- a store of two runs, one behind the other
+-- a store of two runs, one after the other
 pub store-append : (l : List ℕ) (at : ℕ) (b c : List ℕ) → store l at (b ++ c) ≡ store (store l at b) (at + length b) c
 store-append [] at b c = refl
 store-append (x ∷ l) (suc at) b c = rw (suc-add, store-append l at b c)
@@ -45,7 +45,7 @@ store-swap (x ∷ l) zero [] at′ c h = sym (store-nil (store (x ∷ l) at′ c
 store-swap (x ∷ l) zero (y ∷ b) zero c h = absurd (omega arith)
 store-swap (x ∷ l) zero (y ∷ b) (suc at′) c h = ap (λ (r : List ℕ). y ∷ r) (store-swap l zero b at′ c (omega arith))
 
--- behind a store all is as it was
+-- after a store all is as it was
 pub drop-store : (l : List ℕ) (at : ℕ) (b : List ℕ) (n : ℕ) → at + length b ≤ n → drop n (store l at b) ≡ drop n l
 drop-store [] at b n h = refl
 drop-store (x ∷ l) (suc at) b zero h = absurd (omega arith)
@@ -135,11 +135,11 @@ blockAt-zeros (suc k) zero zero h = refl
 blockAt-zeros (suc k) zero (suc n) h = ap (λ (r : List ℕ). 0 ∷ r) (blockAt-zeros k zero n (omega arith))
 blockAt-zeros (suc k) (suc at) n h = blockAt-zeros k at n (omega arith)
 
--- a block of zeroes is two, one behind the other
+-- a block of zeroes is two, one after the other
 pub zeros-append : (a b : ℕ) → zeros (a + b) ≡ zeros a ++ zeros b
 zeros-append a b = sym (replicate-append-replicate a b 0)
 
--- a block is its first byte and the rest of it; or two blocks, one behind the other
+-- a block is its first byte and the rest of it; or two blocks, one after the other
 pub blockAt-cons : (l : List ℕ) (at n : ℕ) → at < length l → blockAt l at (suc n) ≡ getD l at 0 ∷ blockAt l (at + 1) n
 blockAt-cons [] at n h = absurd (omega arith)
 blockAt-cons (x ∷ l) zero n h = refl

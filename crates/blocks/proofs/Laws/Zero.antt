@@ -1,4 +1,4 @@
--- The test for a block of zeroes: what it tells, the test of two blocks one behind the other, and the loops that make it. Assumes nothing.
+-- The test for a block of zeroes: what it tells, the test of two blocks one after the other, and the loops that make it. Assumes nothing.
 use Prim.Native.Nat.{ℕ, zero, suc, _+_, _-_, _≤_, _<_, zero-le}
 use mathlib.Core.Path.{_≡_, refl, sym, ap, ap₂, _∙_}
 use mathlib.Core.Bool.{Bool, true, false, _&&_, false≢true, and-assoc, and-true}
@@ -29,7 +29,7 @@ pub zeros-are : (len : ℕ) → isZeros len (zeros len) ≡ true
 zeros-are zero = refl
 zeros-are (suc len) = zeros-are len
 
--- ---- two blocks, one behind the other
+-- ---- two blocks, one after the other
 
 -- together they are zeroes if both are
 pub isZeros-append : (m n : ℕ) (a b : List ℕ) → length a ≡ m → isZeros (m + n) (a ++ b) ≡ (isZeros m a && isZeros n b)

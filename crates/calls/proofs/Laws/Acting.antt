@@ -48,7 +48,7 @@ pub shows : (e : Event) (r : Record) (b : ℕ) → e .call ≡ view b →
 unfolding effect viewOf scratchLeft
 shows e r b q = rw q ((λ u. rw u refl), (λ u. rw u (refl, refl)))
 
--- behind no move stand the images lent, behind k those that an advance of k leaves
+-- after no move stand the images lent, after k those that an advance of k leaves
 pub parity-first : (r : Record) (img : List ℕ) (S : ℕ) → parityAfter 0 r img S ≡ placeIn r img S (layout (geometry r) .parity S)
 unfolding parityAfter advanceStores stored recorded
 parity-first r img S = refl

@@ -33,7 +33,7 @@ use Rattle.calls.proofs.Laws.Lists.{with-new, bytes-with-new, count-wit
 use Rattle.calls.proofs.Laws.Holding.{Holding, Leaves, Kept, bytesAt, cellIn}
 use Rattle.calls.proofs.Laws.Passed as passed
 
--- ---- on one byte of every place: m disks of zeroes behind the first n
+-- ---- on one byte of every place: m disks of zeroes after the first n
 
 module _ (n m T : ℕ) (own own′ : ℕ → ℕ → Role) (old : (S d : ℕ) → d < n → own′ S d ≡ own S d) (blank : (S d : ℕ) → n ≤ d → own′ S d ≡ Blank) where
   abbrev front : Grid → Grid

@@ -31,6 +31,7 @@ abbrev pub cellIn : Record → List ℕ → ℕ → Grid
 cellIn r img j = cell (r .block) (r .stripes) img j
 
 -- the images of r hold the blocks bs: unless lost, for each byte there is a grid of sound stripes, with the blocks where the layout has them and zeroes on the blanks, that the images are but for the disk that is out
+-- (so a write has no cases on health)
 pub record Holding (r : Record) (img : List ℕ) (bs : List (List ℕ)) : Type 0 where
   pub limits : GoodRecord r
   pub long : length img ≡ size r

@@ -36,7 +36,7 @@ swept-accepted : (T : ℕ) (l : List ℕ) → accepted (sweptTo T l) ≡ true
 swept-accepted T [] = refl
 swept-accepted T (S ∷ more) = refl
 
--- a record stored behind blocks
+-- a record stored after blocks
 within-last : (N B T : ℕ) (ps : List Store) (x : Record) → Within N B T ps → Within N B T (ps ++ header x ∷ [])
 unfolding Within
 within-last N B T ps x w = within-append N B T ps (header x ∷ []) w tt

@@ -22,7 +22,7 @@ use Rattle.calls.proofs.Laws.Holding.{bytesAt}
 abbrev pub blank-blocks : ℕ → ℕ → List (List ℕ)
 blank-blocks c B = replicate c (zeros B)
 
--- a list with zero blocks behind it, up to the capacity (the flat list has its own word for this)
+-- a list with zero blocks after it, up to the capacity (the flat list has its own word for this)
 abbrev pub with-new : Geometry → ℕ → List (List ℕ) → List (List ℕ)
 with-new g B bs = bs ++ blank-blocks (capacity g - length bs) B
 
@@ -76,7 +76,7 @@ twice-with-new g g′ B bs le le′ =
 
 -- ---- on one byte of every place
 
--- zeroes behind a list change no entry: where there was none, none is other than zero
+-- zeroes after a list change no entry: where there was none, none is other than zero
 padded : (bs : List ℕ) (c b : ℕ) → getD (bs ++ zeros c) b 0 ≡ getD bs b 0
 padded [] c b = getD-zeros c b
 padded (x ∷ bs) c zero = refl

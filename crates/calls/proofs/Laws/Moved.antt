@@ -1,4 +1,4 @@
--- One move: each stripe's parity keeps its value, and images that hold a list hold, behind the move, the list lengthened by the blocks that it opens. Assumes nothing.
+-- One move: each stripe's parity keeps its value, and images that hold a list hold, after the move, the list lengthened by the blocks that it opens. Assumes nothing.
 use Prim.Native.Nat.{ℕ, suc, _+_, _-_, _*_, _≤_, _<_}
 use mathlib.Core.Path.{_≡_, refl, sym, _∙_, subst}
 use mathlib.Core.Bool.{false}
@@ -94,7 +94,7 @@ masked {N} {T} {own} {I} {cs} h q s = subst (λ (x : Health). Stored N T own (ab
 unmasked : {N T : ℕ} {own : ℕ → ℕ → _} {I : Grid} {cs : List ℕ} (h : Health) → h ≡ Whole → Stored N T own (λ S d. false) I cs → Stored N T own (absent h) I cs
 unmasked {N} {T} {own} {I} {cs} h q s = subst (λ (x : Health). Stored N T own (absent x) I cs) (sym q) s
 
--- what a move does: images that hold a list hold, behind it, the list lengthened by the blocks that it opens
+-- what a move does: images that hold a list hold, after it, the list lengthened by the blocks that it opens
 module _ (r : Record) (img : List ℕ) (bs : List (List ℕ)) (h : Holding r img bs) (whole : r .health ≡ Whole) (busy : idle (geometry r) ≡ false) where
   abbrev before : Geometry
   before = geometry r

@@ -66,7 +66,7 @@ pub record SweepsAll (r : Record) (len : ℕ) : Type 0 where
 
 -- ---- row 1, of every call
 
--- a call that is let through passes the rows behind it
+-- a call that is let through passes the rows after it
 pub passed-on : (x : Call) (short bad : Bool) (r : Record) (c len room : ℕ) → word (table x short bad r c len room) ≡ 0 → word (laterRows x r c len room) ≡ 0
 unfolding table
 passed-on x short bad r c len room z = passes (cond (looks x) (short || bad) short) 0 (word (laterRows x r c len room)) z .1
@@ -95,7 +95,7 @@ was-good r c e l z = not-false _ (looked (e .call) false (not (good r)) r c (e .
 pub in-limits : (r : Record) (c : ℕ) (e : Fed) → looks (e .call) ≡ true → refusal r c e ≡ 0 → GoodRecord r
 in-limits r c e l z = limits r (was-good r c e l z)
 
--- ---- the rows behind it
+-- ---- the rows after it
 
 module _ (r : Record) (c len room : ℕ) where
   pub formats : (n B T : ℕ) → word (laterRows (format n B T) r c len room) ≡ 0 → Formats n B T len

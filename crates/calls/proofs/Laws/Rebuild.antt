@@ -50,7 +50,7 @@ put-seen N I d e = go (ℕ-discrete e d)
     go (yes q) = rw (q, put-same I d (rest N d I), eq-eqb d d refl)
     go (no n) = rw (put-other I d (rest N d I) e n, ne-eqb e d n)
 
--- where x stripes from the c-th on are written so, and nothing else, each place that counts as in behind it is what was seen before it
+-- where x stripes from the c-th on are written so, and nothing else, each place that counts as in afterwards is what was seen before
 module _ (N T o c x : ℕ) (I J : Grid) (most : c + x ≤ T) where
   resumed : ((S e : ℕ) → S < T → c ≤ S → S < c + x → J S e ≡ put (I S) o (rest N o (I S)) e) → ((S e : ℕ) → S < T → (S < c) ⊎ (c + x ≤ S) → J S e ≡ I S e)
       → (S e : ℕ) → S < T → absent (rebuiltTo T o (c + x)) S e ≡ false → J S e ≡ see N (absent (Rebuilding o c)) I S e

@@ -43,7 +43,7 @@ pub rises : (c : Call) (short bad : Bool) (r : Record) (cap len room : ℕ) → 
 rises c short bad r cap len room =
     rising (table c short bad r cap len room) 0 (subst (Ascending 0) (sym (rowwise c short bad r cap len room)) (ascending (column c) 1 0 marks (omega arith)))
 
--- rows behind others
+-- rows after others
 behind : (before : List Row) (low : ℕ) (x : Row) (after : List Row) → Rising low (before ++ x ∷ after) → (low < x .0) × Rising (x .0) after
 unfolding Rising
 behind [] low x after w = w

@@ -10,7 +10,7 @@ use Rattle.blocks.proofs.Laws.Block.{store-nil, store-append, zeros-append}
 use Rattle.calls.specs.Images.{block, stored, fillDisk, zeroDisks}
 use Rattle.calls.proofs.Laws.Stores.{stored-append}
 
--- one run of zeroes behind another
+-- one run of zeroes after another
 zeros-behind : (img : List ℕ) (at a b : ℕ) → store (store img at (zeros a)) (at + a) (zeros b) ≡ store img at (zeros (a + b))
 zeros-behind img at a b =
     ap (λ (n : ℕ). store (store img at (zeros a)) (at + n) (zeros b)) (sym (length-replicate {A = ℕ} a 0))

@@ -69,7 +69,7 @@ module _ (B T : ℕ) where
   stored-append (block S d v ∷ ps) qs img = stored-append ps qs (store img (offset B T S d) v)
   stored-append (header x ∷ ps) qs img = stored-append ps qs img
 
-  -- a record stored behind blocks
+  -- a record stored after blocks
   pub stored-last : (ps : List Store) (x : Record) (img : List ℕ) → stored B T (ps ++ header x ∷ []) img ≡ stored B T ps img
   unfolding stored
   stored-last ps x img = stored-append ps (header x ∷ []) img

@@ -59,7 +59,7 @@ unfolding rest put
 byte-of-others r img S d j l =
     getD-others (r .block) (r .stripes) img S (disksOf r) d j l ∙ same-sum (disksOf r) (λ e. cond (eqb e d) 0 (byteAt r img S j e))
 
--- ---- a list l, with k behind it unless b
+-- ---- a list l, with k after it unless b
 
 module _ (l : List ℕ) (k : ℕ) where
   abbrev with-k : Bool → List ℕ

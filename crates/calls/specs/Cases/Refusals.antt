@@ -223,7 +223,7 @@ pub record Refusals : Type 0 where
       ∷ asks small (owner 14 3) 0 0 ∷ asks small (owner 14 2) 0 0
       ∷ []
       ≡ 1 ∷ 1 ∷ 8 ∷ 10 ∷ 0 ∷ 10 ∷ 0 ∷ []
-  -- 1, 2, 3 with a disk out or being rebuilt, 7, none: before, in and behind a growth, and so where an advance is refused 5
+  -- 1, 2, 3 with a disk out or being rebuilt, 7, none: before, in and after a growth, and so where an advance is refused 5
   pub sweeps :
       asks short sweep 149 0 ∷ asks bad sweep 149 0 ∷ asks lost sweep 149 0
       ∷ asks (growing (Out 4) 17) sweep 149 0 ∷ asks (growing (Rebuilding 4 14) 17) sweep 149 0

@@ -96,7 +96,7 @@ pub record Flipped : Type 0 where
   pub cancels-new : twice 12 0 3 (cabinet Whole 4) standing 12
       ≡ replicate 4 all
       ++ (unsoundAt 4 5 ∷ unsoundAt 5 6 ∷ unsoundAt 6 7 ∷ all ∷ unsoundAt 8 9 ∷ unsoundAt 9 10 ∷ unsoundAt 10 11 ∷ unsoundAt 11 12 ∷ [])
-  -- with no blank it is not, before the growth and behind it
+  -- with no blank it is not, before the growth and after it
   pub cancels-home : twice 12 0 1 fresh home 12 ≡ replicate 12 all
   pub cancels-grown : twice 12 0 3 (cabinet Whole 9) moved 12 ≡ replicate 12 all
   -- the tail's new disk is blank up to the last move

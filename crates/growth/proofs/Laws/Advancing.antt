@@ -1,4 +1,4 @@
--- Advance, move by move: what a move asks for, the moves made so far, and that behind the last there are none. Assumes nothing.
+-- Advance, move by move: what a move asks for, the moves made so far, and that after the last there are none. Assumes nothing.
 use Prim.Native.Nat.{ℕ, _+_, _-_, _≤_, _<_, min}
 use mathlib.Core.Path.{_≡_, refl, sym, ap, ap₂, _∙_, subst}
 use mathlib.Core.Bool.{Bool, true, false}
@@ -80,7 +80,7 @@ one-move B T r img q =
     subst (λ (b : Bool). stored B T (elim b as (λ y. List Store) [ true ↦ [] | false ↦ moveStores r img ++ [] ]) img ≡ stored B T (moveStores r img) img)
     (sym q) (stored-append B T (moveStores r img) [] img)
 
--- the record behind k moves
+-- the record after k moves
 state-of : (k : ℕ) (r : Record) (img : List ℕ) → GoodArray (geometry r) → r .new ≢ 0 → recorded (advanceStores k r img) r ≡ advanced k r
 state-of k r img gd nz = carried (λ x l. Unit) (λ x l g b u. tt) k r img gd nz tt .state
 
@@ -91,7 +91,7 @@ module _ (r : Record) (l : GoodRecord r) (nz : r .new ≢ 0) (img : List ℕ) wh
   state-within : (k : ℕ) → k ≤ left → recorded (advanceStores k r img) r ≡ withMoves r (r .moves + k)
   state-within k h = state-of k r img (l .array) nz ∙ ap {B = Record} (λ (x : ℕ). withMoves r (r .moves + x)) (let e : min k left ≡ k = omega arith in e)
 
-  -- behind the last move there is none
+  -- after the last move there is none
   none-behind : (j : ℕ) → advanceStores (left + j) r img ≡ advanceStores left r img
   none-behind j =
       let ps : List Store = advanceStores left r img in
@@ -111,7 +111,7 @@ module _ (r : Record) (l : GoodRecord r) (nz : r .new ≢ 0) (img : List ℕ) wh
           ap (λ (x : ℕ). advanceStores x r img) (let e : k ≡ left + (k - left) = omega arith in e) ∙ none-behind (k - left)
           ∙ ap (λ (x : ℕ). advanceStores x r img) (let e : left ≡ min k left = omega arith in e)
 
--- behind `done` moves of count, with the cursor at the next
+-- after `done` moves of count, with the cursor at the next
 pub record Made (r : Record) (img : List ℕ) (count : ℕ) (J : List ℕ) (at : Cursor) (done : ℕ) : Type 0 where
   pub most : done ≤ count
   pub next : at ≡ cursorAt (r .old) (r .new) (r .moves + done)

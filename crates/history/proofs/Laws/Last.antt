@@ -27,7 +27,7 @@ module _ (b : ℕ) (v : List ℕ) where
   same-list : (r r′ : Record) (bs : List (List ℕ)) → r′ .block ≡ r .block → Is b v r bs → Is b v r′ bs
   same-list r r′ bs q i = record { inside = i .inside; outside = λ l. i .outside l ∙ ap zeros (sym q) }
 
-  -- new blocks behind the list
+  -- new blocks after the list
   longer : (r : Record) (bs : List (List ℕ)) → Is b v r bs → Is b v r (lengthened r bs)
   longer r bs i = record { inside = λ l. new l (decLt b (length bs)); outside = λ l. i .outside (omega (arith, length-append bs more)) }
     where

@@ -48,7 +48,7 @@ spoilt d g c = record { call = c; change = spoil d 0 g; room = 7 ∷ 7 ∷ [] }
 abbrev pub rebuilt : ℕ → ℕ → ℕ → Call → Step
 rebuilt d k g c = record { call = c; change = spoil d k g; room = 7 ∷ 7 ∷ [] }
 
--- .. with a disk of nonsense behind them ..
+-- .. with a disk of nonsense after them ..
 abbrev pub longer : Call → Step
 longer c = record { call = c; change = λ img. img ++ junk 77 24; room = 7 ∷ 7 ∷ [] }
 

@@ -1,4 +1,4 @@
--- Bytes that are read and stored side by side: as many reads are a block, and four stores one behind the other are one. Assumes nothing.
+-- Bytes that are read and stored side by side: as many reads are a block, and four stores one after the other are one. Assumes nothing.
 use Prim.Native.Nat.{ℕ, zero, suc, _+_, _≤_, _<_}
 use mathlib.Core.Path.{_≡_, refl, sym, ap, ap₂, _∙_}
 use mathlib.Core.List.{List, [], _∷_, _++_}
@@ -36,7 +36,7 @@ blocks-four l at =
     ∙ ap (λ (r : List ℕ). blockAt l (at + 16) 16 ++ r)
     (ap (λ (i : ℕ). blockAt l i 32) e ∙ blockAt-split l (at + 32) 16 16 ∙ ap (λ (i : ℕ). blockAt l (at + 32) 16 ++ blockAt l i 16) f)))
 
--- four stores, each behind the one before
+-- four stores, each after the one before
 pub stores-four : (l : List ℕ) {l₁ l₂ l₃ l₄ : List ℕ} (at : ℕ) {i j m : ℕ} (a b c d : List ℕ) → l₁ ≡ store l at a → l₂ ≡ store l₁ i b → l₃ ≡ store l₂ j c → l₄ ≡ store l₃ m d
     → i ≡ at + length a → j ≡ i + length b → m ≡ j + length c → l₄ ≡ store l at (a ++ (b ++ (c ++ d)))
 stores-four l {l₁} {l₂} {l₃} {l₄} at {i} {j} {m} a b c d p q r s e f g =

@@ -110,7 +110,7 @@ module _ (g : Gapped) (l : List ℕ) where
             ∙ sym (others-in (g .len) (g .stripes) l (g .stripe) N (g .out) ne)
       ]
 
-  -- behind it the old parity is xored in once more
+  -- after it the old parity is xored in once more
   gapped-is : (N : ℕ) → g .out ≢ g .parity → g .parity < N → gappedTo g l N ≡ xorB (placeOf g l (g .parity)) (rest N)
   gapped-is zero apart h = absurd (omega arith)
   gapped-is (suc N) apart h = go (λ k. gapped-is N apart k) (ℕ-discrete N (g .parity)) (ℕ-discrete N (g .out))

@@ -61,7 +61,7 @@ getD-high (p ∷ ps) (suc i) =
 
 -- ---- sums, one by one
 
--- where the sums from the i-th on go on from q, the i-th is the next, and those behind it go on from there
+-- where the sums from the i-th on go on from q, the i-th is the next, and those after it go on from there
 module _ (o q i : ℕ) (ds : List ℕ) (h : i < length ds) (e : drop i (sumsFrom o ds) ≡ sumsFrom q (drop i ds)) where
   next : drop i (sumsFrom o ds) ≡ plus q (getD ds i 0) ∷ sumsFrom (plus q (getD ds i 0)) (drop (suc i) ds)
   next = e ∙ ap (sumsFrom q) (drop-cons ds i 0 h)

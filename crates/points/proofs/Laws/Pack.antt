@@ -1,4 +1,4 @@
--- Points packed piece by piece: a piece of one point, two pieces one behind the other, and all of them. Assumes nothing.
+-- Points packed piece by piece: a piece of one point, two pieces one after the other, and all of them. Assumes nothing.
 use Prim.Native.Nat.{ℕ, suc, _+_, _*_, _-_, _^_, _%_, _<_, _≤_}
 use mathlib.Core.Path.{_≡_, refl, sym, ap, ap₂, _∙_, subst}
 use mathlib.Core.List.{List, [], _∷_, _++_, map}
@@ -60,13 +60,13 @@ part-one l t {i} {a} {b} h e f =
     ∙ sym (store-one (store t i (blockAt (sides Low l) i 1)) (half l + i) b)
     ∙ ap (store (store t i (blockAt (sides Low l) i 1)) (half l + i)) z
 
--- runs of the list m, one behind the other
+-- runs of the list m, one after the other
 runs : (t m : List ℕ) (at i k n j : ℕ) → i + k ≤ length m → j ≡ at + k → store (store t at (blockAt m i k)) j (blockAt m (i + k) n) ≡ store t at (blockAt m i (k + n))
 runs t m at i k n j h e =
     let q : j ≡ at + length (blockAt m i k) = omega (arith, length-blockAt m i k h) in
     ap (λ (x : ℕ). store (store t at (blockAt m i k)) x (blockAt m (i + k) n)) q ∙ sym (store-append t at (blockAt m i k) (blockAt m (i + k) n)) ∙ ap (store t at) (sym (blockAt-split m i k n))
 
--- two pieces, one behind the other
+-- two pieces, one after the other
 part-part : (l t : List ℕ) (i k n : ℕ) → i + k + n ≤ half l → partPacked l (partPacked l t i k) (i + k) n ≡ partPacked l t i (k + n)
 part-part l t i k n h =
     let a : List ℕ = blockAt (sides Low l) i k in
@@ -135,7 +135,7 @@ packed-first l t p a b h k e ea eb =
     let d : p ≡ getD (differencesOf l) 0 0 = e ∙ first-is l h (subst (λ (x : ℕ). x < 65536) e k) in
     ap (λ (i : ℕ). set (set t 0 a) i b) (sym (add-zero (half l))) ∙ part-one l t {i = 0} (omega arith) (byte-is l 0 Low d ea) (byte-is l 0 High d eb)
 
--- a piece behind it leaves the length
+-- a piece after it leaves the length
 pub length-kept : (l t : List ℕ) (h a b i n : ℕ) {t₂ : List ℕ} → t₂ ≡ partPacked l (set (set t 0 a) h b) i n → length t₂ ≡ length t
 length-kept l t h a b i n e = ap length e ∙ length-part l (set (set t 0 a) h b) i n ∙ length-set (set t 0 a) h b ∙ length-set t 0 a
 

@@ -30,7 +30,7 @@ module _ (B T N d S₀ : ℕ) (img : List ℕ) where
   abbrev before : ℕ → List ℕ
   before = sums B T N d S₀ img
 
-  -- behind k turns of count: the images, and the block that is summed into
+  -- after k turns of count: the images, and the block that is summed into
   pub record Filled (count : ℕ) (l b : List ℕ) (k : ℕ) : Type 0 where
     pub most : k ≤ count
     pub images : l ≡ stored B T (fillDisk S₀ k d before) img

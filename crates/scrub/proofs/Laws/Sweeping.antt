@@ -59,7 +59,7 @@ module _ (r : Record) (img : List ℕ) (S : ℕ) where
   unfolding blanksZero
   blanks-stop d q = rw q (and-no (blanksZero r img S d))
 
-  -- what is not zero stays so, whatever disks come behind it
+  -- what is not zero stays so, whatever disks come after it
   never-again : (d k : ℕ) → blanksZero r img S d ≡ false → blanksZero r img S (k + d) ≡ false
   unfolding blanksZero
   never-again d zero q = rw (let e : 0 + d ≡ d = omega arith in e) q
@@ -221,7 +221,7 @@ summed-le r S full q = elim (le-or-lt full S) [
   | inr l ↦ omega (arith, (rw (lt-ltb S full l) at q))
 ]
 
--- ---- a stripe, by what its sum is and where it stands: k is how many disks are summed, N of them up to a zone behind the open stripes
+-- ---- a stripe, by what its sum is and where it stands: k is how many disks are summed, N of them up to a zone past the open stripes
 
 module _ (r : Record) (img : List ℕ) (S : ℕ) {k : ℕ} {z : Bool} (limits : GoodRecord r) (whole : r .health ≡ Whole) (inside : S < r .stripes)
     (is : k ≡ cond (ltb S (openStripes (geometry r) + disksOf r)) (disksOf r) (r .old)) (q : z ≡ isZeros (r .block) (summed r img S k)) where

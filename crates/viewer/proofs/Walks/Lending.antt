@@ -1,4 +1,4 @@
--- The steps of the walks in which a record stands in a local and is lent for one call: `_j = _i; _k = &mut _j` before it, `_0 = _j` behind it; and the same by `&`.
+-- The steps of the walks in which a record stands in a local and is lent for one call: `_j = _i; _k = &mut _j` before it, `_0 = _j` after it; and the same by `&`.
 use mathlib.Core.Path.{_≡_, refl}
 use Prim.Native.Nat.{ℕ, zero}
 use mathlib.Core.List.{List, [], _∷_}

@@ -71,7 +71,7 @@ module _ (a b c at stop : ℕ) where
   unfolding fieldOf
   field-none d = simp d
 
-  -- a leading zero; no second digit; no `stop` behind the second
+  -- a leading zero; no second digit; no `stop` after the second
   pub field-zero : isDigit a ≡ true → (b ≡ stop → ⊥) → a ≡ 48 → fieldOf a b c at stop ≡ Bad
   unfolding fieldOf
   field-zero d ne z = simp (d, ne-eqb b stop ne, eq-eqb a 48 z)

@@ -80,7 +80,7 @@ length-line n m k l =
     let s : Short k (moveOf n m k) = shorts (columns l refl) in
     rw (← line-of n m k refl) (simp length-append (omega arith))
 
--- five columns stored one behind the other are a line
+-- five columns stored one after the other are a line
 pub line-stored : {out : List ℕ} {at k : ℕ} {r : Move} {a b c d e : List ℕ} {p q t u v : ℕ} → at + 17 ≤ length out → Short k r
     → Stored out at (column k 32) a p → Stored a p (column (r .zone) 32) b q → Stored b q (column (r .within) 32) c t → Stored c t (column (r .from) 32) d u → Stored d u (column (r .to) 10) e v
     → Stored out at (lineOf k r) e v

@@ -110,6 +110,6 @@ field-reads s at v stop rest h p e =
           says-one (getD s at 0) (getD s (at + 1) 0) (getD s (at + 2) 0) at stop v k z (byte s at 1 f) ∙ ap (λ (l : List ℕ). Number v (at + length l)) (sym (column-one v stop k))
     ]
 
--- the rest behind a text that stands at a position
+-- the rest after a text that stands at a position
 pub drop-more : (s : List ℕ) (at : ℕ) (t rest : List ℕ) → drop at s ≡ t ++ rest → drop (at + length t) s ≡ rest
 drop-more s at t rest e = sym (drop-drop (length t) at s) ∙ ap (drop (length t)) e ∙ drop-append-seam t rest

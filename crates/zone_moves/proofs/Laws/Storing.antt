@@ -2,7 +2,7 @@
 --     stored-nil       nothing is stored
 --     stored-one       a byte is stored by one write
 --     stored-as        a text that equals another
---     stored-append    a text stored, and another behind it
+--     stored-append    a text stored, and another after it
 --     Copied           a text stored byte by byte, in a loop
 use Prim.Native.Nat.{ℕ, _+_, _≤_, _<_, zero-le}
 use mathlib.Core.Path.{_≡_, refl, sym, ap, ap₂, subst, _∙_}
@@ -33,7 +33,7 @@ stored-one {out} {at} {b} h =
 pub stored-as : {out : List ℕ} {at : ℕ} {a b after : List ℕ} {next : ℕ} → a ≡ b → Stored out at a after next → Stored out at b after next
 stored-as {out} {at} {a} {b} {after} {next} e f = subst (λ (t : List ℕ). Stored out at t after next) e f
 
--- what stands before the seam, and behind it
+-- what stands before the seam, and after it
 module _ (out : List ℕ) (at : ℕ) (a : List ℕ) (room : at + length a ≤ length out) where
   head-length : length (take at out ++ a) ≡ at + length a
   head-length = length-append (take at out) a ∙ ap (λ (k : ℕ). k + length a) (length-take-le at out (omega arith))

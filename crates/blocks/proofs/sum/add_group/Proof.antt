@@ -36,7 +36,7 @@ module _ (c : tie.Start) {b : List ℕ} {at : ℕ} (f : Done c b at) (n : ℕ) (
   given : {b′ : List ℕ} → b′ ≡ partAdded (c .args .x) (c .args .images .now) b at n → Done c b′ (at + n)
   given e = run-more f n h (e ∙ ap (λ (m : ℕ). copiedTo b at (sum c m (c .args .x .last)) at n) (f .size))
 
--- behind half a piece more
+-- after half a piece more
 half : (c : tie.After-add-less) → Done (c .before .before .before .before .before .before .before .before .before) (c .add-less .last .1 .1 .1 .1 .0) (c .before .before .before .before .before .add-pieces .result + 64)
 half c = given (c .before .before .before .before .before .before .before .before .before) (pieces (c .before .before .before .before .before)) 64 (omega arith) (c .add-less .ensures)
 

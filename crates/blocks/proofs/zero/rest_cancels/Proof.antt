@@ -13,7 +13,7 @@ use Rattle.blocks.proofs.Laws.Zero.{zeros-then, zeros-not}
 use Rattle.blocks.proofs.zero.rest_cancels.Statement.{statement}
 use Rattle.blocks.proofs.zero.rest_cancels.Tie as tie
 
--- the sum behind the group, which is as long as the block
+-- the sum after the group, which is as long as the block
 abbrev sum : tie.Start → List ℕ
 sum c = sumTo (length (c .args .block .now)) (c .args .images .now) (c .args .x) (c .args .x .last)
 

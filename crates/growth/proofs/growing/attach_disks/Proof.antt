@@ -1,4 +1,4 @@
--- `attach_disks` meets its contract: all behind the first n disks is one run of zeroes. Assumes nothing.
+-- `attach_disks` meets its contract: all after the first n disks is one run of zeroes. Assumes nothing.
 use mathlib.Core.Path.{_∙_}
 use borrow.Author.Needs.{needs}
 use native.Mathlib.Omega.{arith}

@@ -1,4 +1,4 @@
--- `of_reach` meets its contract: `past-k` is what is left of the rows behind the k-th test. Assumes nothing.
+-- `of_reach` meets its contract: `past-k` is what is left of the rows after the k-th test. Assumes nothing.
 use Prim.Native.Nat.{ℕ}
 use mathlib.Core.Path.{_≡_, refl, sym, ap, _∙_}
 use mathlib.Core.Bool.{not}

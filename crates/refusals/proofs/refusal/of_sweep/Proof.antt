@@ -1,4 +1,4 @@
--- `of_sweep` meets its contract: `past-1` is what is left of the rows behind the first test. Assumes nothing.
+-- `of_sweep` meets its contract: `past-1` is what is left of the rows after the first test. Assumes nothing.
 use Prim.Native.Nat.{ℕ}
 use mathlib.Core.Path.{_≡_, sym, ap, _∙_}
 use mathlib.Core.Bool.{not}

@@ -1,4 +1,4 @@
--- `put_line` meets its contract: five columns one behind the other. Assumes nothing.
+-- `put_line` meets its contract: five columns one after the other. Assumes nothing.
 use native.Mathlib.Omega.{arith}
 use borrow.Author.Needs.{needs}
 use Rattle.zone_moves.proofs.Laws.Storing.{stored-as}

@@ -1,4 +1,4 @@
--- `byte_at` meets its contract: behind the end `getD` gives its default. Assumes nothing.
+-- `byte_at` meets its contract: after the end `getD` gives its default. Assumes nothing.
 use mathlib.Core.Path.{sym}
 use lib.ListN.{List·getD-eq-default}
 use borrow.Author.Needs.{needs}

@@ -1,4 +1,4 @@
--- `put_column` meets its contract: two texts one behind the other. Assumes nothing.
+-- `put_column` meets its contract: two texts one after the other. Assumes nothing.
 use native.Mathlib.Omega.{arith}
 use borrow.Author.Needs.{needs}
 use Rattle.zone_moves.specs.Listing.{column}

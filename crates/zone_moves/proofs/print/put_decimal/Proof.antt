@@ -1,4 +1,4 @@
--- `put_decimal` meets its contract: three texts one behind the other. Assumes nothing.
+-- `put_decimal` meets its contract: three texts one after the other. Assumes nothing.
 use Prim.Native.Nat.{ℕ, _+_, _/_}
 use mathlib.Core.Path.{_≡_, sym, ap₂, _∙_}
 use mathlib.Core.List.{[], _∷_, _++_}

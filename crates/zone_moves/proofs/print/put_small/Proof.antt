@@ -1,4 +1,4 @@
--- `put_small` meets its contract: one digit, or two one behind the other. Assumes nothing.
+-- `put_small` meets its contract: one digit, or two one after the other. Assumes nothing.
 use Prim.Native.Nat.{ℕ}
 use mathlib.Core.Path.{_≡_, sym, ap, ap₂, _∙_}
 use mathlib.Core.List.{[], _∷_}
