@@ -134,7 +134,7 @@ static uint64_t any_block(struct random *r, struct shape h, const uint8_t *recor
     return random_below(r, (uint64_t)h.stripes * (h.n + record[PBM_AT_M] - 1) + 1);
 }
 
-/* By a record that may not be good: 0 then, and a blank with block 0. */
+/* The capacity by a record that may not be good: 0 then. */
 static uint64_t blocks_by(const uint8_t *record)
 {
     uint64_t capacity, moves, total, health, out, rebuilt;
@@ -146,6 +146,7 @@ struct owned {
     uint64_t role, block;
 };
 
+/* What stands on a place; by a record that is not good, nothing. */
 static struct owned owned_by(const uint8_t *record, uint64_t stripe, uint64_t disk)
 {
     struct owned x, blank = {PBM_BLANK, 0};

@@ -252,13 +252,12 @@ fn header() -> String {
 
 /// The header's code: without comments, and with one space where there is any.
 fn code(header: &str) -> String {
-    let (first, rest) = header.split_once("/*").unwrap_or((header, ""));
-    let rest = rest.split("/*").map(|part| part.split_once("*/"));
-    let rest: String = rest.flatten().map(|(_, code)| code).collect();
-    let words: Vec<&str> = (first.split_whitespace())
-        .chain(rest.split_whitespace())
-        .collect();
-    words.join(" ")
+    let parts = header.split("/*").map(|part| match part.split_once("*/") {
+        Some((_, code)) => code,
+        None => part, // before the first comment
+    });
+    let code: String = parts.collect();
+    code.split_whitespace().collect::<Vec<_>>().join(" ")
 }
 
 /// What a version stands for: the signature of every call, in the header's order, and the bytes of the record.
