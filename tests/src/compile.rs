@@ -1,13 +1,9 @@
 //! Compiles C programs with the library, and runs tools over what was built.
 
-use crate::program::target;
+use crate::program::{root, target};
 use std::fs;
 use std::path::PathBuf;
 use std::process::{Command, Output};
-
-fn root() -> PathBuf {
-    target().join("..")
-}
 
 /// The archive that `rt staticlib pbm` writes.
 pub fn archive() -> PathBuf {

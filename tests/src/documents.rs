@@ -1,13 +1,8 @@
 //! What a document holds that can be wrong: the rows of its tables, what it fences, its formulas and numbers. Its sentences are free.
 
 use crate::files::texts;
-use crate::program::target;
+use crate::program::root;
 use std::fs;
-use std::path::PathBuf;
-
-pub fn root() -> PathBuf {
-    target().join("..")
-}
 
 /// By its path below the root.
 pub struct Document {
@@ -104,7 +99,8 @@ impl Document {
     }
 }
 
-fn cells(line: &str) -> Option<Vec<&str>> {
+/// The cells of a line, if it is a row of a table.
+pub fn cells(line: &str) -> Option<Vec<&str>> {
     let row = line.trim().strip_prefix('|')?.strip_suffix('|')?;
     Some(row.split('|').map(str::trim).collect())
 }

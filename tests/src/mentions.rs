@@ -1,6 +1,7 @@
 //! What a document names in backquotes, and whether the sources define it, where the document says that it stands.
 
 use crate::definitions::{Definition, Kind};
+use crate::documents::cells;
 use std::path::Path;
 
 /// What a document may set in backquotes that no source defines: words of the language and of the toolchain, the variables of the
@@ -60,14 +61,7 @@ pub fn table<'a>(document: &'a str, section: &str) -> Vec<Vec<&'a str>> {
     let title = format!("{section}\n");
     let mut sections = document.split("\n## ");
     let text = sections.find(|text| text.starts_with(&title));
-    let cells = |line: &'a str| {
-        let row = line.strip_prefix('|')?;
-        Some(row.trim_end_matches('|').split('|').map(str::trim))
-    };
-    text.unwrap_or("")
-        .lines()
-        .filter_map(|line| cells(line).map(Iterator::collect))
-        .collect()
+    text.unwrap_or("").lines().filter_map(cells).collect()
 }
 
 /// What a cell sets in backquotes.

@@ -9,6 +9,11 @@ pub fn target() -> PathBuf {
     PathBuf::from(env!("CARGO_MANIFEST_DIR")).join("../target")
 }
 
+/// The repository.
+pub fn root() -> PathBuf {
+    target().join("..")
+}
+
 pub fn start(name: &str) -> Child {
     let path = target().join("bin").join(name);
     Command::new(&path)

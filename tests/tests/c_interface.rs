@@ -4,9 +4,10 @@
 use std::fs;
 use std::process::Command;
 use yuzkamide_tests::compile::{archive, interface, program, run, text};
+use yuzkamide_tests::documents::Document;
 use yuzkamide_tests::pbm::{Way, NAMES};
 use yuzkamide_tests::points;
-use yuzkamide_tests::program::target;
+use yuzkamide_tests::program::{root, target};
 use yuzkamide_tests::record::{Health, Record, BENCH, GROWING};
 use yuzkamide_tests::statements::fnv;
 
@@ -247,7 +248,7 @@ fn from_c_plus_plus() {
 }
 
 fn header() -> String {
-    fs::read_to_string(target().join("../include/pbm.h")).unwrap()
+    Document::read("include/pbm.h").text
 }
 
 /// The header's code: without comments, and with one space where there is any.
@@ -274,7 +275,7 @@ fn versioned(header: &str) -> Vec<String> {
     code.split(';').filter(is_versioned).map(cut).collect()
 }
 
-/// Who changes a signature or the record raises the version: in include/pbm.h, in `version` of crate pbm, and here, with the
+/// Whoever changes a signature or the record raises the version: in include/pbm.h, in `version` of crate pbm, and here, with the
 /// fingerprint that fails. A call that is added needs a new fingerprint alone: an archive without it does not link.
 #[test]
 fn the_version_is_of_these_signatures() {
@@ -329,10 +330,7 @@ fn a_compiler_warns() {
             "-o",
             "/dev/null",
         ]);
-        let output = run(command
-            .arg("-I")
-            .arg(target().join("../include"))
-            .arg(&source));
+        let output = run(command.arg("-I").arg(root().join("include")).arg(&source));
         let said = String::from_utf8(output.stderr).unwrap();
         match warning {
             Some(warning) => assert!(said.contains(&format!("-W{warning}")), "{line}: {said}"),
@@ -345,14 +343,12 @@ fn a_compiler_warns() {
 /// as C++17.
 #[test]
 fn the_program_of_readme() {
-    let readme = fs::read_to_string(target().join("../README.md")).unwrap();
-    let fence = |begin: &str| {
-        let (_, text) = readme.split_once(begin).unwrap();
-        text.split_once("\n```").unwrap().0.to_string()
-    };
-    let program = fence("```c\n");
-    assert!(program.lines().count() <= 12, "{program}");
-    let command = fence("```sh\ncc ");
+    let readme = Document::read("README.md");
+    let program = readme.fence("c", "#include \"pbm.h\"");
+    assert_eq!(program.lines().count(), 10, "{program}");
+    let commands = readme.fences("sh");
+    let mut commands = commands.iter().filter_map(|line| line.strip_prefix("cc "));
+    let command = commands.next().expect("README compiles it");
     for compiler in [
         ["cc", "-std=c99", ""],
         ["cc", "-std=c11", ""],
@@ -362,11 +358,8 @@ fn the_program_of_readme() {
         let folder = target().join("c/readme");
         let _ = fs::remove_dir_all(&folder);
         fs::create_dir_all(folder.join("include")).unwrap();
-        fs::copy(
-            target().join("../include/pbm.h"),
-            folder.join("include/pbm.h"),
-        )
-        .unwrap();
+        let header = "include/pbm.h";
+        fs::copy(root().join(header), folder.join(header)).unwrap();
         fs::copy(archive(), folder.join("libpbm.a")).unwrap();
         fs::write(folder.join("log.c"), format!("{program}\n")).unwrap();
         assert!(command.contains("-std=c99") && command.contains(" log.c "));
@@ -377,25 +370,8 @@ fn the_program_of_readme() {
         let output = run(&mut Command::new(folder.join("log")));
         let printed = text(&output.stdout);
         assert_eq!(printed, "done: oak, 4 boards\n", "{standard}");
-        assert!(readme.contains(&format!("`{}`", printed.trim_end())));
+        readme.has(&format!("`{}`", printed.trim_end()));
     }
-}
-
-/// The words of `pbm_word`, as printed, are those of the table in the header's comment.
-#[test]
-fn the_words_are_those_of_the_headers_table() {
-    let header = header();
-    let (_, table) = header.split_once(" * REFUSALS\n").unwrap();
-    let (table, _) = table.split_once(" */\n").unwrap();
-    // a row is its number, its word and its conditions, each two spaces or more from the next
-    let rows: Vec<String> = table
-        .lines()
-        .filter_map(|line| line.strip_prefix(" *   ")?.trim_start().split_once("  "))
-        .filter_map(|(number, rest)| Some((number.parse::<u8>().ok()?, rest)))
-        .map(|(number, rest)| format!("word {number}: {}\n", rest.split("  ").next().unwrap()))
-        .collect();
-    assert_eq!(rows.len(), 11);
-    assert!(printed().contains(&rows.concat()), "{rows:?}");
 }
 
 #[test]

@@ -1,14 +1,9 @@
 //! crates.txt gives no crate a dependency that its text does not name.
 
 use std::fs;
-use std::path::PathBuf;
 use yuzkamide_tests::definitions::lines;
 use yuzkamide_tests::files::texts;
-use yuzkamide_tests::program::target;
-
-fn root() -> PathBuf {
-    target().join("..")
-}
+use yuzkamide_tests::program::root;
 
 /// The lines `NAME: NAME ..`, as crate and what it depends on.
 fn dependencies(list: &str) -> Vec<(&str, Vec<&str>)> {

@@ -3,7 +3,8 @@
 //! header: header.rs.)
 
 use std::path::Path;
-use yuzkamide_tests::documents::{numbers, root, Document};
+use yuzkamide_tests::documents::{numbers, Document};
+use yuzkamide_tests::program::root;
 
 /// A path from the root, `..` taken away: is it there?
 fn is_there(path: &Path) -> bool {

@@ -10,7 +10,7 @@ use std::process::{Command, Output};
 use std::sync::LazyLock;
 use yuzkamide_tests::compile::{archive, program, run, text};
 use yuzkamide_tests::layout::{Layout, Owner};
-use yuzkamide_tests::program::target;
+use yuzkamide_tests::program::{root, target};
 use yuzkamide_tests::record::Record;
 
 /// What the line prints, and examples/run.
@@ -85,10 +85,6 @@ static DRAW: LazyLock<PathBuf> =
 
 static DRAWERS: LazyLock<PathBuf> =
     LazyLock::new(|| program("mapped_drawers", GCC, &["examples/mapped_drawers.c"]));
-
-fn root() -> PathBuf {
-    target().join("..")
-}
 
 fn output_of(program: &PathBuf, arguments: &[&str]) -> Output {
     Command::new(program).args(arguments).output().unwrap()

@@ -92,6 +92,11 @@ fn refusals() -> BTreeMap<u8, (String, BTreeSet<String>)> {
 fn the_refusals() {
     let refusals = refusals();
     assert!(refusals.keys().copied().eq(1..=11), "{refusals:?}");
+    // the words of pbm_word, "done" before them
+    let text = header().text;
+    let cases = text.split("case PBM_").skip(2);
+    let words = cases.map(|case| case.split('"').nth(1).unwrap());
+    assert!(refusals.values().map(|row| row.0.as_str()).eq(words));
     let points = Way::BOTH.map(Way::name);
     let names = NAMES.into_iter().map(|name| (name, rows(name)));
     for (name, wanted) in names.chain(points.map(|name| (name, &[11][..]))) {

@@ -5,12 +5,12 @@ use std::fs;
 use std::process::Command;
 use yuzkamide_tests::array::Array;
 use yuzkamide_tests::compile::{run, text};
-use yuzkamide_tests::documents::{numbers, root, Document};
+use yuzkamide_tests::documents::{numbers, Document};
 use yuzkamide_tests::images::{disk as disk_of, place};
 use yuzkamide_tests::layout::{Layout, Owner};
 use yuzkamide_tests::moves::{moves, Move};
 use yuzkamide_tests::pbm::Answer;
-use yuzkamide_tests::program::target;
+use yuzkamide_tests::program::{root, target};
 use yuzkamide_tests::record::{at, Record};
 use yuzkamide_tests::replay::{grown, made, places, status};
 

@@ -3,20 +3,15 @@
 
 use std::collections::BTreeSet;
 use std::fs;
-use std::path::PathBuf;
 use yuzkamide_tests::definitions::lines;
 use yuzkamide_tests::files::texts;
 use yuzkamide_tests::mentions::blocks;
 use yuzkamide_tests::pins::{self, OPEN};
 use yuzkamide_tests::pins::{cited, data, faults, pins, statement_files, taken, Name};
-use yuzkamide_tests::program::target;
+use yuzkamide_tests::program::root;
 use yuzkamide_tests::statements::{
     closed, definition, fault, fingerprint, quoted, rows, undeclared, uses, Row, Specs,
 };
-
-fn root() -> PathBuf {
-    target().join("..")
-}
 
 fn document(name: &str) -> String {
     fs::read_to_string(root().join("docs").join(name)).unwrap()

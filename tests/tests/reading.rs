@@ -2,7 +2,7 @@
 //! EDITS.md is what tools/edits prints of the must-fail edits.
 
 use std::fs;
-use std::path::{Path, PathBuf};
+use std::path::Path;
 use std::process::Command;
 use yuzkamide_tests::compile::text;
 use yuzkamide_tests::definitions::{
@@ -10,11 +10,7 @@ use yuzkamide_tests::definitions::{
 };
 use yuzkamide_tests::files::files;
 use yuzkamide_tests::mentions::{faults, Sources};
-use yuzkamide_tests::program::target;
-
-fn root() -> PathBuf {
-    target().join("..")
-}
+use yuzkamide_tests::program::{root, target};
 
 fn document(name: &str) -> String {
     fs::read_to_string(root().join("docs").join(name)).unwrap()

@@ -2,12 +2,11 @@
 //! what misses its target is bold, and nothing else; all that the report has a target for is in the table; each call with a miss is
 //! named where misses are told; and the table of instructions has rows of the report.
 
-use std::fs;
+use yuzkamide_tests::documents::{cells, Document};
 use yuzkamide_tests::mentions::table;
-use yuzkamide_tests::program::target;
 
 fn document(name: &str) -> String {
-    fs::read_to_string(target().join("../docs").join(name)).expect(name)
+    Document::read(&format!("docs/{name}")).text
 }
 
 fn number(word: &str) -> f64 {
@@ -16,19 +15,14 @@ fn number(word: &str) -> f64 {
 
 /// The rows of every table whose header begins with these cells.
 fn rows<'a>(text: &'a str, header: &[&str]) -> Vec<Vec<&'a str>> {
-    let cells = |line: &'a str| -> Vec<&'a str> {
-        line.trim_matches('|').split('|').map(str::trim).collect()
-    };
     let mut all = Vec::new();
     let mut is_inside = false;
     for line in text.lines() {
-        let row = cells(line);
-        if !line.starts_with('|') {
-            is_inside = false;
-        } else if row.starts_with(header) {
-            is_inside = true;
-        } else if is_inside && !line.starts_with("|---") {
-            all.push(row);
+        match cells(line) {
+            None => is_inside = false,
+            Some(row) if row.starts_with(header) => is_inside = true,
+            Some(row) if is_inside && !line.starts_with("|---") => all.push(row),
+            Some(_) => {}
         }
     }
     all
