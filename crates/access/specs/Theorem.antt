@@ -1,4 +1,4 @@
--- Where a view begins, in bare numbers, as the contract of `view` has it. (What it shows is `Does.view-answer` of crate `calls`.)
+-- Where a view begins, in bare numbers, as the contract of `view` has it. (What it shows is `Does.view_answer` of crate `calls`.)
 -- The statement is `ViewBegins`; `view-begins` of proofs/Theorem.antt proves it.
 use Rattle.std.specs.Prelude.{ℕ, suc, ◌+◌, ◌*◌, ◌≡◌, true, false}
 use Rattle.layout.specs.Layout.{layout}

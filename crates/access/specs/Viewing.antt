@@ -20,10 +20,10 @@ begins (choice.Part at) img scr = (img.0, at + img.1)
 begins choice.Scratch img scr = scr
 
 -- the answer of a choice, given the block's size, the images, and the scratch as it is left
-abbrev pub choiceAnswer : Choice → ℕ → List ℕ → List ℕ → Answer
-choiceAnswer (choice.Refused k) len img scr = refused k
-choiceAnswer (choice.Part at) len img scr = bytes (block_at img at len)
-choiceAnswer choice.Scratch len img scr = bytes scr
+abbrev pub choice_answer : Choice → ℕ → List ℕ → List ℕ → Answer
+choice_answer (choice.Refused k) len img scr = refused k
+choice_answer (choice.Part at) len img scr = bytes (block_at img at len)
+choice_answer choice.Scratch len img scr = bytes scr
 
 -- the bytes of the images that a choice needs: up to the end of its part
 abbrev pub ends : Choice → ℕ → ℕ

@@ -1,7 +1,7 @@
 // Document 01: "**Read**: fills a lent block."
 ghost use Rattle.std.specs.Prelude.{◌≡◌, length};
 ghost use Rattle.calls.specs.Call.{read, feed, on, number};
-ghost use Rattle.calls.specs.Table.{refusalOf};
+ghost use Rattle.calls.specs.Table.{refusal_of};
 ghost use Rattle.calls.specs.Effect.{block_of, called};
 
 use blocks::copy_out;
@@ -11,7 +11,7 @@ use state::{Record, geometry_of};
 
 // Block b, on a call that the table lets through.
 fn fill(r: Record, images: &[u8], b: u64, block: &mut [u8])
-    requires { refusalOf r (feed (read b) (length images.now) (length block.old)) ≡ 0 }
+    requires { refusal_of r (feed (read b) (length images.now) (length block.old)) ≡ 0 }
     ensures block { block.new ≡ block_of r images.now b }
 {
     let g = geometry_of(r);

@@ -1,10 +1,10 @@
 // Document 01: "**View**: returns the block as a part of the images, or, if its disk is out, as the lent scratch filled with it. Scratch is
 // else untouched."
 ghost use Rattle.std.specs.Prelude.{◌≤◌, ◌≡◌, length};
-ghost use Rattle.access.specs.Viewing.{choice_of, choiceAnswer, begins, ends};
+ghost use Rattle.access.specs.Viewing.{choice_of, choice_answer, begins, ends};
 ghost use Rattle.calls.specs.Call.{view, feed, on, number, shown};
-ghost use Rattle.calls.specs.Table.{refusalOf};
-ghost use Rattle.calls.specs.Effect.{view_of, scratchLeft, called};
+ghost use Rattle.calls.specs.Table.{refusal_of};
+ghost use Rattle.calls.specs.Effect.{view_of, scratch_left, called};
 
 use crate::types::Choice;
 use placement::{place_of, slot_of};
@@ -13,9 +13,9 @@ use state::{Record, geometry_of};
 
 // Which it is, with the scratch filled if it is that one, on a call that the table lets through.
 fn choose(r: Record, images: &[u8], b: u64, scratch: &mut [u8]) -> Choice
-    requires { refusalOf r (feed (view b) (length images.now) (length scratch.old)) ≡ 0 }
+    requires { refusal_of r (feed (view b) (length images.now) (length scratch.old)) ≡ 0 }
     ensures choice { result ≡ choice_of 0 (view_of r b) }
-    ensures scratch { scratch.new ≡ scratchLeft r images.now b scratch.old }
+    ensures scratch { scratch.new ≡ scratch_left r images.now b scratch.old }
 {
     let g = geometry_of(r);
     let q = place_of(g, b, slot_of(g, b)).block;
@@ -50,9 +50,9 @@ fn part_of<'a>(
     refusal: &mut u8,
 ) -> &'a [u8]
     requires { ends x len ≤ length images.now }
-    ensures view { result.now ≡ shown (choiceAnswer x len images.now scratch.now) }
+    ensures view { result.now ≡ shown (choice_answer x len images.now scratch.now) }
     ensures place { result.ref_ptr ≡ begins x images.entry.ref_ptr scratch.entry.ref_ptr }
-    ensures number { refusal.new ≡ number (choiceAnswer x len images.now scratch.now) }
+    ensures number { refusal.new ≡ number (choice_answer x len images.now scratch.now) }
 {
     match x {
         Choice::Refused(k) => {

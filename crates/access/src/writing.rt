@@ -2,9 +2,9 @@
 // disk is out. All other bytes stay." (A disk that is being rebuilt counts as out in the stripes not done: `is_absent`.)
 ghost use Rattle.std.specs.Prelude.{◌≡◌, [], length, take};
 ghost use Rattle.calls.specs.Call.{write, feed, on, number};
-ghost use Rattle.calls.specs.Images.{storedIn};
-ghost use Rattle.calls.specs.Table.{refusalOf};
-ghost use Rattle.calls.specs.Effect.{writeStores, called, begun};
+ghost use Rattle.calls.specs.Images.{stored_in};
+ghost use Rattle.calls.specs.Table.{refusal_of};
+ghost use Rattle.calls.specs.Effect.{write_stores, called, begun};
 
 use blocks::store_bytes;
 use parity::{fold_others, fold_parity};
@@ -14,9 +14,9 @@ use state::{Record, geometry_of};
 
 // The parity, then the data, on a call that the table lets through: of these two stores, or of the one that is not skipped, the first c.
 fn put(c: u64, r: Record, images: &mut [u8], b: u64, bytes: &[u8])
-    requires { refusalOf r (feed (write b bytes.now) (length images.old) 0) ≡ 0 }
+    requires { refusal_of r (feed (write b bytes.now) (length images.old) 0) ≡ 0 }
     ensures images { images.new ≡
-        storedIn r (take c (writeStores r images.old b bytes.now)) images.old }
+        stored_in r (take c (write_stores r images.old b bytes.now)) images.old }
 {
     if c < 1 {
         return;

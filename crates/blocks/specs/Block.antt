@@ -17,19 +17,19 @@ store (x ∷ l) zero [] = x ∷ l
 store (x ∷ l) zero (y ∷ b) = y ∷ store l zero b
 
 -- l with the len bytes of m from offset `from` on copied to offset `to`
-abbrev pub copiedTo : List ℕ → ℕ → List ℕ → ℕ → ℕ → List ℕ
-copiedTo l to m from len = store l to (block_at m from len)
+abbrev pub copied_to : List ℕ → ℕ → List ℕ → ℕ → ℕ → List ℕ
+copied_to l to m from len = store l to (block_at m from len)
 
 -- a block of zeroes
 abbrev pub zeros : ℕ → List ℕ
 zeros len = replicate len 0
 
 -- is a block one of len zeroes? One that ends too early is not.
-abbrev pub isZeros : ℕ → List ℕ → Bool
-isZeros zero [] = true
-isZeros zero (x ∷ b) = false
-isZeros (suc len) [] = false
-isZeros (suc len) (x ∷ b) = eqb x 0 && isZeros len b
+abbrev pub is_zeros : ℕ → List ℕ → Bool
+is_zeros zero [] = true
+is_zeros zero (x ∷ b) = false
+is_zeros (suc len) [] = false
+is_zeros (suc len) (x ∷ b) = eqb x 0 && is_zeros len b
 
 -- len bytes from at on and len' bytes from at' on have none in common
 abbrev pub Disjoint : ℕ → ℕ → ℕ → ℕ → Type 0

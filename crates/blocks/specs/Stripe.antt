@@ -1,7 +1,7 @@
 -- The places of the images. Document 01, Images: "One lent byte slice, disk 0 first, each disk T × B bytes."
 use Rattle.std.specs.Prelude.{ℕ, zero, suc, ◌+◌, ◌*◌, ◌≤◌, ◌<◌, List, [], ◌∷◌, ◌++◌}
 use Rattle.blocks.specs.Block.{block_at}
-use Rattle.blocks.specs.Xor.{xorAll, without}
+use Rattle.blocks.specs.Xor.{xor_all, without}
 
 -- "*Place* (S, d): block S of disk d": where it begins, and its bytes
 abbrev pub offset : ℕ → ℕ → ℕ → ℕ → ℕ
@@ -21,4 +21,4 @@ stripe B T l S (suc N) = stripe B T l S N ++ (place B T l S N ∷ [])
 
 -- "the xor of the stripe's other places": of all but disk d's
 abbrev pub others : ℕ → ℕ → List ℕ → ℕ → ℕ → ℕ → List ℕ
-others B T l S N d = xorAll B (without (stripe B T l S N) d)
+others B T l S N d = xor_all B (without (stripe B T l S N) d)

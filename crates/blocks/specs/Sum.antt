@@ -1,7 +1,7 @@
 -- The xor of a stripe's places, group by group of disks: what a group must be, and how far the sum has come.
 use Rattle.std.specs.Prelude.{ℕ, ◌+◌, ◌*◌, ◌≤◌, ◌<◌, ◌≡◌, ◌⊎◌, List, length}
 use Rattle.blocks.specs.declared.types.Group.{Group}
-use Rattle.blocks.specs.Block.{block_at, copiedTo}
+use Rattle.blocks.specs.Block.{block_at, copied_to}
 use Rattle.blocks.specs.Stripe.{others}
 
 -- the xor of the places of the first k disks but `out`, of B bytes each
@@ -11,7 +11,7 @@ sum_to B l x k = others B x.stripes l x.stripe k x.out
 -- the group's places lie within images of so many bytes
 pub record GroupInside (x : Group) (B images : ℕ) : Type 0 where
   pub long : 1 ≤ B
-  pub stripe-lt : x.stripe < x.stripes
+  pub stripe_lt : x.stripe < x.stripes
   pub order : x.first ≤ x.last
   pub within : x.last * (x.stripes * B) ≤ images
 
@@ -30,5 +30,5 @@ PartBegun x l b at n =
     × Begun x (block_at b at n) (block_at (sum_to (length b) l x x.first) at n)
 
 -- b with these n bytes taken on to the sum after the group
-abbrev pub partAdded : Group → List ℕ → List ℕ → ℕ → ℕ → List ℕ
-partAdded x l b at n = copiedTo b at (sum_to (length b) l x x.last) at n
+abbrev pub part_added : Group → List ℕ → List ℕ → ℕ → ℕ → List ℕ
+part_added x l b at n = copied_to b at (sum_to (length b) l x x.last) at n

@@ -4,7 +4,7 @@
 // stores of 16 bytes where `memmove` has 32 or 64. (Lane by lane, with no test, it was not faster.) A rebuild keeps its `memmove`: out of
 // cache the loop had 0.7 to 0.8 of its speed on one processor, and was within 3 % on another.
 ghost use Rattle.std.specs.Prelude.{◌≡◌, ◌+◌, ◌≤◌, length};
-ghost use Rattle.blocks.specs.Block.{block_at, store, copiedTo, zeros};
+ghost use Rattle.blocks.specs.Block.{block_at, store, copied_to, zeros};
 
 // Zeroes the len bytes from at on.
 pub fn zero_block(images: &mut [u8], at: usize, len: usize)
@@ -46,7 +46,7 @@ pub fn store_bytes(target: &mut [u8], at: usize, bytes: &[u8])
 fn copy_through(source: &[u8], from: usize, target: &mut [u8], to: usize, own: &mut [u8])
     requires { (from + length own.old ≤ length source.now) × (to + length own.old ≤ length target.old) }
     ensures { target.new ≡
-        copiedTo target.old to source.now from (length own.old) }
+        copied_to target.old to source.now from (length own.old) }
 {
     load_bytes(source, from, own);
     store_bytes(target, to, own);
@@ -56,7 +56,7 @@ fn copy_through(source: &[u8], from: usize, target: &mut [u8], to: usize, own: &
 fn copy_within_through(images: &mut [u8], from: usize, to: usize, own: &mut [u8])
     requires { (from + length own.old ≤ length images.old) × (to + length own.old ≤ length images.old) }
     ensures { images.new ≡
-        copiedTo images.old to images.old from (length own.old) }
+        copied_to images.old to images.old from (length own.old) }
 {
     load_bytes(images, from, own);
     store_bytes(images, to, own);
@@ -85,7 +85,7 @@ pub fn copy_out(images: &[u8], at: usize, block: &mut [u8])
 // Copies the len bytes from `from` on to `to`.
 fn copy_within(images: &mut [u8], from: usize, to: usize, len: usize)
     requires { (len ≤ 4096) × (from + len ≤ length images.old) × (to + len ≤ length images.old) }
-    ensures { images.new ≡ copiedTo images.old to images.old from len }
+    ensures { images.new ≡ copied_to images.old to images.old from len }
 {
     let mut own = [0u8; 4096];
     copy_within_through(images, from, to, &mut own[..len]);
@@ -95,7 +95,7 @@ fn copy_within(images: &mut [u8], from: usize, to: usize, len: usize)
 pub fn move_block(images: &mut [u8], from: usize, to: usize, len: usize)
     requires { (len ≤ 4096) × (from + len ≤ length images.old) × (to + len ≤ length images.old) }
     ensures images { images.new ≡
-        store (copiedTo images.old to images.old from len) from (zeros len) }
+        store (copied_to images.old to images.old from len) from (zeros len) }
 {
     copy_within(images, from, to, len);
     zero_block(images, from, len);

@@ -3,7 +3,7 @@
 ghost use Rattle.std.specs.Prelude.{◌≡◌, cond, ◌+◌, ◌*◌, ◌≤◌, ◌<◌, eqb, length};
 ghost use Rattle.blocks.specs.Block.{block_at, zeros};
 ghost use Rattle.blocks.specs.Stripe.{others};
-ghost use Rattle.blocks.specs.Sum.{sum_to, GroupInside, GroupBegun, PartBegun, partAdded};
+ghost use Rattle.blocks.specs.Sum.{sum_to, GroupInside, GroupBegun, PartBegun, part_added};
 
 use crate::copy::{load_bytes, store_bytes, zero_block};
 use crate::place::offset_of;
@@ -54,7 +54,7 @@ pub(crate) fn begin(block: &[u8], at: usize, first: usize, part: &mut [u8])
 // Takes the bytes of block from at on, as many as piece has, from the sum before the group to the sum after it, through piece.
 fn add_through(images: &[u8], x: Group, at: usize, block: &mut [u8], piece: &mut [u8])
     requires { PartBegun x images.now block.old at (length piece.old) }
-    ensures { block.new ≡ partAdded x images.now block.old at (length piece.old) }
+    ensures { block.new ≡ part_added x images.now block.old at (length piece.old) }
 {
     let len = block.len();
     begin(block, at, x.first, piece);
@@ -65,7 +65,7 @@ fn add_through(images: &[u8], x: Group, at: usize, block: &mut [u8], piece: &mut
 // The same for a whole piece.
 fn add_piece(images: &[u8], x: Group, at: usize, block: &mut [u8])
     requires { PartBegun x images.now block.old at 128 }
-    ensures { block.new ≡ partAdded x images.now block.old at 128 }
+    ensures { block.new ≡ part_added x images.now block.old at 128 }
 {
     let mut piece = [0u8; 128];
     add_through(images, x, at, block, &mut piece[..PIECE]);
@@ -74,7 +74,7 @@ fn add_piece(images: &[u8], x: Group, at: usize, block: &mut [u8])
 // The same for count bytes, half a piece at most.
 fn add_less(images: &[u8], x: Group, at: usize, count: usize, block: &mut [u8])
     requires { (count ≤ 64) × PartBegun x images.now block.old at count }
-    ensures { block.new ≡ partAdded x images.now block.old at count }
+    ensures { block.new ≡ part_added x images.now block.old at count }
 {
     let mut piece = [0u8; 64];
     add_through(images, x, at, block, &mut piece[..count]);
@@ -84,7 +84,7 @@ fn add_less(images: &[u8], x: Group, at: usize, count: usize, block: &mut [u8])
 fn add_pieces(images: &[u8], x: Group, block: &mut [u8]) -> usize
     requires { GroupBegun x images.now block.old }
     ensures { (result ≤ length block.old) × (length block.old < result + 128)
-        × (block.new ≡ partAdded x images.now block.old 0 result) }
+        × (block.new ≡ part_added x images.now block.old 0 result) }
 {
     let len = block.len();
     let mut at = 0;

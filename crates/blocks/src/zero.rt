@@ -1,7 +1,7 @@
 // Whether bytes are zeroes: those of a run, and those of a stripe's sum, of which no more is looked at than up to the first piece that is
 // not.
 ghost use Rattle.std.specs.Prelude.{◌≡◌, ◌+◌, ◌-◌, ◌≤◌, ◌<◌, length};
-ghost use Rattle.blocks.specs.Block.{block_at, isZeros};
+ghost use Rattle.blocks.specs.Block.{block_at, is_zeros};
 ghost use Rattle.blocks.specs.Sum.{sum_to, GroupBegun, PartBegun};
 
 use crate::sum::{HALF, PIECE, add_disks, begin};
@@ -10,7 +10,7 @@ use crate::types::Group;
 // Are the len bytes from at on zeroes? (An or of all of them, with no way out before the end: so the compiler takes many at once.)
 pub fn is_zero(source: &[u8], at: usize, len: usize) -> bool
     requires { at + len ≤ length source.now }
-    ensures zero { result ≡ isZeros len (block_at source.now at len) }
+    ensures zero { result ≡ is_zeros len (block_at source.now at len) }
 {
     let mut any = 0u8;
     let mut i = 0;
@@ -24,7 +24,7 @@ pub fn is_zero(source: &[u8], at: usize, len: usize) -> bool
 // Are the bytes from at on, as many as piece has, zeroes in the sum after the group? They are summed in piece.
 fn part_cancels(images: &[u8], x: Group, at: usize, block: &[u8], piece: &mut [u8]) -> bool
     requires { PartBegun x images.now block.now at (length piece.old) }
-    ensures { result ≡ isZeros (length piece.old)
+    ensures { result ≡ is_zeros (length piece.old)
         (block_at (sum_to (length block.now) images.now x x.last) at (length piece.old)) }
 {
     let len = block.len();
@@ -38,7 +38,7 @@ fn part_cancels(images: &[u8], x: Group, at: usize, block: &[u8], piece: &mut [u
 fn piece_cancels(images: &[u8], x: Group, at: usize, block: &[u8]) -> bool
     requires { PartBegun x images.now block.now at 128 }
     ensures { result ≡
-        isZeros 128 (block_at (sum_to (length block.now) images.now x x.last) at 128) }
+        is_zeros 128 (block_at (sum_to (length block.now) images.now x x.last) at 128) }
 {
     let mut piece = [0u8; 128];
     part_cancels(images, x, at, block, &mut piece[..PIECE])
@@ -48,7 +48,7 @@ fn piece_cancels(images: &[u8], x: Group, at: usize, block: &[u8]) -> bool
 fn less_cancels(images: &[u8], x: Group, at: usize, count: usize, block: &[u8]) -> bool
     requires { (count ≤ 64) × PartBegun x images.now block.now at count }
     ensures { result ≡
-        isZeros count (block_at (sum_to (length block.now) images.now x x.last) at count) }
+        is_zeros count (block_at (sum_to (length block.now) images.now x x.last) at count) }
 {
     let mut piece = [0u8; 64];
     part_cancels(images, x, at, block, &mut piece[..count])
@@ -57,7 +57,7 @@ fn less_cancels(images: &[u8], x: Group, at: usize, count: usize, block: &[u8]) 
 // Those from at on, less than a piece?
 fn rest_cancels(images: &[u8], x: Group, at: usize, block: &[u8]) -> bool
     requires { GroupBegun x images.now block.now × (at ≤ length block.now) × (length block.now < at + 128) }
-    ensures { result ≡ isZeros (length block.now - at)
+    ensures { result ≡ is_zeros (length block.now - at)
         (block_at (sum_to (length block.now) images.now x x.last) at (length block.now - at)) }
 {
     let len = block.len();
@@ -75,7 +75,7 @@ fn rest_cancels(images: &[u8], x: Group, at: usize, block: &[u8]) -> bool
 pub fn cancels(images: &[u8], x: Group, block: &[u8]) -> bool
     requires { GroupBegun x images.now block.now }
     ensures zero { result ≡
-        isZeros (length block.now) (sum_to (length block.now) images.now x x.last) }
+        is_zeros (length block.now) (sum_to (length block.now) images.now x x.last) }
 {
     let len = block.len();
     let mut at = 0;

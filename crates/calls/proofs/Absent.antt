@@ -2,9 +2,9 @@
 use mathlib.Core.Path.{refl, ◌∙◌}
 use borrow.Author.Tests.{leb-true, le-leb, eqb-true, eq-eqb, ne_eqb}
 use Rattle.conditions.proofs.Tests.{both, and-true}
-use Rattle.calls.specs.Health.{isLost}
+use Rattle.calls.specs.Health.{is_lost}
 use Rattle.calls.specs.Absent.{AbsentIs}
-use Rattle.calls.proofs.Laws.Reasons.{exactly, is_lost}
+use Rattle.calls.proofs.Laws.Reasons.{exactly, is-lost}
 
 pub absent-is : AbsentIs
 absent-is =
@@ -16,6 +16,6 @@ absent-is =
         λ p. and-true _ _ (eq-eqb d o p.0) ∙ le-leb c S p.1,
       );
       lost = λ S d. refl;
-      is_lost = λ h. exactly (isLost h) (is_lost h);
+      is-lost = λ h. exactly (is_lost h) (is-lost h);
       after-out = λ d o c. (refl, refl, refl, rw (eq-eqb d d refl) refl, λ ne. rw (ne_eqb d o ne) refl);
     }

@@ -7,23 +7,23 @@ use mathlib.Core.List.{List, []}
 use native.Mathlib.Omega.{arith}
 use lib.ListN.{length}
 use Rattle.layout.specs.declared.Role.TheVariants.{Data}
-use Rattle.layout.specs.Layout.{layout, nextStripe, next_from}
+use Rattle.layout.specs.Layout.{layout, next_stripe, next_from}
 use Rattle.blocks.proofs.Laws.Grid.{Grid}
 use Rattle.state.specs.declared.types.Health.TheVariants.{Rebuilding}
 use Rattle.state.specs.declared.types.Record.{Record}
 use Rattle.state.specs.Good.{geometry}
 use Rattle.calls.specs.Call.{Call, view, write, grow, continue, status, locate, owner, restart, Event, on, feed, count}
-use Rattle.state.specs.Update.{grownBy}
+use Rattle.state.specs.Update.{grown_by}
 use Rattle.calls.specs.Health.{absent}
-use Rattle.calls.specs.Images.{disksOf, size, sizeWith, place_in, storedIn}
-use Rattle.calls.specs.Table.{refusalOf}
-use Rattle.calls.specs.Effect.{place_of, parityOf, scratchLeft, restartStores, effect, imagesLeft, room_left, act, untouched, settle, called}
+use Rattle.calls.specs.Images.{disks_of, size, size_with, place_in, stored_in}
+use Rattle.calls.specs.Table.{refusal_of}
+use Rattle.calls.specs.Effect.{place_of, parity_of, scratch_left, restart_stores, effect, images_left, room_left, act, untouched, settle, called}
 use Rattle.calls.specs.Alone.{Stays, Alone, RecordOnly}
-use Rattle.calls.proofs.Laws.Column.{storeIf}
+use Rattle.calls.proofs.Laws.Column.{store_if}
 use Rattle.calls.proofs.Laws.Stores.{length-stored, cell-stored, stored_last, column-below}
-use Rattle.calls.proofs.Laws.Holding.{cellIn}
+use Rattle.calls.proofs.Laws.Holding.{cell_in}
 use Rattle.calls.proofs.Laws.Write.{parity-is, cell-write}
-use Rattle.calls.proofs.Laws.Kept.{same_place, storeIf-other, storeIf-masked}
+use Rattle.calls.proofs.Laws.Kept.{same_place, store_if-other, store_if-masked}
 use Rattle.calls.proofs.Laws.Table.{status-rows, locate-rows, owner-rows}
 use Rattle.calls.proofs.Laws.Kinds.{Passed, bounds, writing, growing, continuing, mending, zeroed, within-grow, facts}
 use Rattle.calls.proofs.Laws.Rebuild as rebuild
@@ -35,19 +35,19 @@ module _ (r : Record) (e : Event) where
 
   -- the images that call c leaves
   abbrev pub left : Call → List ℕ
-  left c = imagesLeft (effect c r e) img
+  left c = images_left (effect c r e) img
 
   pub long_of : (c : Call) → length (left c) ≡ length img
   long_of c = (facts r e c).long
 
   -- a view of a disk that is in leaves the scratch
   scratch-of : (b : ℕ) → absent r.health (place_of r b).stripe (place_of r b).disk ≡ false → room_left (effect (view b) r e) e.room ≡ e.room
-  unfolding effect scratchLeft
+  unfolding effect scratch_left
   scratch-of b u = rw u refl
 
   -- ---- the places that write, grow and continue leave
 
-  module _ (b : ℕ) (v : List ℕ) (z : Passed r e (write b v)) (S d : ℕ) (lS : S < r.stripes) (ld : d < disksOf r) where
+  module _ (b : ℕ) (v : List ℕ) (z : Passed r e (write b v)) (S d : ℕ) (lS : S < r.stripes) (ld : d < disks_of r) where
     abbrev Sb : ℕ
     Sb = (place_of r b).stripe
 
@@ -55,62 +55,62 @@ module _ (r : Record) (e : Event) where
     db = (place_of r b).disk
 
     abbrev pb : ℕ
-    pb = (parityOf r b).disk
+    pb = (parity_of r b).disk
 
     -- a place of which the two stores, whatever they put, leave each byte
-    by-cells : ((I : Grid) (x y : ℕ) → storeIf (absent r.health) (storeIf (absent r.health) I Sb pb x) Sb db y S d ≡ I S d) → place_in r (left (write b v)) S d ≡ place_in r img S d
+    by-cells : ((I : Grid) (x y : ℕ) → store_if (absent r.health) (store_if (absent r.health) I Sb pb x) Sb db y S d ≡ I S d) → place_in r (left (write b v)) S d ≡ place_in r img S d
     unfolding effect
     by-cells same =
         let t = writing r e b v z in
-        same_place (disksOf r) r.block r.stripes (length img) t.long img (left (write b v)) refl (long_of (write b v)) S d lS ld
-        (λ j lj. cell-write r img (bounds r e (write b v) refl z) t.long b t.block-lt v t.whole j lj S d lS ∙ same (cellIn r img j) _ _)
+        same_place (disks_of r) r.block r.stripes (length img) t.long img (left (write b v)) refl (long_of (write b v)) S d lS ld
+        (λ j lj. cell-write r img (bounds r e (write b v) refl z) t.long b t.block-lt v t.whole j lj S d lS ∙ same (cell_in r img j) _ _)
 
-    write-others : (S ≡ (place_of r b).stripe → (d ≢ (place_of r b).disk) × (d ≢ (layout (geometry r)).parity S)) → place_in r (left (write b v)) S d ≡ place_in r img S d
-    write-others ne =
+    write_others : (S ≡ (place_of r b).stripe → (d ≢ (place_of r b).disk) × (d ≢ (layout (geometry r)).parity S)) → place_in r (left (write b v)) S d ≡ place_in r img S d
+    write_others ne =
         let parity : pb ≡ (layout (geometry r)).parity Sb = parity-is (geometry r) (bounds r e (write b v) refl z).array b (writing r e b v z).block-lt in
         by-cells
         (λ I x y.
-        storeIf-other (absent r.health) (storeIf (absent r.health) I Sb pb x) Sb db y S d (λ q. (ne q).0)
-        ∙ storeIf-other (absent r.health) I Sb pb x S d (λ q. λ same. (ne q).1 (same ∙ parity ∙ ap (layout (geometry r)).parity (sym q))))
+        store_if-other (absent r.health) (store_if (absent r.health) I Sb pb x) Sb db y S d (λ q. (ne q).0)
+        ∙ store_if-other (absent r.health) I Sb pb x S d (λ q. λ same. (ne q).1 (same ∙ parity ∙ ap (layout (geometry r)).parity (sym q))))
 
-    write-absent : absent r.health S d ≡ true → place_in r (left (write b v)) S d ≡ place_in r img S d
-    write-absent u =
+    write_absent : absent r.health S d ≡ true → place_in r (left (write b v)) S d ≡ place_in r img S d
+    write_absent u =
         by-cells
         (λ I x y.
-        storeIf-masked (absent r.health) (storeIf (absent r.health) I Sb pb x) Sb db y S d u ∙ storeIf-masked (absent r.health) I Sb pb x S d u)
+        store_if-masked (absent r.health) (store_if (absent r.health) I Sb pb x) Sb db y S d u ∙ store_if-masked (absent r.health) I Sb pb x S d u)
 
-  grow-old : (m : ℕ) → Passed r e (grow m) → (S d : ℕ) → S < r.stripes → d < r.old → place_in r (left (grow m)) S d ≡ place_in r img S d
+  grow_old : (m : ℕ) → Passed r e (grow m) → (S d : ℕ) → S < r.stripes → d < r.old → place_in r (left (grow m)) S d ≡ place_in r img S d
   unfolding effect
-  grow-old m z S d lS ld =
-      let long : length img ≡ sizeWith r m = (growing r e m z).long in
-      rw (stored_last r.block r.stripes (zeroed r e m) (grownBy r m) img)
-      (same_place (r.old + m) r.block r.stripes (length img) long img (storedIn r (zeroed r e m) img) refl
+  grow_old m z S d lS ld =
+      let long : length img ≡ size_with r m = (growing r e m z).long in
+      rw (stored_last r.block r.stripes (zeroed r e m) (grown_by r m) img)
+      (same_place (r.old + m) r.block r.stripes (length img) long img (stored_in r (zeroed r e m) img) refl
       (length-stored r.block r.stripes (zeroed r e m) img) S d lS (omega arith)
       (λ j lj.
       cell-stored r.block r.stripes (r.old + m) (zeroed r e m) img (within-grow r e m) long j S d lj lS
-      ∙ column-below r.block r.stripes r.old j m (cellIn r img j) S d lS ld))
+      ∙ column-below r.block r.stripes r.old j m (cell_in r img j) S d lS ld))
 
-  continue-others : (k o c : ℕ) → r.health ≡ Rebuilding o c → Passed r e (continue k) → (S d : ℕ) → S < r.stripes → d < disksOf r
+  continue_others : (k o c : ℕ) → r.health ≡ Rebuilding o c → Passed r e (continue k) → (S d : ℕ) → S < r.stripes → d < disks_of r
       → (d ≡ o → (S < c) ⊎ (c + min k (r.stripes - c) ≤ S)) → place_in r (left (continue k)) S d ≡ place_in r img S d
   unfolding effect
-  continue-others k o c h z S d lS ld far =
+  continue_others k o c h z S d lS ld far =
       let l = bounds r e (continue k) refl z in
       let long : length img ≡ size r = (continuing r e k z).long in
       rw (rebuild.images-are r img o c h k)
-      (same_place (disksOf r) r.block r.stripes (length img) long img (rebuild.left r img o c h k) refl
+      (same_place (disks_of r) r.block r.stripes (length img) long img (rebuild.left r img o c h k) refl
       (length-stored r.block r.stripes (rebuild.remade r img o c h k) img) S d lS ld
       (λ j lj. rebuild.cell_apart r img o c h k l long j S d lj lS far))
 
   -- a place of which a mark, if there is one, is not
-  restart-others : Passed r e restart → (S d b : ℕ) → S < r.stripes → d < disksOf r → (layout (geometry r)).owner S d ≡ Data b
-      → (r.mark ≡ true → S ≡ nextStripe (restart.undone r) → d ≢ next_from (restart.undone r)) → place_in r (left restart) S d ≡ place_in r img S d
+  restart_others : Passed r e restart → (S d b : ℕ) → S < r.stripes → d < disks_of r → (layout (geometry r)).owner S d ≡ Data b
+      → (r.mark ≡ true → S ≡ next_stripe (restart.undone r) → d ≢ next_from (restart.undone r)) → place_in r (left restart) S d ≡ place_in r img S d
   unfolding effect
-  restart-others z S d b lS ld o far =
+  restart_others z S d b lS ld o far =
       let l = bounds r e restart refl z in
       let long : length img ≡ size r = (mending r e z).long in
-      same_place (disksOf r) r.block r.stripes (length img) long img (restart.remade r img) refl
-      (length-stored r.block r.stripes (restartStores r img) img) S d lS ld
-      (λ j lj. restart.data-stays r img l long j S lj lS d b ld o ∙ restart.cleared-other r (cellIn r img j) S d far)
+      same_place (disks_of r) r.block r.stripes (length img) long img (restart.remade r img) refl
+      (length-stored r.block r.stripes (restart_stores r img) img) S d lS ld
+      (λ j lj. restart.data_stays r img l long j S lj lS d b ld o ∙ restart.cleared-other r (cell_in r img j) S d far)
 
 -- how many stripes a continue reports
 counted : (e : Event) (r : Record) (k o c : ℕ) → e.call ≡ continue k → r.health ≡ Rebuilding o c → count (act e r).answer ≡ min k (r.stripes - c)
@@ -125,16 +125,16 @@ alone e r z =
     record {
       inside = f.inside z;
       long = f.long;
-      room-long = f.room-long z;
+      room_long = f.room_long z;
       room = f.room;
       scratch = λ b q u. subst (λ (c : Call). room_left (effect c r e) e.room ≡ e.room) (sym q) (scratch-of r e b u);
       images = f.images;
-      write-others = λ b v q S d lS ld ne. kept S d (write b v) q (λ x. write-others r e b v x S d lS ld ne);
-      write-absent = λ b v q S d lS ld u. kept S d (write b v) q (λ x. write-absent r e b v x S d lS ld u);
-      grow-old = λ m q S d lS ld. kept S d (grow m) q (λ x. grow-old r e m x S d lS ld);
-      continue-others = λ k o c q h S d lS ld far. kept S d (continue k) q
-          (λ x. continue-others r e k o c h x S d lS ld (λ p. subst (λ (n : ℕ). (S < c) ⊎ (c + n ≤ S)) (counted e r k o c q h) (far p)));
-      restart-others = λ q S d b lS ld o far. kept S d restart q (λ x. restart-others r e x S d b lS ld o far);
+      write_others = λ b v q S d lS ld ne. kept S d (write b v) q (λ x. write_others r e b v x S d lS ld ne);
+      write_absent = λ b v q S d lS ld u. kept S d (write b v) q (λ x. write_absent r e b v x S d lS ld u);
+      grow_old = λ m q S d lS ld. kept S d (grow m) q (λ x. grow_old r e m x S d lS ld);
+      continue_others = λ k o c q h S d lS ld far. kept S d (continue k) q
+          (λ x. continue_others r e k o c h x S d lS ld (λ p. subst (λ (n : ℕ). (S < c) ⊎ (c + n ≤ S)) (counted e r k o c q h) (far p)));
+      restart_others = λ q S d b lS ld o far. kept S d restart q (λ x. restart_others r e x S d b lS ld o far);
     }
   where
     -- what holds of the call that this is
@@ -154,7 +154,7 @@ alike e e' r k k' same q = subst (λ (n : ℕ). (settle k (untouched e r) (act e
 
 -- the number of call c on r, by the lengths of what it is lent
 abbrev number : Record → Call → List ℕ → List ℕ → ℕ
-number r c img room = refusalOf r (feed c (length img) (length room))
+number r c img room = refusal_of r (feed c (length img) (length room))
 
 pub record-only : RecordOnly
 unfolding called effect

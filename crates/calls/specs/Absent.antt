@@ -4,7 +4,7 @@
 use Rattle.std.specs.Prelude.{ℕ, ◌≤◌, ◌≡◌, true, false, ◌↔◌, ◌≢◌}
 use Rattle.state.specs.declared.types.Health.TheVariants.{Whole, Out, Lost, Rebuilding}
 use Rattle.state.specs.declared.types.Health.{Health}
-use Rattle.calls.specs.Health.{isLost, absent, afterOut}
+use Rattle.calls.specs.Health.{is_lost, absent, after_out}
 
 pub record AbsentIs : Type 0 where
   -- all disks are in
@@ -15,8 +15,8 @@ pub record AbsentIs : Type 0 where
   pub rebuilding : (o c S d : ℕ) → (absent (Rebuilding o c) S d ≡ true) ↔ ((d ≡ o) × (c ≤ S))
   -- two were out at once, and any may be
   pub lost : (S d : ℕ) → absent Lost S d ≡ true
-  pub is_lost : (h : Health) → (isLost h ≡ true) ↔ (h ≡ Lost)
+  pub is-lost : (h : Health) → (is_lost h ≡ true) ↔ (h ≡ Lost)
   -- "whole becomes out; out with another disk becomes lost", and stays so; of a rebuild "Another disk out means lost; the same disk out
   -- means out again."
-  pub after-out : (d o c : ℕ) → (afterOut Whole d ≡ Out d) × (afterOut (Out o) d ≡ Lost) × (afterOut Lost d ≡ Lost)
-      × (afterOut (Rebuilding d c) d ≡ Out d) × (d ≢ o → afterOut (Rebuilding o c) d ≡ Lost)
+  pub after-out : (d o c : ℕ) → (after_out Whole d ≡ Out d) × (after_out (Out o) d ≡ Lost) × (after_out Lost d ≡ Lost)
+      × (after_out (Rebuilding d c) d ≡ Out d) × (d ≢ o → after_out (Rebuilding o c) d ≡ Lost)

@@ -3,30 +3,30 @@
 -- The statement is `Acts`; `acts` of proofs/Acts.antt proves it.
 use Rattle.std.specs.Prelude.{ℕ, suc, ◌+◌, ◌-◌, ◌*◌, ◌≤◌, ◌<◌, min, ◌≡◌, true, false, ◌≢◌, List}
 use Rattle.layout.specs.declared.Role.TheVariants.{Blank}
-use Rattle.layout.specs.Layout.{totalOf, at, capacity, layout, nextStripe, next_from}
+use Rattle.layout.specs.Layout.{total_of, at, capacity, layout, next_stripe, next_from}
 use Rattle.blocks.specs.Block.{zeros}
-use Rattle.blocks.specs.Xor.{xorB}
+use Rattle.blocks.specs.Xor.{xor_b}
 use Rattle.state.specs.declared.types.Health.TheVariants.{Whole, Out, Lost, Rebuilding}
 use Rattle.state.specs.declared.types.Record.{Record}
 use Rattle.state.specs.Good.{geometry}
 use Rattle.calls.specs.Call.{Call, format, read, view, write, grow, advance, out, begin, continue}
 use Rattle.calls.specs.Call.{status, locate, owner, sweep, restart}
-use Rattle.calls.specs.Call.{Event, on, fed, done, bytes, made, allSound, unsoundAt, figures, placed, owned}
-use Rattle.state.specs.Update.{formatted, grownBy, withMoves, withHealth, withMark}
+use Rattle.calls.specs.Call.{Event, on, fed, done, bytes, made, all_sound, unsound_at, figures, placed, owned}
+use Rattle.state.specs.Update.{formatted, grown_by, with_moves, with_health, with_mark}
 use Rattle.calls.specs.Health.{absent}
-use Rattle.calls.specs.Images.{disksOf, place_in, othersIn, seen}
+use Rattle.calls.specs.Images.{disks_of, place_in, others_in, seen}
 use Rattle.calls.specs.Sound.{Sound}
-use Rattle.calls.specs.Table.{idle, refusalOf}
+use Rattle.calls.specs.Table.{idle, refusal_of}
 use Rattle.calls.specs.Effect.{place_of, act}
-use Rattle.calls.specs.Alone.{movedOn}
+use Rattle.calls.specs.Alone.{moved_on}
 
 -- place (S, d) of the images that the call leaves
 abbrev pub left_at : Event → Record → ℕ → ℕ → List ℕ
 left_at e r S d = place_in r (act e r).images S d
 
 -- the record after one move
-abbrev pub oneMore : Record → Record
-oneMore r = withMoves r (suc r.moves)
+abbrev pub one_more : Record → Record
+one_more r = with_moves r (suc r.moves)
 
 -- the calls that store the record
 pub data StoresRecord : Call → Type 0 where
@@ -50,88 +50,88 @@ pub data OnlyDone : Call → Type 0 where
 -- what is claimed of one call e on a record r ..
 pub record Does (e : Event) (r : Record) : Type 0 where
   -- "An out disk is never read: its place counts as the xor of the stripe's other places." Any other is read as it stands.
-  pub seen-in : (S d : ℕ) → absent r.health S d ≡ false → seen r e.images S d ≡ place_in r e.images S d
-  pub seen-out : (S d : ℕ) → absent r.health S d ≡ true → seen r e.images S d ≡ othersIn r e.images S d
+  pub seen_in : (S d : ℕ) → absent r.health S d ≡ false → seen r e.images S d ≡ place_in r e.images S d
+  pub seen_out : (S d : ℕ) → absent r.health S d ≡ true → seen r e.images S d ≡ others_in r e.images S d
   -- the place of block b is the layout's
   pub place_is : (b : ℕ) → place_of r b ≡ ((layout (geometry r)).place b).block
   -- format: "zeroes the images; record whole, m = t = 0"
-  pub format-images : (n B T : ℕ) → e.call ≡ format n B T → (act e r).images ≡ zeros (n * (T * B))
-  pub format-record : (n B T : ℕ) → e.call ≡ format n B T → (act e r).state ≡ formatted n B T
+  pub format_images : (n B T : ℕ) → e.call ≡ format n B T → (act e r).images ≡ zeros (n * (T * B))
+  pub format_record : (n B T : ℕ) → e.call ≡ format n B T → (act e r).state ≡ formatted n B T
   -- read: "fills a lent block"
-  pub read-block : (b : ℕ) → e.call ≡ read b → let q = place_of r b in (act e r).room ≡ seen r e.images q.stripe q.disk
+  pub read_block : (b : ℕ) → e.call ≡ read b → let q = place_of r b in (act e r).room ≡ seen r e.images q.stripe q.disk
   pub read_answer : (b : ℕ) → e.call ≡ read b → let q = place_of r b in (act e r).answer ≡ bytes (seen r e.images q.stripe q.disk)
   -- view: "returns the block as a part of the images, or, if its disk is out, as the lent scratch filled with it"
-  pub view-answer : (b : ℕ) → e.call ≡ view b → let q = place_of r b in (act e r).answer ≡ bytes (seen r e.images q.stripe q.disk)
-  pub view-scratch : (b : ℕ) → e.call ≡ view b → let q = place_of r b in
-      absent r.health q.stripe q.disk ≡ true → (act e r).room ≡ othersIn r e.images q.stripe q.disk
+  pub view_answer : (b : ℕ) → e.call ≡ view b → let q = place_of r b in (act e r).answer ≡ bytes (seen r e.images q.stripe q.disk)
+  pub view_scratch : (b : ℕ) → e.call ≡ view b → let q = place_of r b in
+      absent r.health q.stripe q.disk ≡ true → (act e r).room ≡ others_in r e.images q.stripe q.disk
   -- write: "the data place takes the data" ..
-  pub write-data : (b : ℕ) (v : List ℕ) → e.call ≡ write b v → let q = place_of r b in
+  pub write_data : (b : ℕ) (v : List ℕ) → e.call ≡ write b v → let q = place_of r b in
       absent r.health q.stripe q.disk ≡ false → left_at e r q.stripe q.disk ≡ v
   -- .. and "the parity place its old value xor old block xor data; either is skipped if its disk is out"
-  pub write-parity : (b : ℕ) (v : List ℕ) → e.call ≡ write b v → let q = place_of r b in
+  pub write_parity : (b : ℕ) (v : List ℕ) → e.call ≡ write b v → let q = place_of r b in
       let p = (layout (geometry r)).parity q.stripe in
       let before = seen r e.images q.stripe in
-      absent r.health q.stripe p ≡ false → left_at e r q.stripe p ≡ xorB (xorB (before p) (before q.disk)) v
+      absent r.health q.stripe p ≡ false → left_at e r q.stripe p ≡ xor_b (xor_b (before p) (before q.disk)) v
   -- grow: "given images of n + m disks, zeroes those behind the first n; sets m"
-  pub grow-new : (m : ℕ) → e.call ≡ grow m → (S d : ℕ) → S < r.stripes → r.old ≤ d → d < r.old + m
+  pub grow_new : (m : ℕ) → e.call ≡ grow m → (S d : ℕ) → S < r.stripes → r.old ≤ d → d < r.old + m
       → left_at e r S d ≡ zeros r.block
-  pub grow-record : (m : ℕ) → e.call ≡ grow m → (act e r).state ≡ withHealth (grownBy r m) Whole
+  pub grow_record : (m : ℕ) → e.call ≡ grow m → (act e r).state ≡ with_health (grown_by r m) Whole
   -- advance: "makes moves in order until k are made or none is left, and reports how many, which is t's rise"
-  pub advance-answer : (k : ℕ) → e.call ≡ advance k → (act e r).answer ≡ made (min k (totalOf (geometry r) - r.moves))
-  pub advance-record : (k : ℕ) → e.call ≡ advance k
-      → (act e r).state ≡ withMoves r (r.moves + min k (totalOf (geometry r) - r.moves))
-  -- .. each move on what the one before left (`movedOn`, the images after the next move: `OneMove`)
-  pub advance-none : e.call ≡ advance 0 → (act e r).images ≡ e.images
-  pub advance-next : (k : ℕ) → e.call ≡ advance (suc k) → let r' = oneMore r in
-      idle (geometry r') ≡ false → (act e r).images ≡ (act (on (advance k) (movedOn r e.images) e.room) r').images
-  pub advance-last : (k : ℕ) → e.call ≡ advance (suc k) → idle (geometry (oneMore r)) ≡ true → (act e r).images ≡ movedOn r e.images
+  pub advance_answer : (k : ℕ) → e.call ≡ advance k → (act e r).answer ≡ made (min k (total_of (geometry r) - r.moves))
+  pub advance_record : (k : ℕ) → e.call ≡ advance k
+      → (act e r).state ≡ with_moves r (r.moves + min k (total_of (geometry r) - r.moves))
+  -- .. each move on what the one before left (`moved_on`, the images after the next move: `OneMove`)
+  pub advance_none : e.call ≡ advance 0 → (act e r).images ≡ e.images
+  pub advance_next : (k : ℕ) → e.call ≡ advance (suc k) → let r' = one_more r in
+      idle (geometry r') ≡ false → (act e r).images ≡ (act (on (advance k) (moved_on r e.images) e.room) r').images
+  pub advance_last : (k : ℕ) → e.call ≡ advance (suc k) → idle (geometry (one_more r)) ≡ true → (act e r).images ≡ moved_on r e.images
   -- out: "whole becomes out; out with another disk becomes lost"; of a rebuild "Another disk out means lost; the same disk out means out
   -- again."
-  pub out_first : (d : ℕ) → e.call ≡ out d → r.health ≡ Whole → (act e r).state ≡ withHealth r (Out d)
-  pub out-second : (d o : ℕ) → e.call ≡ out d → r.health ≡ Out o → (act e r).state ≡ withHealth r Lost
-  pub out-other : (d o c : ℕ) → e.call ≡ out d → r.health ≡ Rebuilding o c → d ≢ o → (act e r).state ≡ withHealth r Lost
-  pub out-again : (o c : ℕ) → e.call ≡ out o → r.health ≡ Rebuilding o c → (act e r).state ≡ withHealth r (Out o)
+  pub out_first : (d : ℕ) → e.call ≡ out d → r.health ≡ Whole → (act e r).state ≡ with_health r (Out d)
+  pub out_second : (d o : ℕ) → e.call ≡ out d → r.health ≡ Out o → (act e r).state ≡ with_health r Lost
+  pub out_other : (d o c : ℕ) → e.call ≡ out d → r.health ≡ Rebuilding o c → d ≢ o → (act e r).state ≡ with_health r Lost
+  pub out_again : (o c : ℕ) → e.call ≡ out o → r.health ≡ Rebuilding o c → (act e r).state ≡ with_health r (Out o)
   -- begin: "changes the record only", to no stripe done
-  pub begin-record : (d : ℕ) → e.call ≡ begin d → (act e r).state ≡ withHealth r (Rebuilding d 0)
+  pub begin_record : (d : ℕ) → e.call ≡ begin d → (act e r).state ≡ with_health r (Rebuilding d 0)
   -- continue: "does stripes in rising order until k are done or none is left, and reports how many" ..
-  pub continue-answer : (k o c : ℕ) → e.call ≡ continue k → r.health ≡ Rebuilding o c → (act e r).answer ≡ made (min k (r.stripes - c))
+  pub continue_answer : (k o c : ℕ) → e.call ≡ continue k → r.health ≡ Rebuilding o c → (act e r).answer ≡ made (min k (r.stripes - c))
   -- .. each as the xor of the others ..
-  pub continue-disk : (k o c : ℕ) → e.call ≡ continue k → r.health ≡ Rebuilding o c → (S : ℕ) → c ≤ S → S < r.stripes → S < c + k
-      → left_at e r S o ≡ othersIn r e.images S o
+  pub continue_disk : (k o c : ℕ) → e.call ≡ continue k → r.health ≡ Rebuilding o c → (S : ℕ) → c ≤ S → S < r.stripes → S < c + k
+      → left_at e r S o ≡ others_in r e.images S o
   -- .. with "disk and stripes done"; "At T health is whole."
-  pub continue-part : (k o c : ℕ) → e.call ≡ continue k → r.health ≡ Rebuilding o c → c + k < r.stripes
-      → (act e r).state ≡ withHealth r (Rebuilding o (c + k))
-  pub continue-end : (k o c : ℕ) → e.call ≡ continue k → r.health ≡ Rebuilding o c → r.stripes ≤ c + k
-      → (act e r).state ≡ withHealth r Whole
+  pub continue_part : (k o c : ℕ) → e.call ≡ continue k → r.health ≡ Rebuilding o c → c + k < r.stripes
+      → (act e r).state ≡ with_health r (Rebuilding o (c + k))
+  pub continue_end : (k o c : ℕ) → e.call ≡ continue k → r.health ≡ Rebuilding o c → r.stripes ≤ c + k
+      → (act e r).state ≡ with_health r Whole
   -- sweep: stripe S if it is unsound and all before it are sound, and S + 1 read; none, and T, if all are sound. The images may be any:
   -- "The images may come from anywhere."
-  pub sweep-first : (S : ℕ) → e.call ≡ sweep → S < r.stripes → ¬ Sound r e.images S
-      → ((R : ℕ) → R < S → Sound r e.images R) → (act e r).answer ≡ unsoundAt S (S + 1)
-  pub sweep-none : e.call ≡ sweep → ((S : ℕ) → S < r.stripes → Sound r e.images S) → (act e r).answer ≡ allSound r.stripes
+  pub sweep_first : (S : ℕ) → e.call ≡ sweep → S < r.stripes → ¬ Sound r e.images S
+      → ((R : ℕ) → R < S → Sound r e.images R) → (act e r).answer ≡ unsound_at S (S + 1)
+  pub sweep_none : e.call ≡ sweep → ((S : ℕ) → S < r.stripes → Sound r e.images S) → (act e r).answer ≡ all_sound r.stripes
   -- restart: "takes the mark off", and leaves all else of the record ..
-  pub restart-record : e.call ≡ restart → (act e r).state ≡ withMark r false
+  pub restart_record : e.call ≡ restart → (act e r).state ≡ with_mark r false
   -- .. "clears a marked place", the one that the last move left ..
-  pub restart-cleared : e.call ≡ restart → r.mark ≡ true → let g = at (geometry r) (r.moves - 1) in
-      left_at e r (nextStripe g) (next_from g) ≡ zeros r.block
+  pub restart_cleared : e.call ≡ restart → r.mark ≡ true → let g = at (geometry r) (r.moves - 1) in
+      left_at e r (next_stripe g) (next_from g) ≡ zeros r.block
   -- .. "zeroes blanks" ..
-  pub restart-blanks : e.call ≡ restart → (S d : ℕ) → S < r.stripes → d < disksOf r → (layout (geometry r)).owner S d ≡ Blank
+  pub restart_blanks : e.call ≡ restart → (S d : ℕ) → S < r.stripes → d < disks_of r → (layout (geometry r)).owner S d ≡ Blank
       → left_at e r S d ≡ zeros r.block
   -- .. and "makes every parity afresh": the xor of the stripe's other places, as it leaves them ..
-  pub restart-parity : e.call ≡ restart → (S : ℕ) → S < r.stripes → let p = (layout (geometry r)).parity S in
-      left_at e r S p ≡ othersIn r (act e r).images S p
+  pub restart_parity : e.call ≡ restart → (S : ℕ) → S < r.stripes → let p = (layout (geometry r)).parity S in
+      left_at e r S p ≡ others_in r (act e r).images S p
   -- .. so that all stripes are sound, whatever it was lent
-  pub restart-sound : e.call ≡ restart → (S : ℕ) → S < r.stripes → Sound (withMark r false) (act e r).images S
+  pub restart_sound : e.call ≡ restart → (S : ℕ) → S < r.stripes → Sound (with_mark r false) (act e r).images S
   -- status: "capacity, t, total, health"; locate: "block place, parity place and whether a move now done, of any growth, carried the block
   -- itself" (document 02, (f)); owner: "the block number there, or parity, or blank"
-  pub status-answer : e.call ≡ status
-      → (act e r).answer ≡ figures (capacity (geometry r)) r.moves (totalOf (geometry r)) r.health
-  pub locate-answer : (b : ℕ) → e.call ≡ locate b → (act e r).answer ≡ placed ((layout (geometry r)).place b)
-  pub owner-answer : (S d : ℕ) → e.call ≡ owner S d → (act e r).answer ≡ owned ((layout (geometry r)).owner S d)
+  pub status_answer : e.call ≡ status
+      → (act e r).answer ≡ figures (capacity (geometry r)) r.moves (total_of (geometry r)) r.health
+  pub locate_answer : (b : ℕ) → e.call ≡ locate b → (act e r).answer ≡ placed ((layout (geometry r)).place b)
+  pub owner_answer : (S d : ℕ) → e.call ≡ owner S d → (act e r).answer ≡ owned ((layout (geometry r)).owner S d)
   -- the others answer "0 is done" and nothing beside it
-  pub only-done : OnlyDone e.call → (act e r).answer ≡ done
+  pub only_done : OnlyDone e.call → (act e r).answer ≡ done
   -- read, view, write, sweep, status, locate and owner leave the record
-  pub record-stays : ¬ StoresRecord e.call → (act e r).state ≡ r
+  pub record_stays : ¬ StoresRecord e.call → (act e r).state ≡ r
 
 -- .. and it holds of every call that the table lets through
 abbrev pub Acts : Type 0
-Acts = (e : Event) (r : Record) → refusalOf r (fed e) ≡ 0 → Does e r
+Acts = (e : Event) (r : Record) → refusal_of r (fed e) ≡ 0 → Does e r

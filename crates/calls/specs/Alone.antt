@@ -1,10 +1,10 @@
 -- What an accepted call leaves alone, and that its stores stay inside the images it was lent. Document 01, Calls, and demand 1: "every call
 -- .. stays inside what it was lent".
--- The statements are `Alone`, `OneMove` and `RecordOnly`; `alone` and `record-only` of proofs/Alone.antt and `one-move` of
+-- The statements are `Alone`, `OneMove` and `RecordOnly`; `alone` and `record-only` of proofs/Alone.antt and `one_move` of
 -- proofs/OneMove.antt prove them. (A refused call leaves everything alone: `Demand1` of Theorem.)
 use Rattle.std.specs.Prelude.{ℕ, ◌+◌, ◌-◌, ◌≤◌, ◌<◌, ◌≡◌, true, false, ◌⊎◌, ◌≢◌, List, [], ◌∷◌, length}
 use Rattle.layout.specs.declared.Role.TheVariants.{Data}
-use Rattle.layout.specs.Layout.{at, layout, nextStripe, next_from, nextTo}
+use Rattle.layout.specs.Layout.{at, layout, next_stripe, next_from, next_to}
 use Rattle.blocks.specs.Block.{zeros}
 use Rattle.blocks.specs.Stripe.{offset}
 use Rattle.state.specs.declared.types.Health.TheVariants.{Rebuilding}
@@ -13,9 +13,9 @@ use Rattle.state.specs.Good.{geometry, good}
 use Rattle.calls.specs.Call.{Call, format, read, view, write, grow, advance, continue, status, locate, owner, restart}
 use Rattle.calls.specs.Call.{Event, on, fed, count}
 use Rattle.calls.specs.Health.{absent}
-use Rattle.calls.specs.Images.{disksOf, size, place_in, Store, block, header, storedIn}
-use Rattle.calls.specs.Table.{idle, refusalOf}
-use Rattle.calls.specs.Effect.{place_of, moveStores, Effect, tells, fills, stores, effect, act, called}
+use Rattle.calls.specs.Images.{disks_of, size, place_in, Store, block, header, stored_in}
+use Rattle.calls.specs.Table.{idle, refusal_of}
+use Rattle.calls.specs.Effect.{place_of, move_stores, Effect, tells, fills, stores, effect, act, called}
 
 -- every block of a list of stores is whole, B bytes, and its place lies within the first `len` bytes
 unfoldable pub Inside : ℕ → ℕ → ℕ → List Store → Type 0
@@ -37,9 +37,9 @@ pub data FillsRoom : Call → Type 0 where
 
 -- the calls that store blocks
 pub data StoresBlocks : Call → Type 0 where
-  format-stores : (n B T : ℕ) → StoresBlocks (format n B T)
+  format_stores : (n B T : ℕ) → StoresBlocks (format n B T)
   write-stores : (b : ℕ) (v : List ℕ) → StoresBlocks (write b v)
-  grow-stores : (m : ℕ) → StoresBlocks (grow m)
+  grow_stores : (m : ℕ) → StoresBlocks (grow m)
   advance-stores : (k : ℕ) → StoresBlocks (advance k)
   continue-stores : (k : ℕ) → StoresBlocks (continue k)
   restart-stores : StoresBlocks restart
@@ -53,7 +53,7 @@ pub record LeavesAlone (e : Event) (r : Record) : Type 0 where
   -- "stays inside what it was lent": each of its stores; and images and room are as long as they were
   pub inside : StoresInside (length e.images) (effect e.call r e)
   pub long : length (act e r).images ≡ length e.images
-  pub room-long : length (act e r).room ≡ length e.room
+  pub room_long : length (act e r).room ≡ length e.room
   -- read "fills a lent block", view the scratch; no other call has one ..
   pub room : ¬ FillsRoom e.call → (act e r).room ≡ e.room
   -- .. and view, "if its disk is out, .. the lent scratch filled with it. Scratch is else untouched."
@@ -61,39 +61,39 @@ pub record LeavesAlone (e : Event) (r : Record) : Type 0 where
   -- read, view, out, begin ("changes the record only"), sweep, status, locate and owner leave the images
   pub images : ¬ StoresBlocks e.call → (act e r).images ≡ e.images
   -- write: "the data place takes the data, the parity place its old value xor old block xor data; .. All other bytes stay."
-  pub write-others : (b : ℕ) (v : List ℕ) → e.call ≡ write b v → (S d : ℕ) → S < r.stripes → d < disksOf r
+  pub write_others : (b : ℕ) (v : List ℕ) → e.call ≡ write b v → (S d : ℕ) → S < r.stripes → d < disks_of r
       → (S ≡ (place_of r b).stripe → (d ≢ (place_of r b).disk) × (d ≢ (layout (geometry r)).parity S)) → Stays e r S d
   -- ".. either is skipped if its disk is out"
-  pub write-absent : (b : ℕ) (v : List ℕ) → e.call ≡ write b v → (S d : ℕ) → S < r.stripes → d < disksOf r
+  pub write_absent : (b : ℕ) (v : List ℕ) → e.call ≡ write b v → (S d : ℕ) → S < r.stripes → d < disks_of r
       → absent r.health S d ≡ true → Stays e r S d
   -- grow: "given images of n + m disks, zeroes those behind the first n"
-  pub grow-old : (m : ℕ) → e.call ≡ grow m → (S d : ℕ) → S < r.stripes → d < r.old → Stays e r S d
+  pub grow_old : (m : ℕ) → e.call ≡ grow m → (S d : ℕ) → S < r.stripes → d < r.old → Stays e r S d
   -- continue "does stripes in rising order until k are done or none is left, and reports how many": it leaves every other disk, and its own
   -- outside these stripes
-  pub continue-others : (k o c : ℕ) → e.call ≡ continue k → r.health ≡ Rebuilding o c → (S d : ℕ) → S < r.stripes → d < disksOf r
+  pub continue_others : (k o c : ℕ) → e.call ≡ continue k → r.health ≡ Rebuilding o c → (S d : ℕ) → S < r.stripes → d < disks_of r
       → (d ≡ o → (S < c) ⊎ (c + count (act e r).answer ≤ S)) → Stays e r S d
   -- restart leaves every block, but what stands at a marked place
-  pub restart-others : e.call ≡ restart → (S d b : ℕ) → S < r.stripes → d < disksOf r → (layout (geometry r)).owner S d ≡ Data b
-      → (r.mark ≡ true → let g = at (geometry r) (r.moves - 1) in S ≡ nextStripe g → d ≢ next_from g) → Stays e r S d
+  pub restart_others : e.call ≡ restart → (S d b : ℕ) → S < r.stripes → d < disks_of r → (layout (geometry r)).owner S d ≡ Data b
+      → (r.mark ≡ true → let g = at (geometry r) (r.moves - 1) in S ≡ next_stripe g → d ≢ next_from g) → Stays e r S d
 
 -- .. and it holds of every call that the table lets through, whatever bytes it is lent
 abbrev pub Alone : Type 0
-Alone = (e : Event) (r : Record) → refusalOf r (fed e) ≡ 0 → LeavesAlone e r
+Alone = (e : Event) (r : Record) → refusal_of r (fed e) ≡ 0 → LeavesAlone e r
 
 -- ---- a single move of an advance: "A move copies the block to its new place, then zeroes the place it left", and nothing else. (An
 -- advance makes one after the other: `InOrder` of Theorem.)
 
 -- the images after the next move
-abbrev pub movedOn : Record → List ℕ → List ℕ
-movedOn r img = storedIn r (moveStores r img) img
+abbrev pub moved_on : Record → List ℕ → List ℕ
+moved_on r img = stored_in r (move_stores r img) img
 
 -- what is claimed of the next move of a record r on images img ..
 pub record Moves (r : Record) (img : List ℕ) : Type 0 where
-  pub copied : let g = geometry r in place_in r (movedOn r img) (nextStripe g) (nextTo g) ≡ place_in r img (nextStripe g) (next_from g)
-  pub zeroed : let g = geometry r in place_in r (movedOn r img) (nextStripe g) (next_from g) ≡ zeros r.block
+  pub copied : let g = geometry r in place_in r (moved_on r img) (next_stripe g) (next_to g) ≡ place_in r img (next_stripe g) (next_from g)
+  pub zeroed : let g = geometry r in place_in r (moved_on r img) (next_stripe g) (next_from g) ≡ zeros r.block
   pub others : let g = geometry r in
-      (S d : ℕ) → S < r.stripes → d < disksOf r → (S ≡ nextStripe g → (d ≢ next_from g) × (d ≢ nextTo g))
-      → place_in r (movedOn r img) S d ≡ place_in r img S d
+      (S d : ℕ) → S < r.stripes → d < disks_of r → (S ≡ next_stripe g → (d ≢ next_from g) × (d ≢ next_to g))
+      → place_in r (moved_on r img) S d ≡ place_in r img S d
 
 -- .. and it holds of every good record that has a move left, whatever the images of its size hold
 abbrev pub OneMove : Type 0

@@ -4,7 +4,7 @@ use Rattle.layout.specs.declared.Role.TheVariants.{Data, Parity, Blank}
 use Rattle.layout.specs.declared.Role.{Role}
 use Rattle.layout.specs.declared.Standing.{Standing}
 use Rattle.state.specs.declared.types.Health.{Health}
-use Rattle.state.specs.Bytes.{healthByte, diskByte, stripesDone}
+use Rattle.state.specs.Bytes.{health_byte, disk_byte, stripes_done}
 
 -- a call with the numbers that it is given, and a write's data, which the flat list is fed too
 pub data Call : Type 0 where
@@ -42,8 +42,8 @@ column sweep = 12
 column restart = 13
 
 -- the same call, whatever each is given?
-abbrev pub sameCall : Call → Call → Bool
-sameCall x y = eqb (column x) (column y)
+abbrev pub same_call : Call → Call → Bool
+same_call x y = eqb (column x) (column y)
 
 -- a call with what it is lent: the images, and as `room` the block that read fills or the scratch of view (calls that take none
 -- do not look at them)
@@ -74,8 +74,8 @@ pub data Answer : Type 0 where
   done : Answer
   bytes : List ℕ → Answer
   made : ℕ → Answer
-  allSound : (read : ℕ) → Answer
-  unsoundAt : (stripe read : ℕ) → Answer
+  all_sound : (read : ℕ) → Answer
+  unsound_at : (stripe read : ℕ) → Answer
   figures : (capacity moves total : ℕ) → Health → Answer
   placed : Standing → Answer
   owned : Role → Answer
@@ -85,8 +85,8 @@ accepted (refused k) = false
 accepted done = true
 accepted (bytes v) = true
 accepted (made k) = true
-accepted (allSound x) = true
-accepted (unsoundAt S x) = true
+accepted (all_sound x) = true
+accepted (unsound_at S x) = true
 accepted (figures c t total h) = true
 accepted (placed x) = true
 accepted (owned o) = true
@@ -98,8 +98,8 @@ number (refused k) = k
 number done = 0
 number (bytes v) = 0
 number (made k) = 0
-number (allSound x) = 0
-number (unsoundAt S x) = 0
+number (all_sound x) = 0
+number (unsound_at S x) = 0
 number (figures c t total h) = 0
 number (placed x) = 0
 number (owned o) = 0
@@ -110,8 +110,8 @@ shown (refused k) = []
 shown done = []
 shown (bytes v) = v
 shown (made k) = []
-shown (allSound x) = []
-shown (unsoundAt S x) = []
+shown (all_sound x) = []
+shown (unsound_at S x) = []
 shown (figures c t total h) = []
 shown (placed x) = []
 shown (owned o) = []
@@ -122,8 +122,8 @@ count (refused k) = 0
 count done = 0
 count (bytes v) = 0
 count (made k) = k
-count (allSound x) = 0
-count (unsoundAt S x) = 0
+count (all_sound x) = 0
+count (unsound_at S x) = 0
 count (figures c t total h) = 0
 count (placed x) = 0
 count (owned o) = 0
@@ -134,10 +134,10 @@ role_number Blank = 0
 role_number Parity = 1
 role_number (Data b) = 2
 
-abbrev pub roleBlock : Role → ℕ
-roleBlock Blank = 0
-roleBlock Parity = 0
-roleBlock (Data b) = b
+abbrev pub role_block : Role → ℕ
+role_block Blank = 0
+role_block Parity = 0
+role_block (Data b) = b
 
 -- the numbers beside the first, of a call that has w of them: the count of advance and continue; sweep's 1 and the first unsound stripe, or
 -- 0 and 0, and the stripes read; status's capacity, t, total, health, the disk that is out or being rebuilt and the stripes done; locate's
@@ -147,8 +147,8 @@ beside w (refused k) = replicate w 0
 beside w done = []
 beside w (bytes v) = []
 beside w (made k) = k ∷ []
-beside w (allSound x) = 0 ∷ 0 ∷ x ∷ []
-beside w (unsoundAt S x) = 1 ∷ S ∷ x ∷ []
-beside w (figures c t total h) = c ∷ t ∷ total ∷ healthByte h ∷ diskByte h ∷ stripesDone h ∷ []
+beside w (all_sound x) = 0 ∷ 0 ∷ x ∷ []
+beside w (unsound_at S x) = 1 ∷ S ∷ x ∷ []
+beside w (figures c t total h) = c ∷ t ∷ total ∷ health_byte h ∷ disk_byte h ∷ stripes_done h ∷ []
 beside w (placed x) = x.block.stripe ∷ x.block.disk ∷ x.parity.disk ∷ cond x.moved 1 0 ∷ []
-beside w (owned o) = role_number o ∷ roleBlock o ∷ []
+beside w (owned o) = role_number o ∷ role_block o ∷ []

@@ -3,23 +3,23 @@
 use Rattle.std.specs.Prelude.{ℕ, zero, suc, ◌+◌, ◌-◌, min, true, false, cond, not, List, [], ◌∷◌, ◌++◌, take}
 use Rattle.layout.specs.declared.Place.{Place}
 use Rattle.layout.specs.declared.Standing.{Standing}
-use Rattle.layout.specs.Layout.{totalOf, at, capacity, isBlank, layout, nextStripe, next_from, nextTo}
+use Rattle.layout.specs.Layout.{total_of, at, capacity, is_blank, layout, next_stripe, next_from, next_to}
 use Rattle.blocks.specs.Block.{block_at, zeros}
-use Rattle.blocks.specs.Xor.{xorB}
+use Rattle.blocks.specs.Xor.{xor_b}
 use Rattle.blocks.specs.Stripe.{offset}
 use Rattle.state.specs.declared.types.Health.TheVariants.{Rebuilding}
 use Rattle.state.specs.declared.types.Record.{Record}
 use Rattle.state.specs.Good.{geometry}
-use Rattle.state.specs.Bytes.{decode, diskByte, stripesDone, encode}
+use Rattle.state.specs.Bytes.{decode, disk_byte, stripes_done, encode}
 use Rattle.calls.specs.Call.{Call, format, read, view, write, grow, advance, out, begin, continue}
 use Rattle.calls.specs.Call.{status, locate, owner, sweep, restart}
-use Rattle.calls.specs.Call.{Event, fed, Answer, refused, done, bytes, made, allSound, unsoundAt, figures, placed, owned}
-use Rattle.state.specs.Update.{formatted, grownBy, withMoves, withHealth, withMark}
-use Rattle.calls.specs.Health.{absent, afterOut, rebuiltTo}
-use Rattle.calls.specs.Images.{disksOf, place_in, othersIn, seen}
-use Rattle.calls.specs.Images.{Store, block, header, storedIn, recorded, recordedBytes, unless, fillDisk, zeroDisks}
-use Rattle.calls.specs.Sound.{unsoundStripes}
-use Rattle.calls.specs.Table.{idle, refusalOf, refusalBytes}
+use Rattle.calls.specs.Call.{Event, fed, Answer, refused, done, bytes, made, all_sound, unsound_at, figures, placed, owned}
+use Rattle.state.specs.Update.{formatted, grown_by, with_moves, with_health, with_mark}
+use Rattle.calls.specs.Health.{absent, after_out, rebuilt_to}
+use Rattle.calls.specs.Images.{disks_of, place_in, others_in, seen}
+use Rattle.calls.specs.Images.{Store, block, header, stored_in, recorded, recorded_bytes, unless, fill_disk, zero_disks}
+use Rattle.calls.specs.Sound.{unsound_stripes}
+use Rattle.calls.specs.Table.{idle, refusal_of, refusal_bytes}
 
 -- ---- where block b stands. Document 02, (f): "The place rule, and with it locate, now answers block place, parity place and whether a
 -- move now done, of any growth, carried the block itself. Read, view and write use this wider answer."
@@ -30,8 +30,8 @@ standing r b = (layout (geometry r)).place b
 abbrev pub place_of : Record → ℕ → Place
 place_of r b = (standing r b).block
 
-abbrev pub parityOf : Record → ℕ → Place
-parityOf r b = (standing r b).parity
+abbrev pub parity_of : Record → ℕ → Place
+parity_of r b = (standing r b).parity
 
 -- ---- read and view
 
@@ -50,10 +50,10 @@ view_of r b =
     let q = place_of r b in
     cond (absent r.health q.stripe q.disk) scratch (part (offset r.block r.stripes q.stripe q.disk) r.block)
 
-unfoldable pub scratchLeft : Record → List ℕ → ℕ → List ℕ → List ℕ
-scratchLeft r img b room =
+unfoldable pub scratch_left : Record → List ℕ → ℕ → List ℕ → List ℕ
+scratch_left r img b room =
     let q = place_of r b in
-    cond (absent r.health q.stripe q.disk) (othersIn r img q.stripe q.disk) room
+    cond (absent r.health q.stripe q.disk) (others_in r img q.stripe q.disk) room
 
 abbrev pub viewed : View → List ℕ → List ℕ → List ℕ
 viewed (part at len) img room = block_at img at len
@@ -62,97 +62,97 @@ viewed scratch img room = room
 -- ---- write: "the data place takes the data, the parity place its old value xor old block xor data; either is skipped if its
 -- disk is out". The parity first, so that the old block is read in its place.
 
-unfoldable pub writeStores : Record → List ℕ → ℕ → List ℕ → List Store
-writeStores r img b v =
+unfoldable pub write_stores : Record → List ℕ → ℕ → List ℕ → List Store
+write_stores r img b v =
     let S = (place_of r b).stripe in
     let d = (place_of r b).disk in
-    let p = (parityOf r b).disk in
-    unless (absent r.health S p) (block S p (xorB (xorB (seen r img S p) (seen r img S d)) v))
+    let p = (parity_of r b).disk in
+    unless (absent r.health S p) (block S p (xor_b (xor_b (seen r img S p) (seen r img S d)) v))
     ++ unless (absent r.health S d) (block S d v)
 
 -- ---- advance
 
 -- "A move stores the copy, then the record with t raised and a mark, 1, in byte 6 that the left place is not yet cleared, then the zeroes,
 -- then the record unmarked."
-unfoldable pub moveStores : Record → List ℕ → List Store
-moveStores r img =
+unfoldable pub move_stores : Record → List ℕ → List Store
+move_stores r img =
     let g = geometry r in
-    block (nextStripe g) (nextTo g) (place_in r img (nextStripe g) (next_from g))
-    ∷ header (withMark (withMoves r (suc r.moves)) true)
-    ∷ block (nextStripe g) (next_from g) (zeros r.block)
-    ∷ header (withMoves r (suc r.moves))
+    block (next_stripe g) (next_to g) (place_in r img (next_stripe g) (next_from g))
+    ∷ header (with_mark (with_moves r (suc r.moves)) true)
+    ∷ block (next_stripe g) (next_from g) (zeros r.block)
+    ∷ header (with_moves r (suc r.moves))
     ∷ []
 
 -- "makes moves in order until k are made or none is left", each on the images as they are then
-unfoldable pub advanceStores : ℕ → Record → List ℕ → List Store
-advanceStores zero r img = []
-advanceStores (suc k) r img =
+unfoldable pub advance_stores : ℕ → Record → List ℕ → List Store
+advance_stores zero r img = []
+advance_stores (suc k) r img =
     elim (idle (geometry r)) [
       | true ↦ []
-      | false ↦ let ps = moveStores r img in ps ++ advanceStores k (recorded ps r) (storedIn r ps img)
+      | false ↦ let ps = move_stores r img in ps ++ advance_stores k (recorded ps r) (stored_in r ps img)
     ]
 
 -- a stripe's parity value after the first i moves: "the bytes at the place where Layout, with the moves done so far, has its
 -- parity" (the stores of more moves begin with those of i: `InOrder` of Theorem)
-unfoldable pub parityAfter : ℕ → Record → List ℕ → ℕ → List ℕ
-parityAfter i r img S =
-    let ps = advanceStores i r img in
-    place_in r (storedIn r ps img) S ((layout (geometry (recorded ps r))).parity S)
+unfoldable pub parity_after : ℕ → Record → List ℕ → ℕ → List ℕ
+parity_after i r img S =
+    let ps = advance_stores i r img in
+    place_in r (stored_in r ps img) S ((layout (geometry (recorded ps r))).parity S)
 
 -- ---- continue
 
 -- "until k are done or none is left": how many stripes it makes
-abbrev pub stripesMade : ℕ → Record → ℕ
-stripesMade k r = min k (r.stripes - stripesDone r.health)
+abbrev pub stripes_made : ℕ → Record → ℕ
+stripes_made k r = min k (r.stripes - stripes_done r.health)
 
 -- "does stripes in rising order": the disk in each as the xor of the others; then the record, with as many more done (with k = 0 the one
 -- that was lent)
-unfoldable pub continueStores : ℕ → Record → List ℕ → List Store
-continueStores k r img =
-    let d = diskByte r.health in
-    let first = stripesDone r.health in
-    let more = stripesMade k r in
-    fillDisk first more d (λ S. othersIn r img S d) ++ header (withHealth r (rebuiltTo r.stripes d (first + more))) ∷ []
+unfoldable pub continue_stores : ℕ → Record → List ℕ → List Store
+continue_stores k r img =
+    let d = disk_byte r.health in
+    let first = stripes_done r.health in
+    let more = stripes_made k r in
+    fill_disk first more d (λ S. others_in r img S d) ++ header (with_health r (rebuilt_to r.stripes d (first + more))) ∷ []
 
 -- ---- sweep
 
 -- of T stripes, and the list of those that are unsound: "the stripe is the head of the list of all unsound stripes, or none if that list is
 -- empty"; "the stripes read (its number plus 1, or T where there is none)"
-abbrev pub sweptTo : ℕ → List ℕ → Answer
-sweptTo T [] = allSound T
-sweptTo T (S ∷ more) = unsoundAt S (S + 1)
+abbrev pub swept_to : ℕ → List ℕ → Answer
+swept_to T [] = all_sound T
+swept_to T (S ∷ more) = unsound_at S (S + 1)
 
 -- ---- restart: "clears a marked place, zeroes blanks, makes every parity afresh and takes the mark off"
 
 -- the place that the last move left, before all else: where that move was its zone's last, the place is a new block already, which is zero,
 -- and the parity counts it
-unfoldable pub clearStores : Record → List Store
-clearStores r =
+unfoldable pub clear_stores : Record → List Store
+clear_stores r =
     let g = at (geometry r) (r.moves - 1) in
-    cond r.mark (block (nextStripe g) (next_from g) (zeros r.block) ∷ []) []
+    cond r.mark (block (next_stripe g) (next_from g) (zeros r.block) ∷ []) []
 
 -- zeroes on the blanks of stripe S, of its first k disks: on no place that holds a block, old or new
-unfoldable pub zeroBlanks : Record → ℕ → ℕ → List Store
-zeroBlanks r S zero = []
-zeroBlanks r S (suc d) =
-    zeroBlanks r S d ++ unless (not (isBlank ((layout (geometry r)).owner S d))) (block S d (zeros r.block))
+unfoldable pub zero_blanks : Record → ℕ → ℕ → List Store
+zero_blanks r S zero = []
+zero_blanks r S (suc d) =
+    zero_blanks r S d ++ unless (not (is_blank ((layout (geometry r)).owner S d))) (block S d (zeros r.block))
 
 -- a stripe: its blanks, and then its parity, the xor of the other places
-unfoldable pub mendStripe : Record → List ℕ → ℕ → List Store
-mendStripe r img S =
+unfoldable pub mend_stripe : Record → List ℕ → ℕ → List Store
+mend_stripe r img S =
     let p = (layout (geometry r)).parity S in
-    let ps = zeroBlanks r S (disksOf r) in
-    ps ++ block S p (othersIn r (storedIn r ps img) S p) ∷ []
+    let ps = zero_blanks r S (disks_of r) in
+    ps ++ block S p (others_in r (stored_in r ps img) S p) ∷ []
 
 -- the first k stripes, each on the images as they are then
-unfoldable pub mendStripes : Record → List ℕ → ℕ → List Store
-mendStripes r img zero = []
-mendStripes r img (suc S) = let ps = mendStripes r img S in ps ++ mendStripe r (storedIn r ps img) S
+unfoldable pub mend_stripes : Record → List ℕ → ℕ → List Store
+mend_stripes r img zero = []
+mend_stripes r img (suc S) = let ps = mend_stripes r img S in ps ++ mend_stripe r (stored_in r ps img) S
 
-unfoldable pub restartStores : Record → List ℕ → List Store
-restartStores r img =
-    let ps = clearStores r in
-    ps ++ (mendStripes r (storedIn r ps img) r.stripes ++ header (withMark r false) ∷ [])
+unfoldable pub restart_stores : Record → List ℕ → List Store
+restart_stores r img =
+    let ps = clear_stores r in
+    ps ++ (mend_stripes r (stored_in r ps img) r.stripes ++ header (with_mark r false) ∷ [])
 
 -- ---- what a call does: it tells something and leaves everything as it was lent; or it answers bytes and fills the lent block or scratch;
 -- or it makes stores, in order, into images of `shape`'s stripes and block length
@@ -164,31 +164,31 @@ pub data Effect : Type 0 where
 
 unfoldable pub effect : Call → Record → Event → Effect
 -- "zeroes the images; record whole, m = t = 0"
-effect (format n B T) r e = stores done (formatted n B T) (zeroDisks B T 0 n ++ header (formatted n B T) ∷ [])
+effect (format n B T) r e = stores done (formatted n B T) (zero_disks B T 0 n ++ header (formatted n B T) ∷ [])
 -- "fills a lent block"
 effect (read b) r e = fills (block_of r e.images b) (block_of r e.images b)
 effect (view b) r e =
-    let room = scratchLeft r e.images b e.room in
+    let room = scratch_left r e.images b e.room in
     fills (viewed (view_of r b) e.images room) room
-effect (write b v) r e = stores done r (writeStores r e.images b v)
+effect (write b v) r e = stores done r (write_stores r e.images b v)
 -- "given images of n + m disks, zeroes those behind the first n; sets m"
-effect (grow m) r e = stores done r (zeroDisks r.block r.stripes r.old m ++ header (grownBy r m) ∷ [])
+effect (grow m) r e = stores done r (zero_disks r.block r.stripes r.old m ++ header (grown_by r m) ∷ [])
 -- "reports how many, which is t's rise": read off the record that the stores leave
-effect (advance k) r e = let ps = advanceStores k r e.images in stores (made ((recorded ps r).moves - r.moves)) r ps
-effect (out d) r e = stores done r (header (withHealth r (afterOut r.health d)) ∷ [])
+effect (advance k) r e = let ps = advance_stores k r e.images in stores (made ((recorded ps r).moves - r.moves)) r ps
+effect (out d) r e = stores done r (header (with_health r (after_out r.health d)) ∷ [])
 -- "begin (d), which changes the record only"
-effect (begin d) r e = stores done r (header (withHealth r (Rebuilding d 0)) ∷ [])
+effect (begin d) r e = stores done r (header (with_health r (Rebuilding d 0)) ∷ [])
 -- "and reports how many": a number of its own, as at T the count is gone from the record left
-effect (continue k) r e = stores (made (stripesMade k r)) r (continueStores k r e.images)
+effect (continue k) r e = stores (made (stripes_made k r)) r (continue_stores k r e.images)
 -- "capacity, t, total, health"
-effect status r e = tells (figures (capacity (geometry r)) r.moves (totalOf (geometry r)) r.health)
+effect status r e = tells (figures (capacity (geometry r)) r.moves (total_of (geometry r)) r.health)
 -- "the stripe and disk of block b", its parity's, and whether a move carried it
 effect (locate b) r e = tells (placed (standing r b))
 -- "the block number there, or parity, or blank"
 effect (owner S d) r e = tells (owned ((layout (geometry r)).owner S d))
 -- "gives the stripe and the stripes read"
-effect sweep r e = tells (sweptTo r.stripes (unsoundStripes r e.images))
-effect restart r e = stores done r (restartStores r e.images)
+effect sweep r e = tells (swept_to r.stripes (unsound_stripes r e.images))
+effect restart r e = stores done r (restart_stores r e.images)
 
 -- what comes of it: the answer, and what is left of the record, the images, and the block or scratch
 
@@ -197,15 +197,15 @@ answer_of (tells a) = a
 answer_of (fills shown room) = bytes shown
 answer_of (stores a shape ps) = a
 
-abbrev pub recordLeft : Effect → Record → Record
-recordLeft (tells a) r = r
-recordLeft (fills shown room) r = r
-recordLeft (stores a shape ps) r = recorded ps r
+abbrev pub record_left : Effect → Record → Record
+record_left (tells a) r = r
+record_left (fills shown room) r = r
+record_left (stores a shape ps) r = recorded ps r
 
-abbrev pub imagesLeft : Effect → List ℕ → List ℕ
-imagesLeft (tells a) img = img
-imagesLeft (fills shown room) img = img
-imagesLeft (stores a shape ps) img = storedIn shape ps img
+abbrev pub images_left : Effect → List ℕ → List ℕ
+images_left (tells a) img = img
+images_left (fills shown room) img = img
+images_left (stores a shape ps) img = stored_in shape ps img
 
 abbrev pub room_left : Effect → List ℕ → List ℕ
 room_left (tells a) lent = lent
@@ -220,12 +220,12 @@ pub record Left (R : Type 0) : Type 0 where
   pub images : List ℕ
   pub room : List ℕ
 
-abbrev pub leftBy : Effect → Event → Record → Left Record
-leftBy x e r = record { answer = answer_of x; state = recordLeft x r; images = imagesLeft x e.images; room = room_left x e.room }
+abbrev pub left_by : Effect → Event → Record → Left Record
+left_by x e r = record { answer = answer_of x; state = record_left x r; images = images_left x e.images; room = room_left x e.room }
 
 -- an accepted call
 abbrev pub act : Event → Record → Left Record
-act e r = leftBy (effect e.call r e) e r
+act e r = left_by (effect e.call r e) e r
 
 -- "changes no byte"
 abbrev pub untouched : {R : Type 0} → Event → R → ℕ → Left R
@@ -237,14 +237,14 @@ settle (suc k) kept acted = kept (suc k)
 
 -- a call on a record ..
 unfoldable pub called : Event → Record → Left Record
-called e r = settle (refusalOf r (fed e)) (untouched e r) (act e r)
+called e r = settle (refusal_of r (fed e)) (untouched e r) (act e r)
 
 -- .. and on a record's bytes, which differs from it in refusal 1 alone
 abbrev pub sealed : Left Record → Left (List ℕ)
 sealed x = record { answer = x.answer; state = encode x.state; images = x.images; room = x.room }
 
-unfoldable pub calledBytes : Event → List ℕ → Left (List ℕ)
-calledBytes e b = settle (refusalBytes b (fed e)) (untouched e b) (sealed (act e (decode b)))
+unfoldable pub called_bytes : Event → List ℕ → Left (List ℕ)
+called_bytes e b = settle (refusal_bytes b (fed e)) (untouched e b) (sealed (act e (decode b)))
 
 -- ---- "a cut is put as a number c: the stores of each call covered are a list in its definition, in order, each of one whole block or the
 -- whole record; an inner form of the call makes just the first c of them, and the call itself makes all" (of a call that is cut no one has
@@ -255,21 +255,21 @@ first_of c (tells a) = tells a
 first_of c (fills shown room) = fills shown room
 first_of c (stores a shape ps) = stores a shape (take c ps)
 
-abbrev pub actUpTo : ℕ → Event → Record → Left Record
-actUpTo c e r = leftBy (first_of c (effect e.call r e)) e r
+abbrev pub act_up_to : ℕ → Event → Record → Left Record
+act_up_to c e r = left_by (first_of c (effect e.call r e)) e r
 
 -- on a record ..
 unfoldable pub begun : ℕ → Event → Record → Left Record
-begun c e r = settle (refusalOf r (fed e)) (untouched e r) (actUpTo c e r)
+begun c e r = settle (refusal_of r (fed e)) (untouched e r) (act_up_to c e r)
 
 -- .. and on a record's bytes, which stay as they are until a record is stored
-abbrev pub bytesLeft : Effect → List ℕ → List ℕ
-bytesLeft (tells a) b = b
-bytesLeft (fills shown room) b = b
-bytesLeft (stores a shape ps) b = recordedBytes ps b
+abbrev pub bytes_left : Effect → List ℕ → List ℕ
+bytes_left (tells a) b = b
+bytes_left (fills shown room) b = b
+bytes_left (stores a shape ps) b = recorded_bytes ps b
 
 abbrev pub left_of : Effect → Event → List ℕ → Left (List ℕ)
-left_of x e b = record { answer = answer_of x; state = bytesLeft x b; images = imagesLeft x e.images; room = room_left x e.room }
+left_of x e b = record { answer = answer_of x; state = bytes_left x b; images = images_left x e.images; room = room_left x e.room }
 
-unfoldable pub begunBytes : ℕ → Event → List ℕ → Left (List ℕ)
-begunBytes c e b = settle (refusalBytes b (fed e)) (untouched e b) (left_of (first_of c (effect e.call (decode b) e)) e b)
+unfoldable pub begun_bytes : ℕ → Event → List ℕ → Left (List ℕ)
+begun_bytes c e b = settle (refusal_bytes b (fed e)) (untouched e b) (left_of (first_of c (effect e.call (decode b) e)) e b)

@@ -7,27 +7,27 @@ use Rattle.state.specs.Bytes.{encode}
 use Rattle.calls.specs.Health.{absent}
 
 -- N, all disks of an array, and the length of its images, N × T × B
-abbrev pub disksOf : Record → ℕ
-disksOf r = r.old + r.new
+abbrev pub disks_of : Record → ℕ
+disks_of r = r.old + r.new
 
 abbrev pub size : Record → ℕ
-size r = disksOf r * (r.stripes * r.block)
+size r = disks_of r * (r.stripes * r.block)
 
 -- the same with m new disks
-abbrev pub sizeWith : Record → ℕ → ℕ
-sizeWith r m = (r.old + m) * (r.stripes * r.block)
+abbrev pub size_with : Record → ℕ → ℕ
+size_with r m = (r.old + m) * (r.stripes * r.block)
 
 -- place (S, d), as it stands
 abbrev pub place_in : Record → List ℕ → ℕ → ℕ → List ℕ
 place_in r img S d = place r.block r.stripes img S d
 
 -- the xor of the other places of its stripe
-abbrev pub othersIn : Record → List ℕ → ℕ → ℕ → List ℕ
-othersIn r img S d = others r.block r.stripes img S (disksOf r) d
+abbrev pub others_in : Record → List ℕ → ℕ → ℕ → List ℕ
+others_in r img S d = others r.block r.stripes img S (disks_of r) d
 
 -- what a call sees of it: "An out disk is never read: its place counts as the xor of the stripe's other places."
 unfoldable pub seen : Record → List ℕ → ℕ → ℕ → List ℕ
-seen r img S d = cond (absent r.health S d) (othersIn r img S d) (place_in r img S d)
+seen r img S d = cond (absent r.health S d) (others_in r img S d) (place_in r img S d)
 
 -- ---- stores: each of one whole block, into place (S, d), or of the whole record
 
@@ -42,8 +42,8 @@ stored B T (block S d v ∷ ps) img = stored B T ps (store img (offset B T S d) 
 stored B T (header x ∷ ps) img = stored B T ps img
 
 -- of the images of r
-abbrev pub storedIn : Record → List Store → List ℕ → List ℕ
-storedIn r ps img = stored r.block r.stripes ps img
+abbrev pub stored_in : Record → List Store → List ℕ → List ℕ
+stored_in r ps img = stored r.block r.stripes ps img
 
 -- and of the record
 unfoldable pub recorded : List Store → Record → Record
@@ -52,10 +52,10 @@ recorded (block S d v ∷ ps) r = recorded ps r
 recorded (header x ∷ ps) r = recorded ps x
 
 -- .. and, where it is lent as its bytes, of these: the last record stored, or what was there
-unfoldable pub recordedBytes : List Store → List ℕ → List ℕ
-recordedBytes [] b = b
-recordedBytes (block S d v ∷ ps) b = recordedBytes ps b
-recordedBytes (header x ∷ ps) b = recordedBytes ps (encode x)
+unfoldable pub recorded_bytes : List Store → List ℕ → List ℕ
+recorded_bytes [] b = b
+recorded_bytes (block S d v ∷ ps) b = recorded_bytes ps b
+recorded_bytes (header x ∷ ps) b = recorded_bytes ps (encode x)
 
 -- a store that is skipped
 abbrev pub unless : Bool → Store → List Store
@@ -63,11 +63,11 @@ unless true x = []
 unless false x = x ∷ []
 
 -- k blocks of disk d from stripe S on, each by its stripe, in rising order
-unfoldable pub fillDisk : ℕ → ℕ → ℕ → (ℕ → List ℕ) → List Store
-fillDisk S zero d f = []
-fillDisk S (suc k) d f = fillDisk S k d f ++ (block (S + k) d (f (S + k)) ∷ [])
+unfoldable pub fill_disk : ℕ → ℕ → ℕ → (ℕ → List ℕ) → List Store
+fill_disk S zero d f = []
+fill_disk S (suc k) d f = fill_disk S k d f ++ (block (S + k) d (f (S + k)) ∷ [])
 
 -- zeroes on `more` disks of T blocks of B bytes, from disk `first` on
-unfoldable pub zeroDisks : ℕ → ℕ → ℕ → ℕ → List Store
-zeroDisks B T first zero = []
-zeroDisks B T first (suc more) = zeroDisks B T first more ++ fillDisk 0 T (first + more) (λ S. zeros B)
+unfoldable pub zero_disks : ℕ → ℕ → ℕ → ℕ → List Store
+zero_disks B T first zero = []
+zero_disks B T first (suc more) = zero_disks B T first more ++ fill_disk 0 T (first + more) (λ S. zeros B)

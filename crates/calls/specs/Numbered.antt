@@ -5,14 +5,14 @@
 use Rattle.std.specs.Prelude.{ℕ, ◌+◌, ◌*◌, ◌≤◌, ◌<◌, ◌≡◌, true, ◌⊎◌, ◌↔◌, ◌≢◌, List, [], ◌∷◌, map, length}
 use Rattle.blocks.specs.Block.{AreBytes}
 use Rattle.layout.specs.declared.Geometry.{Geometry}
-use Rattle.layout.specs.Layout.{totalOf, capacity}
+use Rattle.layout.specs.Layout.{total_of, capacity}
 use Rattle.state.specs.declared.types.Health.TheVariants.{Out, Lost, Rebuilding}
 use Rattle.state.specs.declared.types.Health.{Health}
 use Rattle.state.specs.declared.types.Record.{Record}
 use Rattle.state.specs.Good.{geometry, GoodRecord}
 use Rattle.state.specs.Bytes.{encode}
-use Rattle.calls.specs.Call.{Call, column, sameCall, format, read, view, write, grow, advance, out, begin, continue, status, locate, owner, sweep, feed, restart}
-use Rattle.calls.specs.Table.{idle, refusal, refusalOf, refusalBytes}
+use Rattle.calls.specs.Call.{Call, column, same_call, format, read, view, write, grow, advance, out, begin, continue, status, locate, owner, sweep, feed, restart}
+use Rattle.calls.specs.Table.{idle, refusal, refusal_of, refusal_bytes}
 
 -- a number, and what it is given for
 abbrev pub Reason : Type 1
@@ -63,18 +63,18 @@ pub record Numbered : Type 0 where
   -- a record that is not good is no matter
   pub of_format : (r : Record) (c len room n B T : ℕ) → Gives (refusal r c (feed (format n B T) len room)) (formed n B T len)
   -- 8, "block number at or above capacity"; 9, "lent block or scratch not B bytes"; a write's block is its data
-  pub of-read : (r : Record) (c len room b : ℕ) → Gives (refusal r c (feed (read b) len room)) (reached r c b len room)
-  pub of-view : (r : Record) (c len room b : ℕ) → Gives (refusal r c (feed (view b) len room)) (reached r c b len room)
-  pub of-write : (r : Record) (c len room b : ℕ) (v : List ℕ)
+  pub of_read : (r : Record) (c len room b : ℕ) → Gives (refusal r c (feed (read b) len room)) (reached r c b len room)
+  pub of_view : (r : Record) (c len room b : ℕ) → Gives (refusal r c (feed (view b) len room)) (reached r c b len room)
+  pub of_write : (r : Record) (c len room b : ℕ) (v : List ℕ)
       → Gives (refusal r c (feed (write b v) len room)) (reached r c b len (length v))
   -- 4, "m is not 0"; 6, "m outside" ("m, the new ones, 1 to 16"), and T is no matter; 7, "grow: new N"
   pub of-grow : (r : Record) (c len room m : ℕ) → Gives (refusal r c (feed (grow m) len room))
       (unfit r ∷ lost r ∷ degraded r ∷ (4, r.new ≢ 0) ∷ (6, Outside 1 m 16) ∷ (7, NotLong r (r.old + m) len) ∷ [])
   -- 5, "m = 0 or t is the total"; k is no matter
   pub of-advance : (r : Record) (c len room k : ℕ) → Gives (refusal r c (feed (advance k) len room))
-      (unfit r ∷ lost r ∷ degraded r ∷ (5, (r.new ≡ 0) ⊎ (r.moves ≡ totalOf (geometry r))) ∷ (7, NotLong r (r.old + r.new) len) ∷ [])
+      (unfit r ∷ lost r ∷ degraded r ∷ (5, (r.new ≡ 0) ⊎ (r.moves ≡ total_of (geometry r))) ∷ (7, NotLong r (r.old + r.new) len) ∷ [])
   -- which is what an advance stops at, too
-  pub idle-is : (g : Geometry) → (idle g ≡ true) ↔ ((g.new ≡ 0) ⊎ (g.moves ≡ totalOf g))
+  pub idle_is : (g : Geometry) → (idle g ≡ true) ↔ ((g.new ≡ 0) ⊎ (g.moves ≡ total_of g))
   -- 10, "d not below N, or out already": a disk that is being rebuilt is not
   pub of-out : (r : Record) (c len room d : ℕ) → Gives (refusal r c (feed (out d) len room))
       (unfit r ∷ lost r ∷ (10, (r.old + r.new ≤ d) ⊎ (r.health ≡ Out d)) ∷ [])
@@ -97,20 +97,20 @@ pub record Numbered : Type 0 where
   pub of_owner : (r : Record) (c len room S d : ℕ) → Gives (refusal r c (feed (owner S d) len room))
       (unfit r ∷ (8, r.stripes ≤ S) ∷ (10, r.old + r.new ≤ d) ∷ [])
   -- On a record's bytes, where 1 is "not .. bytes long, all calls; not good, all but format": format looks at their length alone ..
-  pub format-on-bytes : (b : List ℕ) (len room n B T : ℕ)
-      → Gives (refusalBytes b (feed (format n B T) len room)) ((1, length b ≢ 20) ∷ formed n B T len)
+  pub format_on_bytes : (b : List ℕ) (len room n B T : ℕ)
+      → Gives (refusal_bytes b (feed (format n B T) len room)) ((1, length b ≢ 20) ∷ formed n B T len)
   -- .. and every other call (format's column is 0) is given 1 on bytes that are no good record's, and on a record's own what it is given
   -- on the record
   pub no_record : (b : List ℕ) (x : Call) (len room : ℕ) → AreBytes b → column x ≢ 0 → ((r : Record) → GoodRecord r → encode r ≢ b)
-      → refusalBytes b (feed x len room) ≡ 1
-  pub own-bytes : (r : Record) (x : Call) (len room : ℕ)
-      → refusalBytes (encode r) (feed x len room) ≡ refusal r (capacity (geometry r)) (feed x len room)
+      → refusal_bytes b (feed x len room) ≡ 1
+  pub own_bytes : (r : Record) (x : Call) (len room : ℕ)
+      → refusal_bytes (encode r) (feed x len room) ≡ refusal r (capacity (geometry r)) (feed x len room)
   -- by the record's own capacity
-  pub own-capacity : (r : Record) (x : Call) (len room : ℕ)
-      → refusalOf r (feed x len room) ≡ refusal r (capacity (geometry r)) (feed x len room)
+  pub own_capacity : (r : Record) (x : Call) (len room : ℕ)
+      → refusal_of r (feed x len room) ≡ refusal r (capacity (geometry r)) (feed x len room)
   -- which call it is, whatever it is given
   pub columns : (n B T b m k d S : ℕ) (v : List ℕ) → map column
       (format n B T ∷ read b ∷ view b ∷ write b v ∷ grow m ∷ advance k ∷ out d ∷ begin d ∷ continue k ∷ status ∷ locate b ∷ owner S d
       ∷ sweep ∷ [])
       ≡ 0 ∷ 1 ∷ 2 ∷ 3 ∷ 4 ∷ 5 ∷ 6 ∷ 7 ∷ 8 ∷ 9 ∷ 10 ∷ 11 ∷ 12 ∷ []
-  pub same-column : (x y : Call) → (sameCall x y ≡ true) ↔ (column x ≡ column y)
+  pub same_column : (x y : Call) → (same_call x y ≡ true) ↔ (column x ≡ column y)

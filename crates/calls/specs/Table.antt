@@ -1,14 +1,14 @@
 -- The refusal words. Document 01: "A number is given if its condition holds and no lower one's does, and else never. 0 is done."
 use Rattle.std.specs.Prelude.{ℕ, ◌*◌, Bool, false, cond, not, ◌&&◌, ◌||◌, List, [], ◌∷◌, ◌++◌, eqb, ltb, length}
 use Rattle.layout.specs.declared.Geometry.{Geometry}
-use Rattle.layout.specs.Layout.{totalOf, capacity}
+use Rattle.layout.specs.Layout.{total_of, capacity}
 use Rattle.state.specs.declared.types.Record.{Record}
-use Rattle.state.specs.Good.{geometry, oldGood, newGood, blockGood, stripesGood, good}
-use Rattle.state.specs.Bytes.{recordLength, decode, goodBytes}
-use Rattle.calls.specs.Call.{Call, sameCall, format, read, view, write, grow, advance, out, begin, continue}
+use Rattle.state.specs.Good.{geometry, old_good, new_good, block_good, stripes_good, good}
+use Rattle.state.specs.Bytes.{record_length, decode, good_bytes}
+use Rattle.calls.specs.Call.{Call, same_call, format, read, view, write, grow, advance, out, begin, continue}
 use Rattle.calls.specs.Call.{status, locate, owner, sweep, restart, Fed}
-use Rattle.calls.specs.Health.{isLost, isDegraded, isOut, isRebuilding}
-use Rattle.calls.specs.Images.{disksOf, size, sizeWith}
+use Rattle.calls.specs.Health.{is_lost, is_degraded, is_out, is_rebuilding}
+use Rattle.calls.specs.Images.{disks_of, size, size_with}
 
 -- ---- the rows: a number, and whether its condition holds
 
@@ -17,47 +17,47 @@ Row = ℕ × Bool
 
 -- "not 16 bytes long, all calls; not good, all but format" (document 02, (d): "the record becomes 20 bytes, and refusal 1 goes by that
 -- length")
-abbrev pub badRecord : Bool → Row
-badRecord bad = (1, bad)
+abbrev pub bad_record : Bool → Row
+bad_record bad = (1, bad)
 
 -- "health lost"
 abbrev pub lost : Record → Row
-lost r = (2, isLost r.health)
+lost r = (2, is_lost r.health)
 
 -- "a disk out" (document 02, (d): "Grow and advance still see degraded."; (g) of sweep: "3 also while rebuilding"; (h): "3 for restart
 -- unless whole")
 abbrev pub degraded : Record → Row
-degraded r = (3, isDegraded r.health)
+degraded r = (3, is_degraded r.health)
 
 -- "m is not 0"
-abbrev pub grownAlready : Record → Row
-grownAlready r = (4, not (eqb r.new 0))
+abbrev pub grown_already : Record → Row
+grown_already r = (4, not (eqb r.new 0))
 
 -- "m = 0 or t is the total"
 unfoldable pub idle : Geometry → Bool
-idle g = eqb g.new 0 || eqb g.moves (totalOf g)
+idle g = eqb g.new 0 || eqb g.moves (total_of g)
 
-abbrev pub nothingToMove : Record → Row
-nothingToMove r = (5, idle (geometry r))
+abbrev pub nothing_to_move : Record → Row
+nothing_to_move r = (5, idle (geometry r))
 
 -- "format: n, B or T outside limits; grow: m outside", and nothing else: "The divisor condition leaves refusal 6" (document 02, (a))
 unfoldable pub formable : ℕ → ℕ → ℕ → Bool
-formable n B T = oldGood n && (blockGood B && stripesGood T)
+formable n B T = old_good n && (block_good B && stripes_good T)
 
-abbrev pub badGeometry : Bool → Row
-badGeometry fits = (6, not fits)
+abbrev pub bad_geometry : Bool → Row
+bad_geometry fits = (6, not fits)
 
 -- "length not N × T × B (grow: new N)"
 abbrev pub images : ℕ → ℕ → Row
 images asked len = (7, not (eqb len asked))
 
 -- "block number at or above capacity"; "S not below T"
-abbrev pub pastEnd : ℕ → ℕ → Row
-pastEnd x end = (8, not (ltb x end))
+abbrev pub past_end : ℕ → ℕ → Row
+past_end x end = (8, not (ltb x end))
 
 -- "lent block or scratch not B bytes"
-abbrev pub blockLength : Record → ℕ → Row
-blockLength r len = (9, not (eqb len r.block))
+abbrev pub block_length : Record → ℕ → Row
+block_length r len = (9, not (eqb len r.block))
 
 -- "out: d not below N, or out already; .. owner: d not below N" (document 02, (d): "10 for begin unless d is out and not rebuilding, for
 -- continue unless rebuilding")
@@ -86,45 +86,45 @@ abbrev none : ℕ → ℕ → List Row
 none c room = []
 
 unfoldable pub terms : Call → Record → Terms
-terms (format n B T) r = asking (badGeometry (formable n B T) ∷ []) (anything (n * (T * B))) none
-terms (read b) r = asking (lost r ∷ []) (those (size r)) (λ c room. pastEnd b c ∷ blockLength r room ∷ [])
-terms (view b) r = asking (lost r ∷ []) (those (size r)) (λ c room. pastEnd b c ∷ blockLength r room ∷ [])
-terms (write b v) r = asking (lost r ∷ []) (those (size r)) (λ c room. pastEnd b c ∷ blockLength r (length v) ∷ [])
+terms (format n B T) r = asking (bad_geometry (formable n B T) ∷ []) (anything (n * (T * B))) none
+terms (read b) r = asking (lost r ∷ []) (those (size r)) (λ c room. past_end b c ∷ block_length r room ∷ [])
+terms (view b) r = asking (lost r ∷ []) (those (size r)) (λ c room. past_end b c ∷ block_length r room ∷ [])
+terms (write b v) r = asking (lost r ∷ []) (those (size r)) (λ c room. past_end b c ∷ block_length r (length v) ∷ [])
 terms (grow m) r =
-    asking (lost r ∷ degraded r ∷ grownAlready r ∷ badGeometry (newGood m) ∷ []) (those (sizeWith r m)) none
-terms (advance k) r = asking (lost r ∷ degraded r ∷ nothingToMove r ∷ []) (those (size r)) none
-terms (out d) r = asking (lost r ∷ []) nothing (λ c room. disk (not (ltb d (disksOf r)) || isOut r.health d) ∷ [])
-terms (begin d) r = asking (lost r ∷ []) (those (size r)) (λ c room. disk (not (isOut r.health d)) ∷ [])
-terms (continue k) r = asking (lost r ∷ []) (those (size r)) (λ c room. disk (not (isRebuilding r.health)) ∷ [])
+    asking (lost r ∷ degraded r ∷ grown_already r ∷ bad_geometry (new_good m) ∷ []) (those (size_with r m)) none
+terms (advance k) r = asking (lost r ∷ degraded r ∷ nothing_to_move r ∷ []) (those (size r)) none
+terms (out d) r = asking (lost r ∷ []) nothing (λ c room. disk (not (ltb d (disks_of r)) || is_out r.health d) ∷ [])
+terms (begin d) r = asking (lost r ∷ []) (those (size r)) (λ c room. disk (not (is_out r.health d)) ∷ [])
+terms (continue k) r = asking (lost r ∷ []) (those (size r)) (λ c room. disk (not (is_rebuilding r.health)) ∷ [])
 terms status r = asking [] nothing none
-terms (locate b) r = asking [] nothing (λ c room. pastEnd b c ∷ [])
-terms (owner S d) r = asking [] nothing (λ c room. pastEnd S r.stripes ∷ disk (not (ltb d (disksOf r))) ∷ [])
+terms (locate b) r = asking [] nothing (λ c room. past_end b c ∷ [])
+terms (owner S d) r = asking [] nothing (λ c room. past_end S r.stripes ∷ disk (not (ltb d (disks_of r))) ∷ [])
 terms sweep r = asking (lost r ∷ degraded r ∷ []) (those (size r)) none
 terms restart r = asking (lost r ∷ degraded r ∷ []) (those (size r)) none
 
-abbrev pub imagesRow : Takes → ℕ → List Row
-imagesRow nothing len = []
-imagesRow (anything asked) len = images asked len ∷ []
-imagesRow (those asked) len = images asked len ∷ []
+abbrev pub images_row : Takes → ℕ → List Row
+images_row nothing len = []
+images_row (anything asked) len = images asked len ∷ []
+images_row (those asked) len = images asked len ∷ []
 
 -- its rows from 2 on; c is the capacity, len the length of the images lent, room that of the block or scratch
-unfoldable pub laterRows : Call → Record → ℕ → ℕ → ℕ → List Row
-laterRows x r c len room = let t = terms x r in t.before ++ (imagesRow t.takes len ++ t.behind c room)
+unfoldable pub later_rows : Call → Record → ℕ → ℕ → ℕ → List Row
+later_rows x r c len room = let t = terms x r in t.before ++ (images_row t.takes len ++ t.behind c room)
 
 -- does a call look at what the record says? "all but format"
 abbrev pub looks : Call → Bool
-looks x = not (sameCall x (format 0 0 0))
+looks x = not (same_call x (format 0 0 0))
 
 -- is a record no good for it? "A marked record .. is good for restart and status only." (document 02, (h))
-abbrev pub takesMarked : Call → Bool
-takesMarked x = sameCall x restart || sameCall x status
+abbrev pub takes_marked : Call → Bool
+takes_marked x = same_call x restart || same_call x status
 
 abbrev pub unfit : Call → Bool → Record → Bool
-unfit x bad r = cond (takesMarked x) bad (bad || r.mark)
+unfit x bad r = cond (takes_marked x) bad (bad || r.mark)
 
 -- all its rows, the lowest number first: `short` says that the record is too short or too long, `bad` that it is not good
 unfoldable pub table : Call → Bool → Bool → Record → ℕ → ℕ → ℕ → List Row
-table x short bad r c len room = badRecord (cond (looks x) (short || unfit x bad r) short) ∷ laterRows x r c len room
+table x short bad r c len room = bad_record (cond (looks x) (short || unfit x bad r) short) ∷ later_rows x r c len room
 
 -- the number of the first row whose condition holds, or 0
 abbrev pub word : List Row → ℕ
@@ -132,20 +132,20 @@ word [] = 0
 word (x ∷ rows) = cond x.1 x.0 (word rows)
 
 -- how the rows of many calls begin: 1; 1, 2; 1, 2, 3; and 1, 2, 7
-abbrev pub unfitRecord : Record → Bool
-unfitRecord r = not (good r) || r.mark
+abbrev pub unfit_record : Record → Bool
+unfit_record r = not (good r) || r.mark
 
 abbrev pub unmarked : Record → Row
-unmarked r = badRecord (unfitRecord r)
+unmarked r = bad_record (unfit_record r)
 
 abbrev pub kept : Record → List Row
 kept r = unmarked r ∷ lost r ∷ []
 
-abbrev pub keptWhole : Record → List Row
-keptWhole r = unmarked r ∷ lost r ∷ degraded r ∷ []
+abbrev pub kept_whole : Record → List Row
+kept_whole r = unmarked r ∷ lost r ∷ degraded r ∷ []
 
-abbrev pub keptLent : Record → ℕ → List Row
-keptLent r len = unmarked r ∷ lost r ∷ images (size r) len ∷ []
+abbrev pub kept_lent : Record → ℕ → List Row
+kept_lent r len = unmarked r ∷ lost r ∷ images (size r) len ∷ []
 
 -- ---- the number that a call is given
 
@@ -154,14 +154,14 @@ unfoldable pub refusal : Record → ℕ → Fed → ℕ
 refusal r c e = word (table e.call false (not (good r)) r c e.images e.room)
 
 -- .. with the record's own ..
-abbrev pub refusalOf : Record → Fed → ℕ
-refusalOf r e = refusal r (capacity (geometry r)) e
+abbrev pub refusal_of : Record → Fed → ℕ
+refusal_of r e = refusal r (capacity (geometry r)) e
 
 -- .. and on a record's bytes
-unfoldable pub rowsBytes : List ℕ → Fed → List Row
-rowsBytes b e =
+unfoldable pub rows_bytes : List ℕ → Fed → List Row
+rows_bytes b e =
     let r = decode b in
-    table e.call (not (eqb (length b) recordLength)) (not (goodBytes b)) r (capacity (geometry r)) e.images e.room
+    table e.call (not (eqb (length b) record_length)) (not (good_bytes b)) r (capacity (geometry r)) e.images e.room
 
-unfoldable pub refusalBytes : List ℕ → Fed → ℕ
-refusalBytes b e = word (rowsBytes b e)
+unfoldable pub refusal_bytes : List ℕ → Fed → ℕ
+refusal_bytes b e = word (rows_bytes b e)

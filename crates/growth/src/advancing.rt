@@ -1,14 +1,14 @@
 // Document 01: "**Advance** (k): makes moves in order until k are made or none is left, and reports how many, which is t's rise. k = 0
 // makes none."
 ghost use Rattle.std.specs.Prelude.{◌≡◌, false, [], ◌+◌, ◌≤◌, length};
-ghost use Rattle.layout.specs.Layout.{totalOf};
-ghost use Rattle.layout.specs.Moves.{cursorAt};
+ghost use Rattle.layout.specs.Layout.{total_of};
+ghost use Rattle.layout.specs.Moves.{cursor_at};
 ghost use Rattle.state.specs.Good.{geometry, GoodRecord};
-ghost use Rattle.refusals.specs.Answers.{countedAnswer, countedRecord};
+ghost use Rattle.refusals.specs.Answers.{counted_answer, counted_record};
 ghost use Rattle.calls.specs.Call.{advance, feed, on};
-ghost use Rattle.calls.specs.Images.{size, storedIn};
-ghost use Rattle.calls.specs.Table.{idle, refusalOf};
-ghost use Rattle.calls.specs.Effect.{moveStores, advanceStores, act, called};
+ghost use Rattle.calls.specs.Images.{size, stored_in};
+ghost use Rattle.calls.specs.Table.{idle, refusal_of};
+ghost use Rattle.calls.specs.Effect.{move_stores, advance_stores, act, called};
 
 use blocks::move_block;
 use layout::Cursor;
@@ -19,8 +19,8 @@ use state::{Record, geometry_of, with_moves};
 // The next move, which is the one at the cursor: the block to its new place, zeroes where it stood.
 fn make_move(r: Record, at: Cursor, images: &mut [u8])
     requires { GoodRecord r × (idle (geometry r) ≡ false)
-        × (at ≡ cursorAt r.old r.new r.moves) × (length images.old ≡ size r) }
-    ensures images { images.new ≡ storedIn r (moveStores r images.old) images.old }
+        × (at ≡ cursor_at r.old r.new r.moves) × (length images.old ≡ size r) }
+    ensures images { images.new ≡ stored_in r (move_stores r images.old) images.old }
 {
     let from = place_at(r, at.stripe, at.from);
     let to = place_at(r, at.stripe, at.to);
@@ -29,8 +29,8 @@ fn make_move(r: Record, at: Cursor, images: &mut [u8])
 
 // The next `count` moves, of which there are so many. Divides for the first; the rest are counted on.
 fn make_moves(r: Record, images: &mut [u8], count: u32)
-    requires { GoodRecord r × (idle (geometry r) ≡ false) × (r.moves + count ≤ totalOf (geometry r)) × (length images.old ≡ size r) }
-    ensures images { images.new ≡ storedIn r (advanceStores count r images.old) images.old }
+    requires { GoodRecord r × (idle (geometry r) ≡ false) × (r.moves + count ≤ total_of (geometry r)) × (length images.old ≡ size r) }
+    ensures images { images.new ≡ stored_in r (advance_stores count r images.old) images.old }
 {
     let n = r.old as u32;
     let m = r.new as u32;
@@ -45,9 +45,9 @@ fn make_moves(r: Record, images: &mut [u8], count: u32)
 
 // The call once the table lets it through.
 fn make_due(r: Record, images: &mut [u8], k: u64) -> Counted
-    requires { refusalOf r (feed (advance k) (length images.old) 0) ≡ 0 }
-    ensures answer { countedAnswer result ≡ (act (on (advance k) images.old []) r).answer }
-    ensures state { countedRecord r result ≡ (act (on (advance k) images.old []) r).state }
+    requires { refusal_of r (feed (advance k) (length images.old) 0) ≡ 0 }
+    ensures answer { counted_answer result ≡ (act (on (advance k) images.old []) r).answer }
+    ensures state { counted_record r result ≡ (act (on (advance k) images.old []) r).state }
     ensures images { images.new ≡ (act (on (advance k) images.old []) r).images }
 {
     let left = total_of(geometry_of(r)) - r.moves;
@@ -60,8 +60,8 @@ fn make_due(r: Record, images: &mut [u8], k: u64) -> Counted
 }
 
 pub fn advance(r: Record, images: &mut [u8], k: u64) -> Counted
-    ensures answer { countedAnswer result ≡ (called (on (advance k) images.old []) r).answer }
-    ensures state { countedRecord r result ≡ (called (on (advance k) images.old []) r).state }
+    ensures answer { counted_answer result ≡ (called (on (advance k) images.old []) r).answer }
+    ensures state { counted_record r result ≡ (called (on (advance k) images.old []) r).state }
     ensures images { images.new ≡ (called (on (advance k) images.old []) r).images }
 {
     let refused = of_advance(r, images.len(), k);

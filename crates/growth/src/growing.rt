@@ -1,8 +1,8 @@
 // Document 01: "**Grow** (m): given images of n + m disks, zeroes those behind the first n; sets m."
 ghost use Rattle.std.specs.Prelude.{◌≡◌, [], length};
-ghost use Rattle.refusals.specs.Answers.{changedAnswer, changedRecord};
+ghost use Rattle.refusals.specs.Answers.{changed_answer, changed_record};
 ghost use Rattle.calls.specs.Call.{grow, feed, on};
-ghost use Rattle.calls.specs.Table.{refusalOf};
+ghost use Rattle.calls.specs.Table.{refusal_of};
 ghost use Rattle.calls.specs.Effect.{act, called};
 
 use blocks::zero_block;
@@ -11,9 +11,9 @@ use state::{Record, grown_by};
 
 // The call once the table lets it through. (Zeroes as one run, as in a format.)
 fn attach_disks(r: Record, images: &mut [u8], m: u64) -> Changed
-    requires { refusalOf r (feed (grow m) (length images.old) 0) ≡ 0 }
-    ensures answer { changedAnswer result ≡ (act (on (grow m) images.old []) r).answer }
-    ensures state { changedRecord r result ≡ (act (on (grow m) images.old []) r).state }
+    requires { refusal_of r (feed (grow m) (length images.old) 0) ≡ 0 }
+    ensures answer { changed_answer result ≡ (act (on (grow m) images.old []) r).answer }
+    ensures state { changed_record r result ≡ (act (on (grow m) images.old []) r).state }
     ensures images { images.new ≡ (act (on (grow m) images.old []) r).images }
 {
     let len = images.len();
@@ -23,8 +23,8 @@ fn attach_disks(r: Record, images: &mut [u8], m: u64) -> Changed
 }
 
 pub fn grow(r: Record, images: &mut [u8], m: u64) -> Changed
-    ensures answer { changedAnswer result ≡ (called (on (grow m) images.old []) r).answer }
-    ensures state { changedRecord r result ≡ (called (on (grow m) images.old []) r).state }
+    ensures answer { changed_answer result ≡ (called (on (grow m) images.old []) r).answer }
+    ensures state { changed_record r result ≡ (called (on (grow m) images.old []) r).state }
     ensures images { images.new ≡ (called (on (grow m) images.old []) r).images }
 {
     let k = of_grow(r, images.len(), m);

@@ -2,7 +2,7 @@
 -- and `no-cuts`. Assumes nothing.
 use mathlib.Core.Path.{refl}
 use Rattle.state.proofs.Laws.Bytes.{decode-encode}
-use Rattle.history.specs.Lent.{asBytes, asRecord}
+use Rattle.history.specs.Lent.{as_bytes, as_record}
 use Rattle.history.specs.Cuts.{PowerCuts, FlatListThrough, AlwaysFairly, PartsAre, FirstDisks, RestartDone, RestartAsks, NoCuts}
 use Rattle.history.proofs.Laws.Through.{cuts-on-bytes, asked-of-bytes}
 use Rattle.history.proofs.Laws.CutRecords.{cuts-on-records, asked-of-records}
@@ -13,10 +13,10 @@ pub power-cuts : PowerCuts
 power-cuts = (cuts-on-bytes, cuts-on-records cuts-on-bytes)
 
 pub flat-list-through : FlatListThrough
-flat-list-through = (short-list asBytes decode-encode power-cuts.0, short-list asRecord (λ r. refl) power-cuts.1)
+flat-list-through = (short-list as_bytes decode-encode power-cuts.0, short-list as_record (λ r. refl) power-cuts.1)
 
 pub always-fairly : AlwaysFairly
-always-fairly = (always asBytes decode-encode power-cuts.0, always asRecord (λ r. refl) power-cuts.1)
+always-fairly = (always as_bytes decode-encode power-cuts.0, always as_record (λ r. refl) power-cuts.1)
 
 pub parts_are : PartsAre
 parts_are = parts.part-is
@@ -31,4 +31,4 @@ pub restart-asks : RestartAsks
 restart-asks = (asked-of-bytes, asked-of-records asked-of-bytes)
 
 pub no-cuts : NoCuts
-no-cuts = (without-cuts asBytes, without-cuts asRecord)
+no-cuts = (without-cuts as_bytes, without-cuts as_record)

@@ -15,12 +15,12 @@ use Rattle.state.specs.declared.types.Health.TheVariants.{Whole, Out, Lost, Rebu
 use Rattle.state.specs.declared.types.Health.{Health}
 use Rattle.state.specs.declared.types.Record.{Record}
 use Rattle.state.specs.Good.{geometry, good}
-use Rattle.state.specs.Update.{withMark}
-use Rattle.calls.specs.Call.{Call, sameCall, format, advance, status, restart, Event, Fed, feed, fed, Answer, done, accepted}
-use Rattle.calls.specs.Images.{size, place_in, storedIn}
-use Rattle.calls.specs.Effect.{clearStores}
-use Rattle.history.specs.Flat.{Flat, flatStep}
-use Rattle.history.specs.Lent.{Form, asBytes, asRecord, Cabinet, takes, Lends, leaves, imagesAfter, next}
+use Rattle.state.specs.Update.{with_mark}
+use Rattle.calls.specs.Call.{Call, same_call, format, advance, status, restart, Event, Fed, feed, fed, Answer, done, accepted}
+use Rattle.calls.specs.Images.{size, place_in, stored_in}
+use Rattle.calls.specs.Effect.{clear_stores}
+use Rattle.history.specs.Flat.{Flat, flat_step}
+use Rattle.history.specs.Lent.{Form, as_bytes, as_record, Cabinet, takes, Lends, leaves, images_after, next}
 use Rattle.history.specs.Theorem.{tally, Claim, Claims, opening}
 
 -- ---- what befalls a cabinet: a call, or one of which only the first c stores are made
@@ -33,7 +33,7 @@ pub data Happening : Type 0 where
 unfoldable pub broken : {R : Type 0} → Form R → ℕ → Event → Cabinet R → Cabinet R
 broken x c e a =
     let y = x.begun c e a.rec in
-    record { rec = y.state; img = imagesAfter (accepted y.answer) (takes e.call (x.decoded a.rec)) a.img y.images }
+    record { rec = y.state; img = images_after (accepted y.answer) (takes e.call (x.decoded a.rec)) a.img y.images }
 
 -- ---- how a history stands: no cut fell since the last accepted restart or format; one fell, and restart and status alone may come; or
 -- nothing is said until a new format
@@ -51,7 +51,7 @@ pub data Kind : Type 0 where
   other : Kind
 
 unfoldable pub kind_of : Call → Kind
-kind_of c = cond (sameCall c (format 0 0 0)) anew (cond (sameCall c restart) mends (cond (sameCall c status) asks other))
+kind_of c = cond (same_call c (format 0 0 0)) anew (cond (same_call c restart) mends (cond (same_call c status) asks other))
 
 -- "where another call than restart or status comes between a cut and the next accepted restart"
 abbrev pub astray : Stand → Stand
@@ -79,24 +79,24 @@ hit sure = torn
 hit torn = torn
 hit unsaid = unsaid
 
-abbrev pub hitBy : Kind → Stand → Stand
-hitBy anew s = unsaid
-hitBy mends s = hit s
-hitBy asks s = hit s
-hitBy other s = hit (astray s)
+abbrev pub hit_by : Kind → Stand → Stand
+hit_by anew s = unsaid
+hit_by mends s = hit s
+hit_by asks s = hit s
+hit_by other s = hit (astray s)
 
 -- "where a cut falls with a disk out or rebuilding": by the health of the record left
-abbrev pub afterCut : Kind → Health → Stand → Stand
-afterCut k Whole s = hitBy k s
-afterCut k (Out o) s = unsaid
-afterCut k Lost s = unsaid
-afterCut k (Rebuilding o c) s = unsaid
+abbrev pub after_cut : Kind → Health → Stand → Stand
+after_cut k Whole s = hit_by k s
+after_cut k (Out o) s = unsaid
+after_cut k Lost s = unsaid
+after_cut k (Rebuilding o c) s = unsaid
 
 -- ---- what is claimed of a call, by how the history stands after it
 
 -- between a cut and the next accepted restart: status answers, and restart is refused, as the flat list says, and nothing changes
 pub record Waits {R : Type 0} (x : Form R) (e : Event) (a : Cabinet R) (f : Flat) : Type 0 where
-  pub answer : (leaves x e a).answer ≡ (flatStep (fed e) f).0
+  pub answer : (leaves x e a).answer ≡ (flat_step (fed e) f).0
   pub stays : next x e a ≡ a
 
 -- else what is claimed of every call; so of an accepted restart, that all stripes are sound, and every block is that of the flat list
@@ -127,11 +127,11 @@ instead e p = feed p (fed e).images (fed e).room
 pub record Came {R : Type 0} (x : Form R) (c : ℕ) (e : Event) (a : Cabinet R) (f : Flat) (sum : ℕ) (Onward : Flat → ℕ → Type 0)
     : Type 0 where
   pub part : Call
-  pub is-part : Part e.call part
+  pub is_part : Part e.call part
   pub mark : Bool
-  pub fields : (broken x c e a).rec ≡ x.encoded (withMark (flatStep (instead e part) f).1.numbers mark)
-  pub enough : size (flatStep (instead e part) f).1.numbers ≤ length (broken x c e a).img
-  pub onward : Onward (flatStep (instead e part) f).1 (tally part (flatStep (instead e part) f).0 sum)
+  pub fields : (broken x c e a).rec ≡ x.encoded (with_mark (flat_step (instead e part) f).1.numbers mark)
+  pub enough : size (flat_step (instead e part) f).1.numbers ≤ length (broken x c e a).img
+  pub onward : Onward (flat_step (instead e part) f).1 (tally part (flat_step (instead e part) f).0 sum)
 
 abbrev pub Broken : {R : Type 0} → Form R → Stand → ℕ → Event → Cabinet R → Flat → ℕ → (Flat → ℕ → Type 0) → Type 0
 Broken x sure c e a f sum Onward = Came x c e a f sum Onward
@@ -141,20 +141,20 @@ Broken x unsaid c e a f sum Onward = Onward f sum
 -- ---- every list
 
 -- after a call of it, and after a cut in one
-abbrev pub standsAfter : {R : Type 0} → Form R → Event → Cabinet R → Stand → Stand
-standsAfter x e a s = after_call (kind_of e.call) (accepted (leaves x e a).answer) s
+abbrev pub stands_after : {R : Type 0} → Form R → Event → Cabinet R → Stand → Stand
+stands_after x e a s = after_call (kind_of e.call) (accepted (leaves x e a).answer) s
 
-abbrev pub standsBroken : {R : Type 0} → Form R → ℕ → Event → Cabinet R → Stand → Stand
-standsBroken x c e a s = afterCut (kind_of e.call) (x.decoded (broken x c e a).rec).health s
+abbrev pub stands_broken : {R : Type 0} → Form R → ℕ → Event → Cabinet R → Stand → Stand
+stands_broken x c e a s = after_cut (kind_of e.call) (x.decoded (broken x c e a).rec).health s
 
 unfoldable pub Through : {R : Type 0} → Form R → List Happening → Stand → Cabinet R → Flat → ℕ → Type 0
 Through x [] s a f sum = Unit
 Through x (whole e ∷ hs) s a f sum =
-    let s' = standsAfter x e a s in
+    let s' = stands_after x e a s in
     let after = tally e.call (leaves x e a).answer sum in
-    Owes s' e a f → Said x s' e a f after × Through x hs s' (next x e a) (flatStep (fed e) f).1 after
+    Owes s' e a f → Said x s' e a f after × Through x hs s' (next x e a) (flat_step (fed e) f).1 after
 Through x (cut c e ∷ hs) s a f sum =
-    let s' = standsBroken x c e a s in
+    let s' = stands_broken x c e a s in
     Owes s' e a f → Broken x s' c e a f sum (λ f' sum'. Through x hs s' (broken x c e a) f' sum')
 
 -- a list opens with an accepted format, lent any record and images, however the history stood
@@ -165,7 +165,7 @@ PowerCutsOn {R} x =
     → (hs : List Happening) → Through x (whole (opening n B T img room) ∷ hs) s a f sum
 
 abbrev pub PowerCuts : Type 0
-PowerCuts = PowerCutsOn asBytes × PowerCutsOn asRecord
+PowerCuts = PowerCutsOn as_bytes × PowerCutsOn as_record
 
 -- ---- in short: the answers of a fair history with cuts are those of the flat list, fed the same calls, each that was cut replaced by a
 -- part of it
@@ -181,10 +181,10 @@ pub data Fate : Type 0 where
   answered : Fed → Fate
   taken : Fed → Fate
 
-unfoldable pub flatAnswers : List Fate → Flat → List Answer
-flatAnswers [] f = []
-flatAnswers (answered e ∷ es) f = (flatStep e f).0 ∷ flatAnswers es (flatStep e f).1
-flatAnswers (taken e ∷ es) f = flatAnswers es (flatStep e f).1
+unfoldable pub flat_answers : List Fate → Flat → List Answer
+flat_answers [] f = []
+flat_answers (answered e ∷ es) f = (flat_step e f).0 ∷ flat_answers es (flat_step e f).1
+flat_answers (taken e ∷ es) f = flat_answers es (flat_step e f).1
 
 pub data Fates : List Happening → List Fate → Type 0 where
   end : Fates [] []
@@ -196,16 +196,16 @@ pub data Fates : List Happening → List Fate → Type 0 where
 unfoldable pub Fairly : {R : Type 0} → Form R → List Happening → Stand → Cabinet R → Type 0
 Fairly x [] s a = Unit
 Fairly x (whole e ∷ hs) s a =
-    let s' = standsAfter x e a s in
+    let s' = stands_after x e a s in
     (s' ≢ unsaid) × Lends e (x.decoded a.rec) a.img × Fairly x hs s' (next x e a)
 Fairly x (cut c e ∷ hs) s a =
-    let s' = standsBroken x c e a s in
+    let s' = stands_broken x c e a s in
     (s' ≢ unsaid) × Lends e (x.decoded a.rec) a.img × Fairly x hs s' (broken x c e a)
 
 pub record Fated {R : Type 0} (x : Form R) (hs : List Happening) (a : Cabinet R) (f : Flat) : Type 0 where
   pub fates : List Fate
   pub are : Fates hs fates
-  pub answers-are : answers x hs a ≡ flatAnswers fates f
+  pub answers_are : answers x hs a ≡ flat_answers fates f
 
 abbrev pub FlatListThroughOn : {R : Type 0} → Form R → Type 0
 FlatListThroughOn {R} x =
@@ -213,7 +213,7 @@ FlatListThroughOn {R} x =
     → (hs : List Happening) → Fairly x hs sure (next x (opening n B T img room) a) → Fated x (whole (opening n B T img room) ∷ hs) a f
 
 abbrev pub FlatListThrough : Type 0
-FlatListThrough = FlatListThroughOn asBytes × FlatListThroughOn asRecord
+FlatListThrough = FlatListThroughOn as_bytes × FlatListThroughOn as_record
 
 -- ---- a controller that lends each call the disks of the record that stands, with any bytes after them, is fair: any list of calls and
 -- cuts has such a history, as long as something is said of it
@@ -224,10 +224,10 @@ FirstLent x e a = (behind : List ℕ) × (e.images ≡ take (size (x.decoded a.r
 unfoldable pub LentFirst : {R : Type 0} → Form R → List Happening → Stand → Cabinet R → Type 0
 LentFirst x [] s a = Unit
 LentFirst x (whole e ∷ hs) s a =
-    let s' = standsAfter x e a s in
+    let s' = stands_after x e a s in
     (s' ≢ unsaid) × FirstLent x e a × LentFirst x hs s' (next x e a)
 LentFirst x (cut c e ∷ hs) s a =
-    let s' = standsBroken x c e a s in
+    let s' = stands_broken x c e a s in
     (s' ≢ unsaid) × FirstLent x e a × LentFirst x hs s' (broken x c e a)
 
 abbrev pub AlwaysFairlyOn : {R : Type 0} → Form R → Type 0
@@ -237,20 +237,20 @@ AlwaysFairlyOn {R} x =
     → Fairly x hs sure (next x (opening n B T img room) a)
 
 abbrev pub AlwaysFairly : Type 0
-AlwaysFairly = AlwaysFairlyOn asBytes × AlwaysFairlyOn asRecord
+AlwaysFairly = AlwaysFairlyOn as_bytes × AlwaysFairlyOn as_record
 
 -- ---- what a part is: nothing changes nothing, and of an advance t lies between its two values
 
 pub record PartIs (e : Event) (f : Flat) (p : Call) : Type 0 where
   -- "those before or after the interrupted call"
   pub contents : ((k : ℕ) → e.call ≢ advance k)
-      → ((flatStep (instead e p) f).1 ≡ f) ⊎ ((flatStep (instead e p) f).1 ≡ (flatStep (fed e) f).1)
+      → ((flat_step (instead e p) f).1 ≡ f) ⊎ ((flat_step (instead e p) f).1 ≡ (flat_step (fed e) f).1)
   -- "(for an advance ..), and t lies between its two values"
-  pub from : (k : ℕ) → e.call ≡ advance k → f.numbers.moves ≤ (flatStep (instead e p) f).1.numbers.moves
-  pub upto : (k : ℕ) → e.call ≡ advance k → (flatStep (instead e p) f).1.numbers.moves ≤ (flatStep (fed e) f).1.numbers.moves
+  pub from : (k : ℕ) → e.call ≡ advance k → f.numbers.moves ≤ (flat_step (instead e p) f).1.numbers.moves
+  pub upto : (k : ℕ) → e.call ≡ advance k → (flat_step (instead e p) f).1.numbers.moves ≤ (flat_step (fed e) f).1.numbers.moves
   -- and every block that there was is as it was
   pub blocks : (k b : ℕ) → e.call ≡ advance k → b < length f.blocks
-      → get_or (flatStep (instead e p) f).1.blocks b [] ≡ get_or f.blocks b []
+      → get_or (flat_step (instead e p) f).1.blocks b [] ≡ get_or f.blocks b []
 
 abbrev pub PartsAre : Type 0
 PartsAre = (e : Event) (f : Flat) (p : Call) → Part e.call p → PartIs e f p
@@ -265,7 +265,7 @@ FirstDisks = (e : Event) (r : Record) (left : List ℕ) → size r ≤ length le
 
 abbrev pub RestartDone : Type 0
 RestartDone = (f : Flat) (room : ℕ) → good f.numbers ≡ true → f.numbers.health ≡ Whole
-    → flatStep (feed restart (size f.numbers) room) f ≡ (done, f)
+    → flat_step (feed restart (size f.numbers) room) f ≡ (done, f)
 
 -- ---- what a restart asks of what it is lent: that each block's own place holds it, once the marked place is cleared. Nothing is asked of
 -- parities, of blanks and of the marked place. So an array that stands so, however it came to it, is as one that a cut has hit: stores of
@@ -277,12 +277,12 @@ RestartAsksOn {R} x =
     → length bs ≡ capacity (geometry r)
     → ((b : ℕ) → b < capacity (geometry r) →
     let q = ((layout (geometry r)).place b).block in
-    place_in r (storedIn r (clearStores r) img) q.stripe q.disk ≡ get_or bs b [])
+    place_in r (stored_in r (clear_stores r) img) q.stripe q.disk ≡ get_or bs b [])
     → (hs : List Happening)
-    → Through x hs torn (record { rec = x.encoded r; img = img }) (record { numbers = withMark r false; blocks = bs }) r.moves
+    → Through x hs torn (record { rec = x.encoded r; img = img }) (record { numbers = with_mark r false; blocks = bs }) r.moves
 
 abbrev pub RestartAsks : Type 0
-RestartAsks = RestartAsksOn asBytes × RestartAsksOn asRecord
+RestartAsks = RestartAsksOn as_bytes × RestartAsksOn as_record
 
 -- ---- a list without cuts: what is claimed of it here is what `Claims` says
 
@@ -291,4 +291,4 @@ NoCutsOn {R} x =
     (es : List Event) (a : Cabinet R) (f : Flat) (sum : ℕ) → Through x (map whole es) sure a f sum → Claims x es a f sum
 
 abbrev pub NoCuts : Type 0
-NoCuts = NoCutsOn asBytes × NoCutsOn asRecord
+NoCuts = NoCutsOn as_bytes × NoCutsOn as_record

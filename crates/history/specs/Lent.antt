@@ -5,12 +5,12 @@
 use Rattle.std.specs.Prelude.{ℕ, ◌<◌, ◌≡◌, Bool, true, false, List, length}
 use Rattle.state.specs.declared.types.Record.{Record}
 use Rattle.state.specs.Good.{good}
-use Rattle.state.specs.Bytes.{decode, goodBytes, encode}
+use Rattle.state.specs.Bytes.{decode, good_bytes, encode}
 use Rattle.calls.specs.Call.{Call, Event, accepted}
 use Rattle.calls.specs.Health.{absent}
-use Rattle.calls.specs.Images.{disksOf, place_in}
+use Rattle.calls.specs.Images.{disks_of, place_in}
 use Rattle.calls.specs.Table.{Takes, nothing, anything, those, terms}
-use Rattle.calls.specs.Effect.{Left, called, calledBytes, begun, begunBytes}
+use Rattle.calls.specs.Effect.{Left, called, called_bytes, begun, begun_bytes}
 
 -- ---- the record in one of its two forms: what a call on it leaves, and what its first c stores leave (document 02, (h)); which record it
 -- is, how a record is written in it, when it is good
@@ -20,15 +20,15 @@ pub record Form (R : Type 0) : Type 0 where
   pub begun : ℕ → Event → R → Left R
   pub decoded : R → Record
   pub encoded : Record → R
-  pub isGood : R → Bool
+  pub is_good : R → Bool
 
 -- "exported .. with the record as .. bytes"
-abbrev pub asBytes : Form (List ℕ)
-asBytes = record { call = calledBytes; begun = begunBytes; decoded = decode; encoded = encode; isGood = goodBytes }
+abbrev pub as_bytes : Form (List ℕ)
+as_bytes = record { call = called_bytes; begun = begun_bytes; decoded = decode; encoded = encode; is_good = good_bytes }
 
 -- "Inside the library the record is lent"
-abbrev pub asRecord : Form Record
-asRecord = record { call = called; begun = begun; decoded = λ r. r; encoded = λ r. r; isGood = good }
+abbrev pub as_record : Form Record
+as_record = record { call = called; begun = begun; decoded = λ r. r; encoded = λ r. r; is_good = good }
 
 -- what the line controller keeps from call to call: the record, in either form, and the images
 pub record Cabinet (R : Type 0) : Type 0 where
@@ -45,7 +45,7 @@ takes c r = (terms c r).takes
 -- new ones before each call"; once it is being rebuilt "only in stripes not yet rebuilt" (document 02, (d)); where health is lost, any
 -- disk may: no call looks at them
 unfoldable pub Keeps : Record → List ℕ → List ℕ → Type 0
-Keeps r left lent = (S d : ℕ) → S < r.stripes → d < disksOf r → absent r.health S d ≡ false → place_in r lent S d ≡ place_in r left S d
+Keeps r left lent = (S d : ℕ) → S < r.stripes → d < disks_of r → absent r.health S d ≡ false → place_in r lent S d ≡ place_in r left S d
 
 -- images of the length asked for are those left, with any bytes after them; images of another length are any
 abbrev pub Lent : Takes → Record → List ℕ → List ℕ → Type 0
@@ -61,13 +61,13 @@ Lends e r left = Lent (takes e.call r) r left e.images
 abbrev pub leaves : {R : Type 0} → Form R → Event → Cabinet R → Left R
 leaves x e a = x.call e a.rec
 
-abbrev pub imagesAfter : Bool → Takes → List ℕ → List ℕ → List ℕ
-imagesAfter false t before left = before
-imagesAfter true nothing before left = before
-imagesAfter true (anything len) before left = left
-imagesAfter true (those len) before left = left
+abbrev pub images_after : Bool → Takes → List ℕ → List ℕ → List ℕ
+images_after false t before left = before
+images_after true nothing before left = before
+images_after true (anything len) before left = left
+images_after true (those len) before left = left
 
 unfoldable pub next : {R : Type 0} → Form R → Event → Cabinet R → Cabinet R
 next x e a =
     let y = leaves x e a in
-    record { rec = y.state; img = imagesAfter (accepted y.answer) (takes e.call (x.decoded a.rec)) a.img y.images }
+    record { rec = y.state; img = images_after (accepted y.answer) (takes e.call (x.decoded a.rec)) a.img y.images }

@@ -7,7 +7,7 @@ use Rattle.blocks.specs.Block.{zeros}
 use Rattle.state.specs.declared.types.Health.TheVariants.{Out, Rebuilding}
 use Rattle.calls.specs.Call.{format, read, view, write, out, Event, refused, bytes, accepted}
 use Rattle.history.specs.Flat.{Flat}
-use Rattle.history.specs.Lent.{Form, asBytes, asRecord, Cabinet, leaves, next}
+use Rattle.history.specs.Lent.{Form, as_bytes, as_record, Cabinet, leaves, next}
 use Rattle.history.specs.Theorem.{opening, Fair}
 
 -- P of each call of a list, with the calls after it and the cabinet before it
@@ -39,7 +39,7 @@ KeepsGiven x e es a =
     (b : ℕ) (v : List ℕ) → e.call ≡ write b v → accepted (leaves x e a).answer ≡ true → ReadsAs x b v es (next x e a)
 
 abbrev pub ReadsLastGiven : Type 0
-ReadsLastGiven = InFair asBytes (KeepsGiven asBytes) × InFair asRecord (KeepsGiven asRecord)
+ReadsLastGiven = InFair as_bytes (KeepsGiven as_bytes) × InFair as_record (KeepsGiven as_record)
 
 -- after every accepted format every block, those too that a growth brings later, reads as zeroes
 abbrev pub ZeroFromFormat : {R : Type 0} → Form R → Event → List Event → Cabinet R → Type 0
@@ -47,7 +47,7 @@ ZeroFromFormat x e es a =
     (n B T b : ℕ) → e.call ≡ format n B T → accepted (leaves x e a).answer ≡ true → ReadsAs x b (zeros B) es (next x e a)
 
 abbrev pub ReadsZeroAtFirst : Type 0
-ReadsZeroAtFirst = InFair asBytes (ZeroFromFormat asBytes) × InFair asRecord (ZeroFromFormat asRecord)
+ReadsZeroAtFirst = InFair as_bytes (ZeroFromFormat as_bytes) × InFair as_record (ZeroFromFormat as_record)
 
 -- ---- "A second disk out while the first is not rebuilt refuses all reads until a new format."
 
@@ -69,4 +69,4 @@ LostFromSecond x e es a =
     → accepted (leaves x e a).answer ≡ true → NoReadsOn x es (next x e a))
 
 abbrev pub ReadsRefused : Type 0
-ReadsRefused = InFair asBytes (LostFromSecond asBytes) × InFair asRecord (LostFromSecond asRecord)
+ReadsRefused = InFair as_bytes (LostFromSecond as_bytes) × InFair as_record (LostFromSecond as_record)

@@ -7,29 +7,29 @@
 -- says: "The total becomes (T div (n × (n + m))) × n × n × m". Of a rebuild (d) says: "The disk may hold any bytes only in stripes not yet
 -- rebuilt, and reads still follow the flat list.")
 -- The statement is `Demand3`; after it stand `HandedOn`, `MayBeLent`, `FlatList`, `AlwaysFair`, `NothingFound`, `LastGiven`, `ZeroAtFirst`
--- and `SecondOut`. `demand3`, `handed-on`, `may-be-lent`, `flat-list`, `always-fair`, `nothing-found`, `last-given`, `zero-at-first` and
--- `second-out` of proofs/Theorem.antt prove them, and assume nothing.
+-- and `SecondOut`. `demand3`, `handed-on`, `may-be-lent`, `flat_list`, `always-fair`, `nothing-found`, `last-given`, `zero-at-first` and
+-- `second_out` of proofs/Theorem.antt prove them, and assume nothing.
 use Rattle.std.specs.Prelude.{ℕ, suc, ◌+◌, ◌*◌, ◌<◌, ◌≡◌, true, false, cond, ◌||◌, ◌⊎◌, ◌↔◌, ◌≢◌, List, [], ◌∷◌, ◌++◌, map, length, get_or}
-use Rattle.layout.specs.Layout.{totalOf, capacity, layout}
+use Rattle.layout.specs.Layout.{total_of, capacity, layout}
 use Rattle.blocks.specs.Block.{zeros}
 use Rattle.state.specs.declared.types.Health.TheVariants.{Out, Lost, Rebuilding}
 use Rattle.state.specs.declared.types.Record.{Record}
 use Rattle.state.specs.Good.{geometry, good}
-use Rattle.state.specs.Bytes.{decode, goodBytes, encode}
-use Rattle.calls.specs.Call.{Call, sameCall, format, read, view, write, grow, advance, out, begin, continue, status, locate, owner, sweep}
-use Rattle.calls.specs.Call.{Event, on, Fed, feed, fed, Answer, refused, bytes, allSound, accepted, count}
-use Rattle.calls.specs.Health.{isLost, absent}
-use Rattle.calls.specs.Images.{disksOf, size, place_in, seen}
+use Rattle.state.specs.Bytes.{decode, good_bytes, encode}
+use Rattle.calls.specs.Call.{Call, same_call, format, read, view, write, grow, advance, out, begin, continue, status, locate, owner, sweep}
+use Rattle.calls.specs.Call.{Event, on, Fed, feed, fed, Answer, refused, bytes, all_sound, accepted, count}
+use Rattle.calls.specs.Health.{is_lost, absent}
+use Rattle.calls.specs.Images.{disks_of, size, place_in, seen}
 use Rattle.calls.specs.Table.{nothing, anything, those, idle, refusal}
-use Rattle.calls.specs.Effect.{place_of, parityAfter, called, calledBytes}
+use Rattle.calls.specs.Effect.{place_of, parity_after, called, called_bytes}
 use Rattle.calls.specs.Sound.{Sound}
-use Rattle.history.specs.Flat.{Flat, flatStep}
-use Rattle.history.specs.Lent.{Form, asBytes, asRecord, Cabinet, takes, Lends, leaves, next}
+use Rattle.history.specs.Flat.{Flat, flat_step}
+use Rattle.history.specs.Lent.{Form, as_bytes, as_record, Cabinet, takes, Lends, leaves, next}
 
 -- "The moves of a growth are the sum of the counts that advance reported since that grow was accepted, no format and no further
 -- grow accepted since": the sum after an accepted call that reported k, and after any call
 unfoldable pub tallied : Call → ℕ → ℕ → ℕ
-tallied c k sum = cond (sameCall c (format 0 0 0) || sameCall c (grow 0)) 0 (cond (sameCall c (advance 0)) (sum + k) sum)
+tallied c k sum = cond (same_call c (format 0 0 0) || same_call c (grow 0)) 0 (cond (same_call c (advance 0)) (sum + k) sum)
 
 unfoldable pub tally : Call → Answer → ℕ → ℕ
 tally c a sum = cond (accepted a) (tallied c (count a) sum) sum
@@ -40,7 +40,7 @@ tally c a sum = cond (accepted a) (tallied c (count a) sum) sum
 pub record Claim {R : Type 0} (x : Form R) (e : Event) (a : Cabinet R) (f : Flat) (sum : ℕ) : Type 0 where
   -- "the number; the bytes that read fills in or view returns; the count of advance; the answers of status, locate and owner"; the count
   -- of continue, and what sweep answers, too
-  pub answer : (leaves x e a).answer ≡ (flatStep (fed e) f).0
+  pub answer : (leaves x e a).answer ≡ (flat_step (fed e) f).0
   pub filled : (b : ℕ) → e.call ≡ read b → accepted (leaves x e a).answer ≡ true → (leaves x e a).answer ≡ bytes (leaves x e a).room
   -- "as a part of the images, or, if its disk is out, as the lent scratch filled with it. Scratch is else untouched."
   pub shown : (b : ℕ) → e.call ≡ view b → accepted (leaves x e a).answer ≡ true →
@@ -50,9 +50,9 @@ pub record Claim {R : Type 0} (x : Form R) (e : Event) (a : Cabinet R) (f : Flat
       × (absent r.health q.stripe q.disk ≡ false
       → ((leaves x e a).answer ≡ bytes (place_in r e.images q.stripe q.disk)) × ((leaves x e a).room ≡ e.room))
   -- "and the fields of the record left"
-  pub fields : (leaves x e a).state ≡ x.encoded (flatStep (fed e) f).1.numbers
+  pub fields : (leaves x e a).state ≡ x.encoded (flat_step (fed e) f).1.numbers
   -- which is good, so that refusal 1 is never given
-  pub good_left : x.isGood (leaves x e a).state ≡ true
+  pub good_left : x.is_good (leaves x e a).state ≡ true
   -- a refused call leaves the record, the images and the block or scratch as they were lent (`Demand1` of crate `calls`, said again)
   pub refused : accepted (leaves x e a).answer ≡ false
       → ((leaves x e a).state ≡ a.rec) × ((leaves x e a).images ≡ e.images) × ((leaves x e a).room ≡ e.room)
@@ -62,26 +62,26 @@ pub record Claim {R : Type 0} (x : Form R) (e : Event) (a : Cabinet R) (f : Flat
   -- after none stand the images lent, after the last of them those left
   pub parity : let r = x.decoded a.rec in
       (k i S : ℕ) → e.call ≡ advance k → accepted (leaves x e a).answer ≡ true → S < r.stripes
-      → parityAfter (suc i) r e.images S ≡ parityAfter i r e.images S
-  pub parity-first : let r = x.decoded a.rec in
-      (S : ℕ) → parityAfter 0 r e.images S ≡ place_in r e.images S ((layout (geometry r)).parity S)
-  pub parity-last : let r = x.decoded a.rec in
+      → parity_after (suc i) r e.images S ≡ parity_after i r e.images S
+  pub parity_first : let r = x.decoded a.rec in
+      (S : ℕ) → parity_after 0 r e.images S ≡ place_in r e.images S ((layout (geometry r)).parity S)
+  pub parity_last : let r = x.decoded a.rec in
       (k S : ℕ) → e.call ≡ advance k → accepted (leaves x e a).answer ≡ true
-      → parityAfter k r e.images S ≡ place_in r (leaves x e a).images S ((layout (geometry (x.decoded (leaves x e a).state))).parity S)
+      → parity_after k r e.images S ≡ place_in r (leaves x e a).images S ((layout (geometry (x.decoded (leaves x e a).state))).parity S)
   -- "The growth is over, so that 5's condition holds, exactly when the sum is the total."
-  pub over : let r = x.decoded (leaves x e a).state in r.new ≢ 0 → (idle (geometry r) ≡ true) ↔ (sum ≡ totalOf (geometry r))
+  pub over : let r = x.decoded (leaves x e a).state in r.new ≢ 0 → (idle (geometry r) ≡ true) ↔ (sum ≡ total_of (geometry r))
   -- "From a format on, unless health is lost, all stripes are sound, the out disk taken as the xor of the others."
   pub sound : let r = x.decoded (leaves x e a).state in
-      isLost r.health ≡ false → (S : ℕ) → S < r.stripes → Sound r (next x e a).img S
-  -- what stands after a call is as long as the record left says: it may be lent to the next one (`FreeToLend.what-stands`)
+      is_lost r.health ≡ false → (S : ℕ) → S < r.stripes → Sound r (next x e a).img S
+  -- what stands after a call is as long as the record left says: it may be lent to the next one (`FreeToLend.what_stands`)
   pub long : length (next x e a).img ≡ size (x.decoded (leaves x e a).state)
   -- "Our service bench reads drawers from a stopped line by the published layout": the place where Layout has block b, seen through a disk
   -- that is out, holds the flat list's block b (where health is lost there is nothing to say); and "capacity is that list's length"
-  pub capacity-is : capacity (geometry (x.decoded (leaves x e a).state)) ≡ length (flatStep (fed e) f).1.blocks
+  pub capacity_is : capacity (geometry (x.decoded (leaves x e a).state)) ≡ length (flat_step (fed e) f).1.blocks
   pub bench : let r = x.decoded (leaves x e a).state in
-      isLost r.health ≡ false → (b : ℕ) → b < capacity (geometry r) →
+      is_lost r.health ≡ false → (b : ℕ) → b < capacity (geometry r) →
       let q = ((layout (geometry r)).place b).block in
-      seen r (next x e a).img q.stripe q.disk ≡ get_or (flatStep (fed e) f).1.blocks b []
+      seen r (next x e a).img q.stripe q.disk ≡ get_or (flat_step (fed e) f).1.blocks b []
 
 -- ---- and of every call of a list, as long as each is lent what it may be
 
@@ -89,7 +89,7 @@ unfoldable pub Claims : {R : Type 0} → Form R → List Event → Cabinet R →
 Claims x [] a f sum = Unit
 Claims x (e ∷ es) a f sum =
     let after = tally e.call (leaves x e a).answer sum in
-    Lends e f.numbers a.img → Claim x e a f after × Claims x es (next x e a) (flatStep (fed e) f).1 after
+    Lends e f.numbers a.img → Claim x e a f after × Claims x es (next x e a) (flat_step (fed e) f).1 after
 
 -- "The list opens with an accepted format, lent any record and images. Behind it come any of the .. calls above, with any
 -- arguments, refused or not." (What the flat list and the sum were before it does not matter.)
@@ -103,29 +103,29 @@ Demand3On {R} x =
 
 -- of calls on a record's bytes, as the line controller makes them, and of calls on a record, which follows by `OnBytes` of crate `calls`
 abbrev pub Demand3 : Type 0
-Demand3 = Demand3On asBytes × Demand3On asRecord
+Demand3 = Demand3On as_bytes × Demand3On as_record
 
 -- ---- what is handed on from call to call, in bare form
 
 -- "Each gets the record, and where it takes images those too, as the calls before left them."
 pub record HandsOn {R : Type 0} (x : Form R) : Type 0 where
-  pub record-on : (e : Event) (a : Cabinet R) → (next x e a).rec ≡ (leaves x e a).state
-  pub images-on : (e : Event) (a : Cabinet R) → accepted (leaves x e a).answer ≡ true
+  pub record_on : (e : Event) (a : Cabinet R) → (next x e a).rec ≡ (leaves x e a).state
+  pub images_on : (e : Event) (a : Cabinet R) → accepted (leaves x e a).answer ≡ true
       → takes e.call (x.decoded a.rec) ≢ nothing → (next x e a).img ≡ (leaves x e a).images
   -- a call that takes none, or is refused, leaves those that stood
-  pub none-taken : (e : Event) (a : Cabinet R) → takes e.call (x.decoded a.rec) ≡ nothing → (next x e a).img ≡ a.img
+  pub none_taken : (e : Event) (a : Cabinet R) → takes e.call (x.decoded a.rec) ≡ nothing → (next x e a).img ≡ a.img
   pub refused : (e : Event) (a : Cabinet R) → accepted (leaves x e a).answer ≡ false → (next x e a).img ≡ a.img
 
 pub record HandedOn : Type 0 where
   -- a call on a record's bytes, and on a record
-  pub on-bytes : (e : Event) (a : Cabinet (List ℕ)) → leaves asBytes e a ≡ calledBytes e a.rec
-  pub on-record : (e : Event) (a : Cabinet Record) → leaves asRecord e a ≡ called e a.rec
-  pub as_bytes : (b : List ℕ) (r : Record)
-      → (asBytes.decoded b ≡ decode b) × (asBytes.encoded r ≡ encode r) × (asBytes.isGood b ≡ goodBytes b)
-  pub as-record : (r : Record) → (asRecord.decoded r ≡ r) × (asRecord.encoded r ≡ r) × (asRecord.isGood r ≡ good r)
+  pub on_bytes : (e : Event) (a : Cabinet (List ℕ)) → leaves as_bytes e a ≡ called_bytes e a.rec
+  pub on_record : (e : Event) (a : Cabinet Record) → leaves as_record e a ≡ called e a.rec
+  pub as-bytes : (b : List ℕ) (r : Record)
+      → (as_bytes.decoded b ≡ decode b) × (as_bytes.encoded r ≡ encode r) × (as_bytes.is_good b ≡ good_bytes b)
+  pub as-record : (r : Record) → (as_record.decoded r ≡ r) × (as_record.encoded r ≡ r) × (as_record.is_good r ≡ good r)
   -- what stands after it
-  pub bytes_on : HandsOn asBytes
-  pub records-on : HandsOn asRecord
+  pub bytes_on : HandsOn as_bytes
+  pub records_on : HandsOn as_record
   -- which images a call takes: any of a length; those that stand, of a grow with m disks more; or none
   pub of_format : (r : Record) (n B T : ℕ) → takes (format n B T) r ≡ anything (n * (T * B))
   pub of-grow : (r : Record) (m : ℕ) → takes (grow m) r ≡ those ((r.old + m) * (r.stripes * r.block))
@@ -139,23 +139,23 @@ pub record HandedOn : Type 0 where
 
 pub record FreeToLend (e : Event) (r : Record) (left : List ℕ) : Type 0 where
   -- what stands, with or without bytes after it
-  pub what-stands : (behind : List ℕ) → length left ≡ size r → e.images ≡ left ++ behind → Lends e r left
+  pub what_stands : (behind : List ℕ) → length left ≡ size r → e.images ≡ left ++ behind → Lends e r left
   -- "Format may be lent any images instead"
-  pub any-format : (n B T : ℕ) → e.call ≡ format n B T → Lends e r left
+  pub any_format : (n B T : ℕ) → e.call ≡ format n B T → Lends e r left
   -- "any call that is lent images may be lent a length that refusal 7 turns away": one that it does not ask for, whichever number the
   -- call is then given; and so wherever that is 7
-  pub any-length : (len : ℕ) → takes e.call r ≡ those len → length e.images ≢ len → Lends e r left
+  pub any_length : (len : ℕ) → takes e.call r ≡ those len → length e.images ≢ len → Lends e r left
   pub turned-away : (c : ℕ) → refusal r c (fed e) ≡ 7 → Lends e r left
   -- "disk d may hold any bytes"
   pub any_out : (o : ℕ) → r.health ≡ Out o
-      → ((S d : ℕ) → S < r.stripes → d < disksOf r → d ≢ o → place_in r e.images S d ≡ place_in r left S d) → Lends e r left
+      → ((S d : ℕ) → S < r.stripes → d < disks_of r → d ≢ o → place_in r e.images S d ≡ place_in r left S d) → Lends e r left
   -- "The disk may hold any bytes only in stripes not yet rebuilt"
-  pub any-not-rebuilt : (o c : ℕ) → r.health ≡ Rebuilding o c
-      → ((S d : ℕ) → S < r.stripes → d < disksOf r → (d ≡ o → S < c) → place_in r e.images S d ≡ place_in r left S d) → Lends e r left
+  pub any_not_rebuilt : (o c : ℕ) → r.health ≡ Rebuilding o c
+      → ((S d : ℕ) → S < r.stripes → d < disks_of r → (d ≡ o → S < c) → place_in r e.images S d ≡ place_in r left S d) → Lends e r left
   -- and where two disks are out, any disk may
-  pub any-lost : r.health ≡ Lost → Lends e r left
+  pub any_lost : r.health ≡ Lost → Lends e r left
   -- calls that take no images do not look at any
-  pub no-images : takes e.call r ≡ nothing → Lends e r left
+  pub no_images : takes e.call r ≡ nothing → Lends e r left
 
 abbrev pub MayBeLent : Type 0
 MayBeLent = (e : Event) (r : Record) (left : List ℕ) → FreeToLend e r left
@@ -164,24 +164,24 @@ MayBeLent = (e : Event) (r : Record) (left : List ℕ) → FreeToLend e r left
 
 unfoldable pub Fair : {R : Type 0} → Form R → List Event → Cabinet R → Flat → Type 0
 Fair x [] a f = Unit
-Fair x (e ∷ es) a f = Lends e f.numbers a.img × Fair x es (next x e a) (flatStep (fed e) f).1
+Fair x (e ∷ es) a f = Lends e f.numbers a.img × Fair x es (next x e a) (flat_step (fed e) f).1
 
 unfoldable pub outcomes : {R : Type 0} → Form R → List Event → Cabinet R → List (Answer × R)
 outcomes x [] a = []
 outcomes x (e ∷ es) a = ((leaves x e a).answer, (leaves x e a).state) ∷ outcomes x es (next x e a)
 
-unfoldable pub flatOutcomes : {R : Type 0} → Form R → List Fed → Flat → List (Answer × R)
-flatOutcomes x [] f = []
-flatOutcomes x (e ∷ es) f = let y = flatStep e f in (y.0, x.encoded y.1.numbers) ∷ flatOutcomes x es y.1
+unfoldable pub flat_outcomes : {R : Type 0} → Form R → List Fed → Flat → List (Answer × R)
+flat_outcomes x [] f = []
+flat_outcomes x (e ∷ es) f = let y = flat_step e f in (y.0, x.encoded y.1.numbers) ∷ flat_outcomes x es y.1
 
 abbrev pub FlatListOn : {R : Type 0} → Form R → Type 0
 FlatListOn {R} x =
     (a : Cabinet R) (f : Flat) (n B T : ℕ) (img room : List ℕ) → accepted (leaves x (opening n B T img room) a).answer ≡ true
     → (es : List Event) → Fair x (opening n B T img room ∷ es) a f
-    → outcomes x (opening n B T img room ∷ es) a ≡ flatOutcomes x (map fed (opening n B T img room ∷ es)) f
+    → outcomes x (opening n B T img room ∷ es) a ≡ flat_outcomes x (map fed (opening n B T img room ∷ es)) f
 
 abbrev pub FlatList : Type 0
-FlatList = FlatListOn asBytes × FlatListOn asRecord
+FlatList = FlatListOn as_bytes × FlatListOn as_record
 
 -- ---- a controller that lends each call what stands, with any bytes after it, is fair: any list of calls has such a history
 
@@ -195,14 +195,14 @@ AlwaysFairOn {R} x =
     → (es : List Event) → LentAsLeft x es (next x (opening n B T img room) a) → Fair x (opening n B T img room ∷ es) a f
 
 abbrev pub AlwaysFair : Type 0
-AlwaysFair = AlwaysFairOn asBytes × AlwaysFairOn asRecord
+AlwaysFair = AlwaysFairOn as_bytes × AlwaysFairOn as_record
 
 -- ---- from a format on a sweep never finds anything: every one that is let through answers none, and all T stripes read
 
 unfoldable pub FindsNothing : {R : Type 0} → Form R → List Event → Cabinet R → Type 0
 FindsNothing x [] a = Unit
 FindsNothing x (e ∷ es) a =
-    (e.call ≡ sweep → accepted (leaves x e a).answer ≡ true → (leaves x e a).answer ≡ allSound (x.decoded a.rec).stripes)
+    (e.call ≡ sweep → accepted (leaves x e a).answer ≡ true → (leaves x e a).answer ≡ all_sound (x.decoded a.rec).stripes)
     × FindsNothing x es (next x e a)
 
 abbrev pub NothingFoundOn : {R : Type 0} → Form R → Type 0
@@ -211,7 +211,7 @@ NothingFoundOn {R} x =
     → (es : List Event) → Fair x (opening n B T img room ∷ es) a f → FindsNothing x (opening n B T img room ∷ es) a
 
 abbrev pub NothingFound : Type 0
-NothingFound = NothingFoundOn asBytes × NothingFoundOn asRecord
+NothingFound = NothingFoundOn as_bytes × NothingFoundOn as_record
 
 -- ---- in the mills' words: the flat list is, "zero at first, of what each block was last given". (This and the rest is
 -- said of the flat list; `ReadBack` says it of the array.)
@@ -220,7 +220,7 @@ NothingFound = NothingFoundOn asBytes × NothingFoundOn asRecord
 unfoldable pub NotGiven : ℕ → List Fed → Flat → Type 0
 NotGiven b [] f = Unit
 NotGiven b (e ∷ es) f =
-    let y = flatStep e f in
+    let y = flat_step e f in
     ((n B T : ℕ) → e.call ≡ format n B T → accepted y.0 ≡ false)
     × ((v : List ℕ) → e.call ≡ write b v → accepted y.0 ≡ false)
     × NotGiven b es y.1
@@ -228,23 +228,23 @@ NotGiven b (e ∷ es) f =
 -- the flat list after a list of calls
 unfoldable pub behind : List Fed → Flat → Flat
 behind [] f = f
-behind (e ∷ es) f = behind es (flatStep e f).1
+behind (e ∷ es) f = behind es (flat_step e f).1
 
 -- read and view of block b give v
 unfoldable pub Gives : ℕ → List ℕ → Flat → Type 0
-Gives b v f = (e : Fed) → (e.call ≡ read b) ⊎ (e.call ≡ view b) → accepted (flatStep e f).0 ≡ true → (flatStep e f).0 ≡ bytes v
+Gives b v f = (e : Fed) → (e.call ≡ read b) ⊎ (e.call ≡ view b) → accepted (flat_step e f).0 ≡ true → (flat_step e f).0 ≡ bytes v
 
 abbrev pub LastGiven : Type 0
 LastGiven =
     (f : Flat) (b : ℕ) (v : List ℕ) (len room : ℕ) →
-    let y = flatStep (feed (write b v) len room) f in
+    let y = flat_step (feed (write b v) len room) f in
     accepted y.0 ≡ true → (es : List Fed) → NotGiven b es y.1 → Gives b v (behind es y.1)
 
 -- a block that was given nothing since the format reads as zeroes; so does one that is new, from the zone's end on that brought it
 abbrev pub ZeroAtFirst : Type 0
 ZeroAtFirst =
     (f : Flat) (n B T len room : ℕ) →
-    let y = flatStep (feed (format n B T) len room) f in
+    let y = flat_step (feed (format n B T) len room) f in
     accepted y.0 ≡ true → (b : ℕ) (es : List Fed) → NotGiven b es y.1 → Gives b (zeros B) (behind es y.1)
 
 -- ---- "A second disk out while the first is not rebuilt refuses all reads until a new format."
@@ -253,17 +253,17 @@ ZeroAtFirst =
 unfoldable pub NoReads : List Fed → Flat → Type 0
 NoReads [] f = Unit
 NoReads (e ∷ es) f =
-    let y = flatStep e f in
+    let y = flat_step e f in
     ((b : ℕ) → e.call ≡ read b → y.0 ≡ refused 2)
     × ((b : ℕ) → e.call ≡ view b → y.0 ≡ refused 2)
     × (((n B T : ℕ) → e.call ≡ format n B T → accepted y.0 ≡ false) → NoReads es y.1)
 
 -- the first is out, or being rebuilt and so not rebuilt yet
 pub record SecondOut : Type 0 where
-  pub while-out : (f : Flat) (first second len room : ℕ) →
-      let y = flatStep (feed (out second) len room) f in
+  pub while_out : (f : Flat) (first second len room : ℕ) →
+      let y = flat_step (feed (out second) len room) f in
       good f.numbers ≡ true → f.numbers.health ≡ Out first → accepted y.0 ≡ true → (es : List Fed) → NoReads es y.1
-  pub while-rebuilding : (f : Flat) (first done second len room : ℕ) →
-      let y = flatStep (feed (out second) len room) f in
+  pub while_rebuilding : (f : Flat) (first done second len room : ℕ) →
+      let y = flat_step (feed (out second) len room) f in
       good f.numbers ≡ true → f.numbers.health ≡ Rebuilding first done → second ≢ first → accepted y.0 ≡ true
       → (es : List Fed) → NoReads es y.1

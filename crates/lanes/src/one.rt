@@ -1,8 +1,8 @@
 // One lane: loaded from a slice, xored and stored.
 ghost use Rattle.std.specs.Prelude.{◌≡◌, [], ◌∷◌, ◌+◌, ◌≤◌, length};
 ghost use Rattle.blocks.specs.Block.{block_at, store};
-ghost use Rattle.blocks.specs.Xor.{xorB};
-ghost use Rattle.lanes.specs.Lanes.{laneBytes};
+ghost use Rattle.blocks.specs.Xor.{xor_b};
+ghost use Rattle.lanes.specs.Lanes.{lane_bytes};
 
 use crate::types::Lane;
 
@@ -12,7 +12,7 @@ pub const LANE: usize = 16;
 // The lane from at on.
 pub fn load_lane(source: &[u8], at: usize) -> Lane
     requires { at + 16 ≤ length source.now }
-    ensures bytes { laneBytes result ≡ block_at source.now at 16 }
+    ensures bytes { lane_bytes result ≡ block_at source.now at 16 }
 {
     Lane {
         b0: source[at],
@@ -36,7 +36,7 @@ pub fn load_lane(source: &[u8], at: usize) -> Lane
 
 // The xor of two lanes.
 pub fn xor_lanes(x: Lane, y: Lane) -> Lane
-    ensures bytes { laneBytes result ≡ xorB (laneBytes x) (laneBytes y) }
+    ensures bytes { lane_bytes result ≡ xor_b (lane_bytes x) (lane_bytes y) }
 {
     Lane {
         b0: x.b0 ^ y.b0,
@@ -72,7 +72,7 @@ fn store_four(target: &mut [u8], at: usize, a: u8, b: u8, c: u8, d: u8)
 // Stores a lane from at on.
 pub fn store_lane(target: &mut [u8], at: usize, x: Lane)
     requires { at + 16 ≤ length target.old }
-    ensures target { target.new ≡ store target.old at (laneBytes x) }
+    ensures target { target.new ≡ store target.old at (lane_bytes x) }
 {
     store_four(target, at, x.b0, x.b1, x.b2, x.b3);
     store_four(target, at + 4, x.b4, x.b5, x.b6, x.b7);

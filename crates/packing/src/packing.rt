@@ -1,9 +1,9 @@
 // The way there, lane by lane: of a loop over single points the compiler makes vectors of eight, which had 0.7 of the speed of C by hand.
 ghost use Rattle.std.specs.Prelude.{◌≡◌, ◌+◌, ◌-◌, ◌*◌, ◌<◌, ◌≤◌, length, slice_index};
 ghost use Rattle.blocks.specs.Block.{block_at};
-ghost use Rattle.lanes.specs.Lanes.{laneBytes};
+ghost use Rattle.lanes.specs.Lanes.{lane_bytes};
 ghost use Rattle.points.specs.Answer.{answer, filled};
-ghost use Rattle.points.specs.Part.{differencesOf, sides, partPacked, EvenAndAlike};
+ghost use Rattle.points.specs.Part.{differences_of, sides, part_packed, EvenAndAlike};
 ghost use Rattle.points.specs.Points.{half, packed};
 
 use crate::point::{POINTS, byte_of, is_refused, point_at};
@@ -14,7 +14,7 @@ use points::Side;
 // many at once. Kept, it took six times as long in a trial.)
 fn difference_at(source: &[u8], i: usize) -> u16
     requires { (1 ≤ i) × (2 * i + 1 < length source.now) }
-    ensures difference { result ≡ slice_index (differencesOf source.now) i }
+    ensures difference { result ≡ slice_index (differences_of source.now) i }
 {
     let point = point_at(source, i);
     let before = point_at(source, i - 1);
@@ -32,7 +32,7 @@ fn byte_at(source: &[u8], i: usize, s: Side) -> u8
 // One byte of each of sixteen differences, from the i-th on. (One function for both bytes costs nothing: it is inlined twice.)
 fn lane_at(source: &[u8], i: usize, s: Side) -> Lane
     requires { (1 ≤ i) × (2 * (i + 16) ≤ length source.now) }
-    ensures lane { laneBytes result ≡ block_at (sides s source.now) i 16 }
+    ensures lane { lane_bytes result ≡ block_at (sides s source.now) i 16 }
 {
     Lane {
         b0: byte_at(source, i, s),
@@ -57,7 +57,7 @@ fn lane_at(source: &[u8], i: usize, s: Side) -> Lane
 // Packs sixteen points, from i on. Both lanes are there before either is stored, as the compiler cannot tell two lent slices apart.
 fn pack_lane(source: &[u8], target: &mut [u8], i: usize)
     requires { EvenAndAlike source.now target.old × (1 ≤ i) × (i + 16 ≤ half source.now) }
-    ensures target { target.new ≡ partPacked source.now target.old i 16 }
+    ensures target { target.new ≡ part_packed source.now target.old i 16 }
 {
     let low = lane_at(source, i, Side::Low);
     let high = lane_at(source, i, Side::High);
@@ -70,7 +70,7 @@ fn pack_lane(source: &[u8], target: &mut [u8], i: usize)
 fn pack_lanes(source: &[u8], target: &mut [u8]) -> usize
     requires { EvenAndAlike source.now target.old × (1 ≤ half source.now) }
     ensures end { (1 ≤ result) × (result ≤ half source.now) }
-    ensures target { target.new ≡ partPacked source.now target.old 1 (result - 1) }
+    ensures target { target.new ≡ part_packed source.now target.old 1 (result - 1) }
 {
     let half = source.len() / 2;
     let mut i = 1;
@@ -85,7 +85,7 @@ fn pack_lanes(source: &[u8], target: &mut [u8]) -> usize
 fn pack_points(source: &[u8], target: &mut [u8], first: usize)
     requires { EvenAndAlike source.now target.old × (1 ≤ first) × (first ≤ half source.now) }
     ensures target { target.new ≡
-        partPacked source.now target.old first (half source.now - first) }
+        part_packed source.now target.old first (half source.now - first) }
 {
     let half = source.len() / 2;
     let mut i = first;

@@ -2,8 +2,8 @@
 // times as long.)
 ghost use Rattle.std.specs.Prelude.{◌≡◌, ◌+◌, ◌*◌, ◌<◌, length};
 ghost use Rattle.points.specs.Answer.{answer, filled};
-ghost use Rattle.points.specs.Part.{withPoint, EvenAndAlike};
-ghost use Rattle.points.specs.Points.{Even, points_of, bytes_of, fromSides, sums, unpacked};
+ghost use Rattle.points.specs.Part.{with_point, EvenAndAlike};
+ghost use Rattle.points.specs.Points.{Even, points_of, bytes_of, from_sides, sums, unpacked};
 
 use crate::point::{POINTS, byte_of, is_refused, point_at};
 use blocks::join_two;
@@ -12,7 +12,7 @@ use points::Side;
 // Stores p as point i.
 fn store_point(target: &mut [u8], i: usize, p: u16)
     requires { 2 * i + 1 < length target.old }
-    ensures target { target.new ≡ withPoint target.old i p }
+    ensures target { target.new ≡ with_point target.old i p }
 {
     target[2 * i] = byte_of(p, Side::Low);
     target[2 * i + 1] = byte_of(p, Side::High);
@@ -21,7 +21,7 @@ fn store_point(target: &mut [u8], i: usize, p: u16)
 // Puts the two bytes of each difference together again.
 fn join_sides(source: &[u8], target: &mut [u8])
     requires { EvenAndAlike source.now target.old }
-    ensures target { target.new ≡ bytes_of (fromSides source.now) }
+    ensures target { target.new ≡ bytes_of (from_sides source.now) }
 {
     let half = source.len() / 2;
     let mut i = 0;

@@ -3,7 +3,7 @@
 // 17 instructions.
 ghost use Rattle.std.specs.Prelude.{◌≡◌, ◌+◌, ◌-◌, ◌≤◌, ◌<◌, length};
 ghost use Rattle.blocks.specs.Block.{store, Disjoint};
-ghost use Rattle.parity.specs.Fold.{folded, partModified, ModifyInside};
+ghost use Rattle.parity.specs.Fold.{folded, part_modified, ModifyInside};
 
 use lanes::{LANE, load_lane, store_lane, xor_lanes};
 
@@ -11,7 +11,7 @@ use lanes::{LANE, load_lane, store_lane, xor_lanes};
 fn modify_lanes(images: &mut [u8], parity: usize, at: usize, bytes: &[u8]) -> usize
     requires { ModifyInside parity at (length bytes.now) (length images.old) }
     ensures { (result ≤ length bytes.now) × (length bytes.now < result + 16)
-        × (images.new ≡ partModified images.old parity at bytes.now 0 result) }
+        × (images.new ≡ part_modified images.old parity at bytes.now 0 result) }
 {
     let mut i = 0;
     while LANE <= bytes.len() - i {
@@ -32,7 +32,7 @@ fn modify_lanes(images: &mut [u8], parity: usize, at: usize, bytes: &[u8]) -> us
 fn modify_bytes(images: &mut [u8], parity: usize, at: usize, bytes: &[u8], first: usize)
     requires { ModifyInside parity at (length bytes.now) (length images.old) × (first ≤ length bytes.now) }
     ensures { images.new ≡
-        partModified images.old parity at bytes.now first (length bytes.now - first) }
+        part_modified images.old parity at bytes.now first (length bytes.now - first) }
 {
     let mut i = first;
     while i < bytes.len() {

@@ -6,10 +6,10 @@
 // and single bytes follow each other, and are no choice in one loop, is for speed too.
 ghost use Rattle.std.specs.Prelude.{◌≡◌, [], ◌∷◌, ◌≢◌, ◌+◌, ◌-◌, ◌≤◌, ◌<◌, length};
 ghost use Rattle.blocks.specs.Block.{block_at};
-ghost use Rattle.blocks.specs.Xor.{xorB};
+ghost use Rattle.blocks.specs.Xor.{xor_b};
 ghost use Rattle.blocks.specs.Stripe.{PlaceInside};
-ghost use Rattle.lanes.specs.Lanes.{laneBytes, quadBytes};
-ghost use Rattle.parity.specs.Fold.{foldedOthers, counted, gapped, GappedInside, FoldInside, partFolded};
+ghost use Rattle.lanes.specs.Lanes.{lane_bytes, quad_bytes};
+ghost use Rattle.parity.specs.Fold.{folded_others, counted, gapped, GappedInside, FoldInside, part_folded};
 
 use crate::types::Gapped;
 use blocks::offset_of;
@@ -27,7 +27,7 @@ fn is_counted(g: Gapped, d: usize) -> bool
 // The xor of x and, from at on, four lanes of each place that is counted.
 fn sum_quad(images: &[u8], g: Gapped, at: usize, x: Quad) -> Quad
     requires { GappedInside g (length images.now) × (at + 64 ≤ g.len) }
-    ensures { quadBytes result ≡ xorB (quadBytes x) (block_at (gapped g images.now) at 64) }
+    ensures { quad_bytes result ≡ xor_b (quad_bytes x) (block_at (gapped g images.now) at 64) }
 {
     let disks = g.disks;
     let mut sum = x;
@@ -45,7 +45,7 @@ fn sum_quad(images: &[u8], g: Gapped, at: usize, x: Quad) -> Quad
 // The same with one lane.
 fn sum_lane(images: &[u8], g: Gapped, at: usize, x: Lane) -> Lane
     requires { GappedInside g (length images.now) × (at + 16 ≤ g.len) }
-    ensures { laneBytes result ≡ xorB (laneBytes x) (block_at (gapped g images.now) at 16) }
+    ensures { lane_bytes result ≡ xor_b (lane_bytes x) (block_at (gapped g images.now) at 16) }
 {
     let disks = g.disks;
     let mut sum = x;
@@ -63,7 +63,7 @@ fn sum_lane(images: &[u8], g: Gapped, at: usize, x: Lane) -> Lane
 // The same with one byte.
 fn sum_byte(images: &[u8], g: Gapped, at: usize, x: u8) -> u8
     requires { GappedInside g (length images.now) × (at + 1 ≤ g.len) }
-    ensures { result ∷ [] ≡ xorB (x ∷ []) (block_at (gapped g images.now) at 1) }
+    ensures { result ∷ [] ≡ xor_b (x ∷ []) (block_at (gapped g images.now) at 1) }
 {
     let disks = g.disks;
     let mut sum = x;
@@ -82,7 +82,7 @@ fn sum_byte(images: &[u8], g: Gapped, at: usize, x: u8) -> u8
 fn fold_quads(images: &mut [u8], g: Gapped, bytes: &[u8], first: usize) -> usize
     requires { FoldInside g (length images.old) (length bytes.now) × (first ≤ g.len) }
     ensures { (first ≤ result) × (result ≤ g.len) × (g.len < result + 64)
-        × (images.new ≡ partFolded g images.old bytes.now first (result - first)) }
+        × (images.new ≡ part_folded g images.old bytes.now first (result - first)) }
 {
     let to = offset_of(g.stripes, g.len, g.stripe, g.parity);
     let mut at = first;
@@ -101,7 +101,7 @@ fn fold_quads(images: &mut [u8], g: Gapped, bytes: &[u8], first: usize) -> usize
 fn fold_lanes(images: &mut [u8], g: Gapped, bytes: &[u8], first: usize) -> usize
     requires { FoldInside g (length images.old) (length bytes.now) × (first ≤ g.len) }
     ensures { (first ≤ result) × (result ≤ g.len) × (g.len < result + 16)
-        × (images.new ≡ partFolded g images.old bytes.now first (result - first)) }
+        × (images.new ≡ part_folded g images.old bytes.now first (result - first)) }
 {
     let to = offset_of(g.stripes, g.len, g.stripe, g.parity);
     let mut at = first;
@@ -119,7 +119,7 @@ fn fold_lanes(images: &mut [u8], g: Gapped, bytes: &[u8], first: usize) -> usize
 // The same, byte by byte, to the end.
 fn fold_bytes(images: &mut [u8], g: Gapped, bytes: &[u8], first: usize)
     requires { FoldInside g (length images.old) (length bytes.now) × (first ≤ g.len) }
-    ensures { images.new ≡ partFolded g images.old bytes.now first (g.len - first) }
+    ensures { images.new ≡ part_folded g images.old bytes.now first (g.len - first) }
 {
     let to = offset_of(g.stripes, g.len, g.stripe, g.parity);
     let mut at = first;
@@ -142,7 +142,7 @@ pub fn fold_others(
     bytes: &[u8],
 )
     requires { PlaceInside (length bytes.now) stripes s parity disks (length images.old) × (out ≢ parity) }
-    ensures images { images.new ≡ foldedOthers stripes images.old s disks out parity bytes.now }
+    ensures images { images.new ≡ folded_others stripes images.old s disks out parity bytes.now }
 {
     let g = Gapped {
         disks: disks,

@@ -3,6 +3,6 @@ use Rattle.std.specs.Prelude.{ℕ, zero, suc, List}
 use Rattle.state.specs.declared.types.Record.{Record}
 use Rattle.state.specs.Bytes.{encode}
 
-abbrev pub bytesLeft : ℕ → Record → List ℕ → List ℕ
-bytesLeft zero r b = encode r
-bytesLeft (suc k) r b = b
+abbrev pub bytes_left : ℕ → Record → List ℕ → List ℕ
+bytes_left zero r b = encode r
+bytes_left (suc k) r b = b

@@ -1,7 +1,7 @@
 // Format, grow and advance.
 ghost use Rattle.std.specs.Prelude.{◌≡◌, [], ◌∷◌};
 ghost use Rattle.calls.specs.Call.{format, grow, advance, on, number, beside};
-ghost use Rattle.calls.specs.Effect.{calledBytes};
+ghost use Rattle.calls.specs.Effect.{called_bytes};
 
 use crate::closing::close;
 use crate::opening::is_readable;
@@ -16,11 +16,11 @@ pub extern "C" fn pbm_format(
     block: u64,
     stripes: u64,
 ) -> u8
-    ensures answer { result ≡ number (calledBytes (on (format n block stripes) images.old []) rec.old).answer }
+    ensures answer { result ≡ number (called_bytes (on (format n block stripes) images.old []) rec.old).answer }
     ensures state { rec.new ≡
-        (calledBytes (on (format n block stripes) images.old []) rec.old).state }
+        (called_bytes (on (format n block stripes) images.old []) rec.old).state }
     ensures images { images.new ≡
-        (calledBytes (on (format n block stripes) images.old []) rec.old).images }
+        (called_bytes (on (format n block stripes) images.old []) rec.old).images }
 {
     if rec.len() != RECORD_LENGTH {
         return RECORD;
@@ -32,9 +32,9 @@ pub extern "C" fn pbm_format(
 
 #[unsafe(no_mangle)]
 pub extern "C" fn pbm_grow(rec: &mut [u8], images: &mut [u8], m: u64) -> u8
-    ensures answer { result ≡ number (calledBytes (on (grow m) images.old []) rec.old).answer }
-    ensures state { rec.new ≡ (calledBytes (on (grow m) images.old []) rec.old).state }
-    ensures images { images.new ≡ (calledBytes (on (grow m) images.old []) rec.old).images }
+    ensures answer { result ≡ number (called_bytes (on (grow m) images.old []) rec.old).answer }
+    ensures state { rec.new ≡ (called_bytes (on (grow m) images.old []) rec.old).state }
+    ensures images { images.new ≡ (called_bytes (on (grow m) images.old []) rec.old).images }
 {
     if !is_readable(rec) {
         return RECORD;
@@ -46,11 +46,11 @@ pub extern "C" fn pbm_grow(rec: &mut [u8], images: &mut [u8], m: u64) -> u8
 
 #[unsafe(no_mangle)]
 pub extern "C" fn pbm_advance(rec: &mut [u8], images: &mut [u8], k: u64, made: &mut u64) -> u8
-    ensures answer { result ≡ number (calledBytes (on (advance k) images.old []) rec.old).answer }
+    ensures answer { result ≡ number (called_bytes (on (advance k) images.old []) rec.old).answer }
     ensures beside { (made.new ∷ []) ≡
-        beside 1 (calledBytes (on (advance k) images.old []) rec.old).answer }
-    ensures state { rec.new ≡ (calledBytes (on (advance k) images.old []) rec.old).state }
-    ensures images { images.new ≡ (calledBytes (on (advance k) images.old []) rec.old).images }
+        beside 1 (called_bytes (on (advance k) images.old []) rec.old).answer }
+    ensures state { rec.new ≡ (called_bytes (on (advance k) images.old []) rec.old).state }
+    ensures images { images.new ≡ (called_bytes (on (advance k) images.old []) rec.old).images }
 {
     if !is_readable(rec) {
         *made = 0;

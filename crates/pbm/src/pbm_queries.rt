@@ -1,7 +1,7 @@
 // The calls that answer from the record alone. The numbers are 0 until the call is known to be accepted.
 ghost use Rattle.std.specs.Prelude.{◌≡◌, cond, [], ◌∷◌};
-ghost use Rattle.calls.specs.Call.{status, locate, owner, on, number, role_number, roleBlock, beside};
-ghost use Rattle.calls.specs.Effect.{calledBytes};
+ghost use Rattle.calls.specs.Call.{status, locate, owner, on, number, role_number, role_block, beside};
+ghost use Rattle.calls.specs.Effect.{called_bytes};
 
 use crate::opening::is_readable;
 use layout::Role;
@@ -18,9 +18,9 @@ pub extern "C" fn pbm_status(
     out: &mut u64,
     rebuilt: &mut u64,
 ) -> u8
-    ensures answer { result ≡ number (calledBytes (on status [] []) rec.now).answer }
+    ensures answer { result ≡ number (called_bytes (on status [] []) rec.now).answer }
     ensures beside { (capacity.new ∷ moves.new ∷ total.new ∷ health.new ∷ out.new
-        ∷ rebuilt.new ∷ []) ≡ beside 6 (calledBytes (on status [] []) rec.now).answer }
+        ∷ rebuilt.new ∷ []) ≡ beside 6 (called_bytes (on status [] []) rec.now).answer }
 {
     *capacity = 0;
     *moves = 0;
@@ -60,9 +60,9 @@ pub extern "C" fn pbm_locate(
     parity: &mut u64,
     moved: &mut u64,
 ) -> u8
-    ensures answer { result ≡ number (calledBytes (on (locate b) [] []) rec.now).answer }
+    ensures answer { result ≡ number (called_bytes (on (locate b) [] []) rec.now).answer }
     ensures beside { (stripe.new ∷ disk.new ∷ parity.new ∷ moved.new ∷ []) ≡
-        beside 4 (calledBytes (on (locate b) [] []) rec.now).answer }
+        beside 4 (called_bytes (on (locate b) [] []) rec.now).answer }
 {
     *stripe = 0;
     *disk = 0;
@@ -86,9 +86,9 @@ pub extern "C" fn pbm_locate(
 
 #[unsafe(no_mangle)]
 pub extern "C" fn pbm_owner(rec: &[u8], s: u64, d: u64, role: &mut u64, block: &mut u64) -> u8
-    ensures answer { result ≡ number (calledBytes (on (owner s d) [] []) rec.now).answer }
+    ensures answer { result ≡ number (called_bytes (on (owner s d) [] []) rec.now).answer }
     ensures beside { (role.new ∷ block.new ∷ []) ≡
-        beside 2 (calledBytes (on (owner s d) [] []) rec.now).answer }
+        beside 2 (called_bytes (on (owner s d) [] []) rec.now).answer }
 {
     *role = 0;
     *block = 0;
@@ -123,7 +123,7 @@ fn role_number(o: Role) -> u64
 }
 
 fn role_block(o: Role) -> u64
-    ensures block { result ≡ roleBlock o }
+    ensures block { result ≡ role_block o }
 {
     match o {
         Role::Blank => 0,

@@ -1,7 +1,7 @@
 // Out, begin and continue.
 ghost use Rattle.std.specs.Prelude.{◌≡◌, [], ◌∷◌};
 ghost use Rattle.calls.specs.Call.{out, begin, continue, on, number, beside};
-ghost use Rattle.calls.specs.Effect.{calledBytes};
+ghost use Rattle.calls.specs.Effect.{called_bytes};
 
 use crate::closing::close;
 use crate::opening::is_readable;
@@ -10,8 +10,8 @@ use state::decode;
 
 #[unsafe(no_mangle)]
 pub extern "C" fn pbm_out(rec: &mut [u8], d: u64) -> u8
-    ensures answer { result ≡ number (calledBytes (on (out d) [] []) rec.old).answer }
-    ensures state { rec.new ≡ (calledBytes (on (out d) [] []) rec.old).state }
+    ensures answer { result ≡ number (called_bytes (on (out d) [] []) rec.old).answer }
+    ensures state { rec.new ≡ (called_bytes (on (out d) [] []) rec.old).state }
 {
     if !is_readable(rec) {
         return RECORD;
@@ -23,8 +23,8 @@ pub extern "C" fn pbm_out(rec: &mut [u8], d: u64) -> u8
 
 #[unsafe(no_mangle)]
 pub extern "C" fn pbm_begin(rec: &mut [u8], images: &[u8], d: u64) -> u8
-    ensures answer { result ≡ number (calledBytes (on (begin d) images.now []) rec.old).answer }
-    ensures state { rec.new ≡ (calledBytes (on (begin d) images.now []) rec.old).state }
+    ensures answer { result ≡ number (called_bytes (on (begin d) images.now []) rec.old).answer }
+    ensures state { rec.new ≡ (called_bytes (on (begin d) images.now []) rec.old).state }
 {
     if !is_readable(rec) {
         return RECORD;
@@ -36,11 +36,11 @@ pub extern "C" fn pbm_begin(rec: &mut [u8], images: &[u8], d: u64) -> u8
 
 #[unsafe(no_mangle)]
 pub extern "C" fn pbm_continue(rec: &mut [u8], images: &mut [u8], k: u64, made: &mut u64) -> u8
-    ensures answer { result ≡ number (calledBytes (on (continue k) images.old []) rec.old).answer }
+    ensures answer { result ≡ number (called_bytes (on (continue k) images.old []) rec.old).answer }
     ensures beside { (made.new ∷ []) ≡
-        beside 1 (calledBytes (on (continue k) images.old []) rec.old).answer }
-    ensures state { rec.new ≡ (calledBytes (on (continue k) images.old []) rec.old).state }
-    ensures images { images.new ≡ (calledBytes (on (continue k) images.old []) rec.old).images }
+        beside 1 (called_bytes (on (continue k) images.old []) rec.old).answer }
+    ensures state { rec.new ≡ (called_bytes (on (continue k) images.old []) rec.old).state }
+    ensures images { images.new ≡ (called_bytes (on (continue k) images.old []) rec.old).images }
 {
     if !is_readable(rec) {
         *made = 0;

@@ -5,8 +5,8 @@
 // been made, as in the tail for good, they are one run: the new disks.
 ghost use Rattle.std.specs.Prelude.{◌<◌, ◌≤◌, ◌+◌, ◌-◌, ◌≡◌, false, leb, length, get_or};
 ghost use Rattle.layout.specs.Closed.{taken};
-ghost use Rattle.layout.specs.Blanks.{blanks, blanksBelow};
-ghost use Rattle.layout.specs.Runs.{settled, Resting, firstLag, endLag, runsOf, liftOf};
+ghost use Rattle.layout.specs.Blanks.{blanks, blanks_below};
+ghost use Rattle.layout.specs.Runs.{settled, Resting, first_lag, end_lag, runs_of, lift_of};
 ghost use Rattle.layout.specs.Limits.{TakenApart};
 
 use crate::choice::{excess, pick};
@@ -14,7 +14,7 @@ use layout::{Runs, Stripe};
 
 // The lags of the stripe's moves: from the first ..
 fn first_lag(n: u32, x: Stripe) -> u32
-    ensures { result ≡ firstLag n x.within }
+    ensures { result ≡ first_lag n x.within }
 {
     excess(n, x.within)
 }
@@ -22,14 +22,14 @@ fn first_lag(n: u32, x: Stripe) -> u32
 // .. to below this one.
 fn end_lag(n: u32, m: u32, x: Stripe) -> u32
     requires { TakenApart n m x }
-    ensures { result ≡ endLag n m x.within }
+    ensures { result ≡ end_lag n m x.within }
 {
     n - excess(x.within, m)
 }
 
 fn runs_of(n: u32, m: u32, x: Stripe) -> Runs
     requires { TakenApart n m x }
-    ensures { result ≡ runsOf n m x.within x.home }
+    ensures { result ≡ runs_of n m x.within x.home }
 {
     let first = first_lag(n, x);
     let end = end_lag(n, m, x);
@@ -49,8 +49,8 @@ fn runs_of(n: u32, m: u32, x: Stripe) -> Runs
 // How far a blank's disk is above the blank's number, once all moves of the stripe's zone have been made. All along a run that is the same,
 // and it is picked: is the blank on an old disk, and if so in the first run; and if not, in the third?
 fn lift(n: u32, m: u32, x: Stripe, r: Runs, old: bool, low: bool, early: bool) -> u32
-    requires { TakenApart n m x × (r ≡ runsOf n m x.within x.home) }
-    ensures { result ≡ liftOf n x.within r old low early }
+    requires { TakenApart n m x × (r ≡ runs_of n m x.within x.home) }
+    ensures { result ≡ lift_of n x.within r old low early }
 {
     let left = pick(low, r.low, r.high - r.some);
     let new = pick(early, n - r.left, x.within + n - r.early);
@@ -70,7 +70,7 @@ fn nth_lift(n: u32, m: u32, x: Stripe, j: u32) -> u32
 fn disk_lift(n: u32, m: u32, x: Stripe, e: u32) -> u32
     requires { TakenApart n m x × (e < n + m) }
     ensures { taken n m (settled n m x.number) x.number e ≡ false →
-        e - result ≡ length (blanksBelow n m (settled n m x.number) x.number e) }
+        e - result ≡ length (blanks_below n m (settled n m x.number) x.number e) }
 {
     let r = runs_of(n, m, x);
     lift(n, m, x, r, e < n, e <= x.home, e < x.within)
@@ -97,7 +97,7 @@ pub(crate) fn nth_blank(n: u32, m: u32, t: u32, x: Stripe, j: u32) -> u32
 pub(crate) fn count_below(n: u32, m: u32, t: u32, x: Stripe, e: u32) -> u32
     requires { TakenApart n m x × (e < n + m) }
     ensures { (result ≤ e) × (Resting n m t x.number → taken n m t x.number e ≡ false →
-        result ≡ length (blanksBelow n m t x.number e)) }
+        result ≡ length (blanks_below n m t x.number e)) }
 {
     excess(e, pick(is_settled(n, m, t, x), disk_lift(n, m, x, e), n))
 }

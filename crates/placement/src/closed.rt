@@ -1,6 +1,6 @@
 // Where the contents of a stripe stand after t moves, by the closed form.
 ghost use Rattle.std.specs.Prelude.{◌<◌, ◌≡◌};
-ghost use Rattle.layout.specs.Closed.{stripeOf, lag, carriedTo, source, taken};
+ghost use Rattle.layout.specs.Closed.{stripe_of, lag, carried_to, source, taken};
 ghost use Rattle.layout.specs.Limits.{Sizes, TakenApart};
 
 use crate::choice::{both, excess, pick};
@@ -8,7 +8,7 @@ use layout::{Carried, Stripe};
 
 pub fn stripe_of(n: u32, m: u32, s: u32) -> Stripe
     requires { Sizes n m s }
-    ensures { result ≡ stripeOf n m s }
+    ensures { result ≡ stripe_of n m s }
 {
     Stripe {
         number: s,
@@ -30,7 +30,7 @@ fn lag_of(n: u32, m: u32, x: Stripe, d: u32) -> u32
 // Where, after t moves, stands what stood on disk d, and whether a move carried it there.
 pub(crate) fn carried_to(n: u32, m: u32, t: u32, x: Stripe, d: u32) -> Carried
     requires { TakenApart n m x × (d < n) }
-    ensures { result ≡ carriedTo n m t x.number d }
+    ensures { result ≡ carried_to n m t x.number d }
 {
     let i = lag_of(n, m, x, d);
     let p = x.within + i;

@@ -2,9 +2,9 @@
 // where it is asked for, one more. (Before a growth a case for m = 0 would save one. It is left out, so that the functions stay short.)
 ghost use Rattle.std.specs.Prelude.{◌*◌, ◌<◌, ◌≡◌, false, ltb, leb, eqb};
 ghost use Rattle.layout.specs.Closed.{taken};
-ghost use Rattle.layout.specs.Layout.{disks, totalOf, oldBlocks, finishedZones, openStripes, capacity};
-ghost use Rattle.layout.specs.Layout.{newOwner, layout};
-ghost use Rattle.layout.specs.Slots.{oldSlot, newSlot, slot_of, slotDisk, InSlot};
+ghost use Rattle.layout.specs.Layout.{disks, total_of, old_blocks, finished_zones, open_stripes, capacity};
+ghost use Rattle.layout.specs.Layout.{new_owner, layout};
+ghost use Rattle.layout.specs.Slots.{old_slot, new_slot, slot_of, slot_disk, InSlot};
 ghost use Rattle.layout.specs.Coded.{code};
 ghost use Rattle.layout.specs.Limits.{TakenApart, Sized, GoodArray};
 
@@ -19,7 +19,7 @@ use layout::{Carried, Geometry, Place, Role, Slot, Standing, Stripe};
 // only whole groups count, to compare products will not do.
 pub fn total_of(g: Geometry) -> u32
     requires { Sized g }
-    ensures { result ≡ totalOf g }
+    ensures { result ≡ total_of g }
 {
     let n = g.old;
     let m = g.new;
@@ -29,7 +29,7 @@ pub fn total_of(g: Geometry) -> u32
 // Is t at most the total?
 pub fn moves_fit(g: Geometry) -> bool
     requires { Sized g }
-    ensures { result ≡ leb g.moves (totalOf g) }
+    ensures { result ≡ leb g.moves (total_of g) }
 {
     g.moves <= total_of(g)
 }
@@ -37,7 +37,7 @@ pub fn moves_fit(g: Geometry) -> bool
 // Are all moves of the growth made? (With no new disk there is none.)
 pub fn all_moved(g: Geometry) -> bool
     requires { Sized g }
-    ensures { result ≡ eqb g.moves (totalOf g) }
+    ensures { result ≡ eqb g.moves (total_of g) }
 {
     g.moves == total_of(g)
 }
@@ -45,7 +45,7 @@ pub fn all_moved(g: Geometry) -> bool
 // The blocks of before the growth.
 fn old_blocks(g: Geometry) -> u32
     requires { GoodArray g }
-    ensures { result ≡ oldBlocks g }
+    ensures { result ≡ old_blocks g }
 {
     g.stripes * (g.old - 1)
 }
@@ -53,7 +53,7 @@ fn old_blocks(g: Geometry) -> u32
 // Its finished zones, where it has new disks.
 fn finished_zones(g: Geometry) -> u32
     requires { GoodArray g × (0 < g.new) }
-    ensures { result ≡ finishedZones g }
+    ensures { result ≡ finished_zones g }
 {
     g.moves / (g.old * g.new)
 }
@@ -61,7 +61,7 @@ fn finished_zones(g: Geometry) -> u32
 // The stripes whose blanks are new blocks. (While moves are left there are new disks.)
 pub fn open_stripes(g: Geometry) -> u32
     requires { GoodArray g }
-    ensures { result ≡ openStripes g }
+    ensures { result ≡ open_stripes g }
 {
     if all_moved(g) {
         g.stripes
@@ -93,8 +93,8 @@ pub fn has_block(g: Geometry, b: u64) -> bool
 
 // The slot of block b of before the growth ..
 fn old_slot(g: Geometry, b: u32) -> Slot
-    requires { GoodArray g × (b < oldBlocks g) }
-    ensures { result ≡ oldSlot g b }
+    requires { GoodArray g × (b < old_blocks g) }
+    ensures { result ≡ old_slot g b }
 {
     let n = g.old;
     let x = stripe_of(n, g.new, b / (n - 1));
@@ -107,8 +107,8 @@ fn old_slot(g: Geometry, b: u32) -> Slot
 
 // .. and of new block k, counted from 0.
 fn new_slot(g: Geometry, k: u32) -> Slot
-    requires { GoodArray g × (k < openStripes g * g.new) }
-    ensures { result ≡ newSlot g k }
+    requires { GoodArray g × (k < open_stripes g * g.new) }
+    ensures { result ≡ new_slot g k }
 {
     Slot {
         stripe: stripe_of(g.old, g.new, k / g.new),
@@ -133,7 +133,7 @@ pub fn slot_of(g: Geometry, b: u64) -> Slot
 // The disk of slot y, and whether a move carried its block.
 fn slot_disk(g: Geometry, y: Slot) -> Carried
     requires { InSlot g y }
-    ensures { result ≡ slotDisk g y }
+    ensures { result ≡ slot_disk g y }
 {
     let x = y.stripe;
     if y.new {
@@ -170,7 +170,7 @@ pub fn place_of(g: Geometry, b: u64, y: Slot) -> Standing
 // Is stripe x open: are its blanks new blocks? Its zone is finished, or the growth is over. (With no division for the zone.)
 fn is_open(g: Geometry, x: Stripe) -> bool
     requires { GoodArray g × TakenApart g.old g.new x × (x.number < g.stripes) }
-    ensures { result ≡ ltb x.number (openStripes g) }
+    ensures { result ≡ ltb x.number (open_stripes g) }
 {
     if all_moved(g) {
         return true;
@@ -182,7 +182,7 @@ fn is_open(g: Geometry, x: Stripe) -> bool
 // of a place is finished. So the blanks are counted for any stripe.
 fn new_code(g: Geometry, x: Stripe, e: u32) -> u32
     requires { GoodArray g × TakenApart g.old g.new x × (x.number < g.stripes) × (e < disks g) }
-    ensures { taken g.old g.new g.moves x.number e ≡ false → result ≡ code (newOwner g x.number e) }
+    ensures { taken g.old g.new g.moves x.number e ≡ false → result ≡ code (new_owner g x.number e) }
 {
     let j = count_below(g.old, g.new, g.moves, x, e);
     let new = old_blocks(g) + (x.number * g.new + j);

@@ -11,19 +11,19 @@ side Low d = low d
 side High d = high d
 
 -- the differences of the points of l, and one byte of each
-abbrev pub differencesOf : List ℕ → List ℕ
-differencesOf l = differences (points_of l)
+abbrev pub differences_of : List ℕ → List ℕ
+differences_of l = differences (points_of l)
 
 abbrev pub sides : Side → List ℕ → List ℕ
-sides s l = map (side s) (differencesOf l)
+sides s l = map (side s) (differences_of l)
 
 -- the target t with n points of l, from the i-th on, packed
-abbrev pub partPacked : List ℕ → List ℕ → ℕ → ℕ → List ℕ
-partPacked l t i n = store (store t i (block_at (sides Low l) i n)) (half l + i) (block_at (sides High l) i n)
+abbrev pub part_packed : List ℕ → List ℕ → ℕ → ℕ → List ℕ
+part_packed l t i n = store (store t i (block_at (sides Low l) i n)) (half l + i) (block_at (sides High l) i n)
 
 -- bytes with point i replaced by p
-abbrev pub withPoint : List ℕ → ℕ → ℕ → List ℕ
-withPoint t i p = set (set t (2 * i) (low p)) (2 * i + 1) (high p)
+abbrev pub with_point : List ℕ → ℕ → ℕ → List ℕ
+with_point t i p = set (set t (2 * i) (low p)) (2 * i + 1) (high p)
 
 -- a source and a target that are not refused
 abbrev pub EvenAndAlike : List ℕ → List ℕ → Type 0

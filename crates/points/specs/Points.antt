@@ -15,13 +15,13 @@ abbrev pub minus : ℕ → ℕ → ℕ
 minus p q = (p + (65536 - q)) % 65536
 
 -- "each point is replaced by its difference from the one before", the first of these from q
-abbrev pub differencesFrom : ℕ → List ℕ → List ℕ
-differencesFrom q [] = []
-differencesFrom q (p ∷ ps) = minus p q ∷ differencesFrom p ps
+abbrev pub differences_from : ℕ → List ℕ → List ℕ
+differences_from q [] = []
+differences_from q (p ∷ ps) = minus p q ∷ differences_from p ps
 
 -- "the first from 0"
 abbrev pub differences : List ℕ → List ℕ
-differences ps = differencesFrom 0 ps
+differences ps = differences_from 0 ps
 
 abbrev pub low : ℕ → ℕ
 low d = d % 256
@@ -51,24 +51,24 @@ half l = length l / 2
 abbrev pub Even : List ℕ → Type 0
 Even l = length l % 2 ≡ 0
 
-abbrev pub fromSides : List ℕ → List ℕ
-fromSides l = joined (take (half l) l) (drop (half l) l)
+abbrev pub from_sides : List ℕ → List ℕ
+from_sides l = joined (take (half l) l) (drop (half l) l)
 
 -- p and d together, modulo 65,536
 abbrev pub plus : ℕ → ℕ → ℕ
 plus p d = (p + d) % 65536
 
 -- each difference added to the point before, which for the first of these is q
-abbrev pub sumsFrom : ℕ → List ℕ → List ℕ
-sumsFrom q [] = []
-sumsFrom q (d ∷ ds) = plus q d ∷ sumsFrom (plus q d) ds
+abbrev pub sums_from : ℕ → List ℕ → List ℕ
+sums_from q [] = []
+sums_from q (d ∷ ds) = plus q d ∷ sums_from (plus q d) ds
 
 abbrev pub sums : List ℕ → List ℕ
-sums ds = sumsFrom 0 ds
+sums ds = sums_from 0 ds
 
 abbrev pub bytes_of : List ℕ → List ℕ
 bytes_of [] = []
 bytes_of (p ∷ ps) = low p ∷ high p ∷ bytes_of ps
 
 abbrev pub unpacked : List ℕ → List ℕ
-unpacked l = bytes_of (sums (fromSides l))
+unpacked l = bytes_of (sums (from_sides l))

@@ -10,25 +10,25 @@ pub record BothWays : Type 0 where
   pub back : (l : List ℕ) → AreBytes l → length l % 2 ≡ 0 → unpacked (packed l) ≡ l
   pub there : (l : List ℕ) → AreBytes l → length l % 2 ≡ 0 → packed (unpacked l) ≡ l
   -- as many bytes, each way
-  pub packed-length : (l : List ℕ) → length l % 2 ≡ 0 → length (packed l) ≡ length l
-  pub unpacked-length : (l : List ℕ) → length l % 2 ≡ 0 → length (unpacked l) ≡ length l
-  pub packed-bytes : (l : List ℕ) → AreBytes (packed l)
-  pub unpacked-bytes : (l : List ℕ) → AreBytes (unpacked l)
+  pub packed_length : (l : List ℕ) → length l % 2 ≡ 0 → length (packed l) ≡ length l
+  pub unpacked_length : (l : List ℕ) → length l % 2 ≡ 0 → length (unpacked l) ≡ length l
+  pub packed_bytes : (l : List ℕ) → AreBytes (packed l)
+  pub unpacked_bytes : (l : List ℕ) → AreBytes (unpacked l)
 
 -- point i of n, and what stands for it in the packed bytes: a byte of the first half, and its fellow of the second
-abbrev pub pointAt : List ℕ → ℕ → ℕ
-pointAt l i = get_or l (2 * i) 0 + 256 * get_or l (2 * i + 1) 0
+abbrev pub point_at : List ℕ → ℕ → ℕ
+point_at l i = get_or l (2 * i) 0 + 256 * get_or l (2 * i + 1) 0
 
-abbrev pub differenceAt : List ℕ → ℕ → ℕ → ℕ
-differenceAt l n i = get_or (packed l) i 0 + 256 * get_or (packed l) (n + i) 0
+abbrev pub difference_at : List ℕ → ℕ → ℕ → ℕ
+difference_at l n i = get_or (packed l) i 0 + 256 * get_or (packed l) (n + i) 0
 
 -- what the packed bytes are: as these are bytes, and as many as before, nothing else has the two
 pub record Differences : Type 0 where
   -- the first from 0
-  pub first : (l : List ℕ) (n : ℕ) → AreBytes l → length l ≡ n + n → 0 < n → differenceAt l n 0 ≡ pointAt l 0
+  pub first : (l : List ℕ) (n : ℕ) → AreBytes l → length l ≡ n + n → 0 < n → difference_at l n 0 ≡ point_at l 0
   -- each other from the one before: together with it, modulo 65,536, it is the point
   pub next : (l : List ℕ) (n i : ℕ) → AreBytes l → length l ≡ n + n → suc i < n
-      → (pointAt l i + differenceAt l n (suc i)) % 65536 ≡ pointAt l (suc i)
+      → (point_at l i + difference_at l n (suc i)) % 65536 ≡ point_at l (suc i)
 
 -- a call of either way is refused for "an odd length, or two lengths that differ", and leaves the target alone; else it fills it
 pub record Fills : Type 0 where

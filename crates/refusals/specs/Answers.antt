@@ -13,45 +13,45 @@ use Rattle.refusals.specs.declared.types.Owned.{Owned}
 use Rattle.refusals.specs.declared.types.Owned.TheVariants as owning
 use Rattle.refusals.specs.declared.types.Swept.{Swept}
 use Rattle.refusals.specs.declared.types.Swept.TheVariants as sweeping
-use Rattle.calls.specs.Call.{Answer, refused, done, made, allSound, unsoundAt, figures, placed, owned}
+use Rattle.calls.specs.Call.{Answer, refused, done, made, all_sound, unsound_at, figures, placed, owned}
 
 -- format, grow, out, begin and restart: the answer, and the record that is left of r
-abbrev pub changedAnswer : Changed → Answer
-changedAnswer (changed.Refused k) = refused k
-changedAnswer changed.Cut = done
-changedAnswer (changed.Done x) = done
+abbrev pub changed_answer : Changed → Answer
+changed_answer (changed.Refused k) = refused k
+changed_answer changed.Cut = done
+changed_answer (changed.Done x) = done
 
-abbrev pub changedRecord : Record → Changed → Record
-changedRecord r (changed.Refused k) = r
-changedRecord r changed.Cut = r
-changedRecord r (changed.Done x) = x
+abbrev pub changed_record : Record → Changed → Record
+changed_record r (changed.Refused k) = r
+changed_record r changed.Cut = r
+changed_record r (changed.Done x) = x
 
 -- advance and continue
-abbrev pub countedAnswer : Counted → Answer
-countedAnswer (counting.Refused k) = refused k
-countedAnswer (counting.Cut k) = made k
-countedAnswer (counting.Made k x) = made k
+abbrev pub counted_answer : Counted → Answer
+counted_answer (counting.Refused k) = refused k
+counted_answer (counting.Cut k) = made k
+counted_answer (counting.Made k x) = made k
 
-abbrev pub countedRecord : Record → Counted → Record
-countedRecord r (counting.Refused k) = r
-countedRecord r (counting.Cut k) = r
-countedRecord r (counting.Made k x) = x
+abbrev pub counted_record : Record → Counted → Record
+counted_record r (counting.Refused k) = r
+counted_record r (counting.Cut k) = r
+counted_record r (counting.Made k x) = x
 
 -- status, locate and owner
-abbrev pub reportAnswer : Report → Answer
-reportAnswer (report.Refused k) = refused k
-reportAnswer (report.Figures c t total h) = figures c t total h
+abbrev pub report_answer : Report → Answer
+report_answer (report.Refused k) = refused k
+report_answer (report.Figures c t total h) = figures c t total h
 
-abbrev pub locatedAnswer : Located → Answer
-locatedAnswer (located.Refused k) = refused k
-locatedAnswer (located.At x) = placed x
+abbrev pub located_answer : Located → Answer
+located_answer (located.Refused k) = refused k
+located_answer (located.At x) = placed x
 
-abbrev pub ownedAnswer : Owned → Answer
-ownedAnswer (owning.Refused k) = refused k
-ownedAnswer (owning.By o) = owned o
+abbrev pub owned_answer : Owned → Answer
+owned_answer (owning.Refused k) = refused k
+owned_answer (owning.By o) = owned o
 
 -- sweep
-abbrev pub sweptAnswer : Swept → Answer
-sweptAnswer (sweeping.Refused k) = refused k
-sweptAnswer (sweeping.Sound x) = allSound x
-sweptAnswer (sweeping.Unsound S x) = unsoundAt S x
+abbrev pub swept_answer : Swept → Answer
+swept_answer (sweeping.Refused k) = refused k
+swept_answer (sweeping.Sound x) = all_sound x
+swept_answer (sweeping.Unsound S x) = unsound_at S x

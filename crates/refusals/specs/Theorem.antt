@@ -18,31 +18,31 @@ use Rattle.refusals.specs.declared.types.Owned.{Owned}
 use Rattle.refusals.specs.declared.types.Owned.TheVariants as owning
 use Rattle.refusals.specs.declared.types.Swept.{Swept}
 use Rattle.refusals.specs.declared.types.Swept.TheVariants as sweeping
-use Rattle.calls.specs.Call.{refused, done, made, allSound, unsoundAt, figures, placed, owned}
-use Rattle.refusals.specs.Answers.{changedAnswer, changedRecord, countedAnswer, countedRecord, reportAnswer}
-use Rattle.refusals.specs.Answers.{locatedAnswer, ownedAnswer, sweptAnswer}
+use Rattle.calls.specs.Call.{refused, done, made, all_sound, unsound_at, figures, placed, owned}
+use Rattle.refusals.specs.Answers.{changed_answer, changed_record, counted_answer, counted_record, report_answer}
+use Rattle.refusals.specs.Answers.{located_answer, owned_answer, swept_answer}
 
 pub record Tells : Type 0 where
-  pub refusals : (k : ℕ) → (changedAnswer (changed.Refused k) ≡ refused k) × (countedAnswer (counting.Refused k) ≡ refused k)
-      × (reportAnswer (report.Refused k) ≡ refused k) × (locatedAnswer (located.Refused k) ≡ refused k)
-      × (ownedAnswer (owning.Refused k) ≡ refused k) × (sweptAnswer (sweeping.Refused k) ≡ refused k)
-  pub unchanged : (r : Record) (k : ℕ) → (changedRecord r (changed.Refused k) ≡ r) × (countedRecord r (counting.Refused k) ≡ r)
-  pub cuts : (r : Record) (k : ℕ) → (changedAnswer changed.Cut ≡ done) × (changedRecord r changed.Cut ≡ r)
-      × (countedAnswer (counting.Cut k) ≡ made k) × (countedRecord r (counting.Cut k) ≡ r)
-  pub changes : (r x : Record) → (changedAnswer (changed.Done x) ≡ done) × (changedRecord r (changed.Done x) ≡ x)
-  pub counts : (r x : Record) (k : ℕ) → (countedAnswer (counting.Made k x) ≡ made k) × (countedRecord r (counting.Made k x) ≡ x)
-  pub statuses : (c t total : ℕ) (h : Health) → reportAnswer (report.Figures c t total h) ≡ figures c t total h
-  pub places : (x : Standing) → locatedAnswer (located.At x) ≡ placed x
-  pub owners : (o : Role) → ownedAnswer (owning.By o) ≡ owned o
-  pub sweeps : (S x : ℕ) → (sweptAnswer (sweeping.Sound x) ≡ allSound x) × (sweptAnswer (sweeping.Unsound S x) ≡ unsoundAt S x)
+  pub refusals : (k : ℕ) → (changed_answer (changed.Refused k) ≡ refused k) × (counted_answer (counting.Refused k) ≡ refused k)
+      × (report_answer (report.Refused k) ≡ refused k) × (located_answer (located.Refused k) ≡ refused k)
+      × (owned_answer (owning.Refused k) ≡ refused k) × (swept_answer (sweeping.Refused k) ≡ refused k)
+  pub unchanged : (r : Record) (k : ℕ) → (changed_record r (changed.Refused k) ≡ r) × (counted_record r (counting.Refused k) ≡ r)
+  pub cuts : (r : Record) (k : ℕ) → (changed_answer changed.Cut ≡ done) × (changed_record r changed.Cut ≡ r)
+      × (counted_answer (counting.Cut k) ≡ made k) × (counted_record r (counting.Cut k) ≡ r)
+  pub changes : (r x : Record) → (changed_answer (changed.Done x) ≡ done) × (changed_record r (changed.Done x) ≡ x)
+  pub counts : (r x : Record) (k : ℕ) → (counted_answer (counting.Made k x) ≡ made k) × (counted_record r (counting.Made k x) ≡ x)
+  pub statuses : (c t total : ℕ) (h : Health) → report_answer (report.Figures c t total h) ≡ figures c t total h
+  pub places : (x : Standing) → located_answer (located.At x) ≡ placed x
+  pub owners : (o : Role) → owned_answer (owning.By o) ≡ owned o
+  pub sweeps : (S x : ℕ) → (swept_answer (sweeping.Sound x) ≡ all_sound x) × (swept_answer (sweeping.Unsound S x) ≡ unsound_at S x)
   -- no enum has another value, and no struct another field
-  pub no-other-change : (x : Changed) → ((k : ℕ) × (x ≡ changed.Refused k)) ⊎ ((x ≡ changed.Cut) ⊎ ((r : Record) × (x ≡ changed.Done r)))
+  pub no_other_change : (x : Changed) → ((k : ℕ) × (x ≡ changed.Refused k)) ⊎ ((x ≡ changed.Cut) ⊎ ((r : Record) × (x ≡ changed.Done r)))
   pub no_other_count : (x : Counted) → ((k : ℕ) × (x ≡ counting.Refused k))
       ⊎ (((k : ℕ) × (x ≡ counting.Cut k)) ⊎ ((k : ℕ) × (r : Record) × (x ≡ counting.Made k r)))
-  pub no-other-status : (x : Report) → ((k : ℕ) × (x ≡ report.Refused k))
+  pub no_other_status : (x : Report) → ((k : ℕ) × (x ≡ report.Refused k))
       ⊎ ((c : ℕ) × (t : ℕ) × (total : ℕ) × (h : Health) × (x ≡ report.Figures c t total h))
-  pub no-other-place : (x : Located) → ((k : ℕ) × (x ≡ located.Refused k)) ⊎ ((y : Standing) × (x ≡ located.At y))
-  pub no-other-owner : (x : Owned) → ((k : ℕ) × (x ≡ owning.Refused k)) ⊎ ((o : Role) × (x ≡ owning.By o))
-  pub no-other-sweep : (x : Swept) → ((k : ℕ) × (x ≡ sweeping.Refused k))
+  pub no_other_place : (x : Located) → ((k : ℕ) × (x ≡ located.Refused k)) ⊎ ((y : Standing) × (x ≡ located.At y))
+  pub no_other_owner : (x : Owned) → ((k : ℕ) × (x ≡ owning.Refused k)) ⊎ ((o : Role) × (x ≡ owning.By o))
+  pub no_other_sweep : (x : Swept) → ((k : ℕ) × (x ≡ sweeping.Refused k))
       ⊎ (((y : ℕ) × (x ≡ sweeping.Sound y)) ⊎ ((S : ℕ) × (y : ℕ) × (x ≡ sweeping.Unsound S y)))
   pub no_other_field : (x : Count) → x ≡ record { number = x.number; made = x.made }

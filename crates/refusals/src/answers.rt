@@ -1,14 +1,14 @@
 // The answers of calls that may change the record, in numbers, with the record that is left of r.
 ghost use Rattle.std.specs.Prelude.{◌≡◌};
-ghost use Rattle.refusals.specs.Answers.{changedAnswer, changedRecord, countedAnswer, countedRecord};
+ghost use Rattle.refusals.specs.Answers.{changed_answer, changed_record, counted_answer, counted_record};
 ghost use Rattle.calls.specs.Call.{number, count};
 
 use crate::types::{Changed, Count, Counted, Progress, Step};
 use state::Record;
 
 pub fn stepped(r: Record, x: Changed) -> Step
-    ensures answer { result.number ≡ number (changedAnswer x) }
-    ensures state { result.rec ≡ changedRecord r x }
+    ensures answer { result.number ≡ number (changed_answer x) }
+    ensures state { result.rec ≡ changed_record r x }
 {
     match x {
         Changed::Refused(k) => Step { rec: r, number: k },
@@ -18,8 +18,8 @@ pub fn stepped(r: Record, x: Changed) -> Step
 }
 
 pub fn progressed(r: Record, x: Counted) -> Progress
-    ensures answer { (result.count.number ≡ number (countedAnswer x)) × (result.count.made ≡ count (countedAnswer x)) }
-    ensures state { result.rec ≡ countedRecord r x }
+    ensures answer { (result.count.number ≡ number (counted_answer x)) × (result.count.made ≡ count (counted_answer x)) }
+    ensures state { result.rec ≡ counted_record r x }
 {
     match x {
         Counted::Refused(k) => {

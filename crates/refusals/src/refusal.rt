@@ -5,8 +5,8 @@ ghost use Rattle.layout.specs.Layout.{capacity};
 ghost use Rattle.state.specs.Good.{geometry, GoodRecord};
 ghost use Rattle.calls.specs.Call.{format, read, grow, advance, out, begin, continue, status, locate, owner, sweep};
 ghost use Rattle.calls.specs.Call.{restart, feed};
-ghost use Rattle.calls.specs.Images.{disksOf, sizeWith};
-ghost use Rattle.calls.specs.Table.{idle, formable, word, unfitRecord, kept, keptWhole, keptLent, refusalOf};
+ghost use Rattle.calls.specs.Images.{disks_of, size_with};
+ghost use Rattle.calls.specs.Table.{idle, formable, word, unfit_record, kept, kept_whole, kept_lent, refusal_of};
 
 use crate::health::{is_degraded, is_lost, is_out, is_rebuilding};
 use placement::{all_moved, has_block};
@@ -37,7 +37,7 @@ const DISK: u8 = 10;
 
 // N, all disks of an array.
 pub fn disks_of(r: Record) -> u64
-    ensures count { result ≡ disksOf r }
+    ensures count { result ≡ disks_of r }
 {
     r.old as u64 + r.new as u64
 }
@@ -45,7 +45,7 @@ pub fn disks_of(r: Record) -> u64
 // The length of the images of its old disks and m new ones.
 fn size_with(r: Record, m: u64) -> u64
     requires { GoodRecord r × (m ≤ 16) }
-    ensures length { result ≡ sizeWith r m }
+    ensures length { result ≡ size_with r m }
 {
     (r.old as u64 + m) * (r.stripes as u64 * r.block as u64)
 }
@@ -79,7 +79,7 @@ fn is_formable(n: u64, block: u64, stripes: u64) -> bool
 }
 
 pub fn of_format(images: usize, n: u64, block: u64, stripes: u64) -> u8
-    ensures number { (r : Record) → result ≡ refusalOf r (feed (format n block stripes) images 0) }
+    ensures number { (r : Record) → result ≡ refusal_of r (feed (format n block stripes) images 0) }
 {
     if !is_formable(n, block, stripes) {
         return GEOMETRY;
@@ -92,7 +92,7 @@ pub fn of_format(images: usize, n: u64, block: u64, stripes: u64) -> u8
 
 // Is the record no good for a call that takes none with a mark? That is every call but restart and status.
 fn is_unfit(r: Record) -> bool
-    ensures answer { result ≡ unfitRecord r }
+    ensures answer { result ≡ unfit_record r }
 {
     if !is_good(r) {
         return true;
@@ -116,7 +116,7 @@ fn of_kept(r: Record) -> u8
 
 // .. 1, 2, 3 ..
 fn of_whole(r: Record) -> u8
-    ensures number { result ≡ word (keptWhole r) }
+    ensures number { result ≡ word (kept_whole r) }
 {
     let k = of_kept(r);
     if k != 0 {
@@ -131,7 +131,7 @@ fn of_whole(r: Record) -> u8
 
 // .. and 1, 2, 7.
 pub fn of_lent(r: Record, images: usize) -> u8
-    ensures number { result ≡ word (keptLent r images) }
+    ensures number { result ≡ word (kept_lent r images) }
 {
     let k = of_kept(r);
     if k != 0 {
@@ -146,8 +146,8 @@ pub fn of_lent(r: Record, images: usize) -> u8
 // Of read, view and write, with `begun` what of_lent says of them: room is the length of the block that is lent. (Callers ask of_lent, so
 // that the compiler makes both part of each call: one function for all would be too long for it. The images are for the contract alone.)
 pub fn of_reach(begun: u8, r: Record, images: usize, b: u64, room: usize) -> u8
-    requires { begun ≡ word (keptLent r images) }
-    ensures number { result ≡ refusalOf r (feed (read b) images room) }
+    requires { begun ≡ word (kept_lent r images) }
+    ensures number { result ≡ refusal_of r (feed (read b) images room) }
 {
     if begun != 0 {
         return begun;
@@ -162,7 +162,7 @@ pub fn of_reach(begun: u8, r: Record, images: usize, b: u64, room: usize) -> u8
 }
 
 pub fn of_grow(r: Record, images: usize, m: u64) -> u8
-    ensures number { result ≡ refusalOf r (feed (grow m) images 0) }
+    ensures number { result ≡ refusal_of r (feed (grow m) images 0) }
 {
     let k = of_whole(r);
     if k != 0 {
@@ -181,7 +181,7 @@ pub fn of_grow(r: Record, images: usize, m: u64) -> u8
 }
 
 pub fn of_advance(r: Record, images: usize, k: u64) -> u8
-    ensures number { result ≡ refusalOf r (feed (advance k) images 0) }
+    ensures number { result ≡ refusal_of r (feed (advance k) images 0) }
 {
     let w = of_whole(r);
     if w != 0 {
@@ -197,7 +197,7 @@ pub fn of_advance(r: Record, images: usize, k: u64) -> u8
 }
 
 pub fn of_out(r: Record, d: u64) -> u8
-    ensures number { result ≡ refusalOf r (feed (out d) 0 0) }
+    ensures number { result ≡ refusal_of r (feed (out d) 0 0) }
 {
     let k = of_kept(r);
     if k != 0 {
@@ -214,7 +214,7 @@ pub fn of_out(r: Record, d: u64) -> u8
 }
 
 pub fn of_begin(r: Record, images: usize, d: u64) -> u8
-    ensures number { result ≡ refusalOf r (feed (begin d) images 0) }
+    ensures number { result ≡ refusal_of r (feed (begin d) images 0) }
 {
     let k = of_lent(r, images);
     if k != 0 {
@@ -228,7 +228,7 @@ pub fn of_begin(r: Record, images: usize, d: u64) -> u8
 }
 
 pub fn of_continue(r: Record, images: usize, k: u64) -> u8
-    ensures number { result ≡ refusalOf r (feed (continue k) images 0) }
+    ensures number { result ≡ refusal_of r (feed (continue k) images 0) }
 {
     let w = of_lent(r, images);
     if w != 0 {
@@ -242,7 +242,7 @@ pub fn of_continue(r: Record, images: usize, k: u64) -> u8
 }
 
 pub fn of_status(r: Record) -> u8
-    ensures number { result ≡ refusalOf r (feed status 0 0) }
+    ensures number { result ≡ refusal_of r (feed status 0 0) }
 {
     if !is_good(r) {
         return RECORD;
@@ -251,7 +251,7 @@ pub fn of_status(r: Record) -> u8
 }
 
 pub fn of_locate(r: Record, b: u64) -> u8
-    ensures number { result ≡ refusalOf r (feed (locate b) 0 0) }
+    ensures number { result ≡ refusal_of r (feed (locate b) 0 0) }
 {
     if is_unfit(r) {
         return RECORD;
@@ -263,7 +263,7 @@ pub fn of_locate(r: Record, b: u64) -> u8
 }
 
 pub fn of_owner(r: Record, s: u64, d: u64) -> u8
-    ensures number { result ≡ refusalOf r (feed (owner s d) 0 0) }
+    ensures number { result ≡ refusal_of r (feed (owner s d) 0 0) }
 {
     if is_unfit(r) {
         return RECORD;
@@ -278,7 +278,7 @@ pub fn of_owner(r: Record, s: u64, d: u64) -> u8
 }
 
 pub fn of_sweep(r: Record, images: usize) -> u8
-    ensures number { result ≡ refusalOf r (feed sweep images 0) }
+    ensures number { result ≡ refusal_of r (feed sweep images 0) }
 {
     let k = of_whole(r);
     if k != 0 {
@@ -292,7 +292,7 @@ pub fn of_sweep(r: Record, images: usize) -> u8
 
 // Its record may have a mark.
 pub fn of_restart(r: Record, images: usize) -> u8
-    ensures number { result ≡ refusalOf r (feed restart images 0) }
+    ensures number { result ≡ refusal_of r (feed restart images 0) }
 {
     if !is_good(r) {
         return RECORD;

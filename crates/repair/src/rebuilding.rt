@@ -2,11 +2,11 @@
 // done or none is left, and reports how many".
 ghost use Rattle.std.specs.Prelude.{◌≡◌, [], ◌+◌, ◌≤◌, ◌<◌, length};
 ghost use Rattle.state.specs.Good.{GoodRecord};
-ghost use Rattle.refusals.specs.Answers.{changedAnswer, changedRecord, countedAnswer, countedRecord};
+ghost use Rattle.refusals.specs.Answers.{changed_answer, changed_record, counted_answer, counted_record};
 ghost use Rattle.calls.specs.Call.{begin, continue, feed, on};
-ghost use Rattle.calls.specs.Images.{disksOf, size, othersIn, storedIn, fillDisk};
-ghost use Rattle.calls.specs.Table.{refusalOf};
-ghost use Rattle.calls.specs.Effect.{called, actUpTo, begun};
+ghost use Rattle.calls.specs.Images.{disks_of, size, others_in, stored_in, fill_disk};
+ghost use Rattle.calls.specs.Table.{refusal_of};
+ghost use Rattle.calls.specs.Effect.{called, act_up_to, begun};
 
 use blocks::rebuild_place;
 use refusals::{ALL, Changed, Counted, disks_of, due, of_begin, of_continue, rebuilt_to};
@@ -15,10 +15,10 @@ use state::{Health, Record, disk_byte, stripes_done, with_health};
 // Disk d of `count` stripes from `first` on, each summed into `block` and then stored: two slices are told apart once and for all, two
 // parts of the images are not.
 fn fill_disk(r: Record, images: &mut [u8], d: u64, first: usize, count: usize, block: &mut [u8])
-    requires { GoodRecord r × (d < disksOf r) × (first + count ≤ r.stripes)
+    requires { GoodRecord r × (d < disks_of r) × (first + count ≤ r.stripes)
         × (length images.old ≡ size r) × (length block.old ≡ r.block) }
     ensures images { images.new ≡
-        storedIn r (fillDisk first count d (λ S. othersIn r images.old S d)) images.old }
+        stored_in r (fill_disk first count d (λ S. others_in r images.old S d)) images.old }
 {
     let disks = disks_of(r) as usize;
     let stripes = r.stripes as usize;
@@ -32,9 +32,9 @@ fn fill_disk(r: Record, images: &mut [u8], d: u64, first: usize, count: usize, b
 // The same, with a block of its own to sum into: a short one where that will do, since each call clears it. (It is lent to the function
 // that does the work: 4,096 elements in a goal would be dear.)
 fn fill_disk_alone(r: Record, images: &mut [u8], d: u64, first: usize, count: usize)
-    requires { GoodRecord r × (d < disksOf r) × (first + count ≤ r.stripes) × (length images.old ≡ size r) }
+    requires { GoodRecord r × (d < disks_of r) × (first + count ≤ r.stripes) × (length images.old ≡ size r) }
     ensures images { images.new ≡
-        storedIn r (fillDisk first count d (λ S. othersIn r images.old S d)) images.old }
+        stored_in r (fill_disk first count d (λ S. others_in r images.old S d)) images.old }
 {
     let len = r.block as usize;
     if len <= 256 {
@@ -48,9 +48,9 @@ fn fill_disk_alone(r: Record, images: &mut [u8], d: u64, first: usize, count: us
 
 // Begin once the table lets it through. Its one store is the record's; the images are for the contract alone.
 fn start_rebuild(c: u64, r: Record, images: &[u8], d: u64) -> Changed
-    requires { refusalOf r (feed (begin d) (length images.now) 0) ≡ 0 }
-    ensures answer { changedAnswer result ≡ (actUpTo c (on (begin d) images.now []) r).answer }
-    ensures state { changedRecord r result ≡ (actUpTo c (on (begin d) images.now []) r).state }
+    requires { refusal_of r (feed (begin d) (length images.now) 0) ≡ 0 }
+    ensures answer { changed_answer result ≡ (act_up_to c (on (begin d) images.now []) r).answer }
+    ensures state { changed_record r result ≡ (act_up_to c (on (begin d) images.now []) r).state }
 {
     if c < 1 {
         return Changed::Cut;
@@ -66,10 +66,10 @@ fn start_rebuild(c: u64, r: Record, images: &[u8], d: u64) -> Changed
 
 // Continue once the table lets it through: the stripes, and then the record.
 fn rebuild_due(c: u64, r: Record, images: &mut [u8], k: u64) -> Counted
-    requires { refusalOf r (feed (continue k) (length images.old) 0) ≡ 0 }
-    ensures answer { countedAnswer result ≡ (actUpTo c (on (continue k) images.old []) r).answer }
-    ensures state { countedRecord r result ≡ (actUpTo c (on (continue k) images.old []) r).state }
-    ensures images { images.new ≡ (actUpTo c (on (continue k) images.old []) r).images }
+    requires { refusal_of r (feed (continue k) (length images.old) 0) ≡ 0 }
+    ensures answer { counted_answer result ≡ (act_up_to c (on (continue k) images.old []) r).answer }
+    ensures state { counted_record r result ≡ (act_up_to c (on (continue k) images.old []) r).state }
+    ensures images { images.new ≡ (act_up_to c (on (continue k) images.old []) r).images }
 {
     let health = r.health;
     let disk = disk_byte(health);
@@ -90,8 +90,8 @@ fn rebuild_due(c: u64, r: Record, images: &mut [u8], k: u64) -> Counted
 
 // Begins to rebuild disk d; of its stores only the first c are made. The images are lent for their length.
 pub fn begin_rebuild_cut(c: u64, r: Record, images: &[u8], d: u64) -> Changed
-    ensures answer { changedAnswer result ≡ (begun c (on (begin d) images.now []) r).answer }
-    ensures state { changedRecord r result ≡ (begun c (on (begin d) images.now []) r).state }
+    ensures answer { changed_answer result ≡ (begun c (on (begin d) images.now []) r).answer }
+    ensures state { changed_record r result ≡ (begun c (on (begin d) images.now []) r).state }
 {
     let k = of_begin(r, images.len(), d);
     if k != 0 {
@@ -101,16 +101,16 @@ pub fn begin_rebuild_cut(c: u64, r: Record, images: &[u8], d: u64) -> Changed
 }
 
 pub fn begin_rebuild(r: Record, images: &[u8], d: u64) -> Changed
-    ensures answer { changedAnswer result ≡ (called (on (begin d) images.now []) r).answer }
-    ensures state { changedRecord r result ≡ (called (on (begin d) images.now []) r).state }
+    ensures answer { changed_answer result ≡ (called (on (begin d) images.now []) r).answer }
+    ensures state { changed_record r result ≡ (called (on (begin d) images.now []) r).state }
 {
     begin_rebuild_cut(ALL, r, images, d)
 }
 
 // Makes the next k stripes of the disk that is being rebuilt, or all that are left; of its stores only the first c are made.
 pub fn continue_rebuild_cut(c: u64, r: Record, images: &mut [u8], k: u64) -> Counted
-    ensures answer { countedAnswer result ≡ (begun c (on (continue k) images.old []) r).answer }
-    ensures state { countedRecord r result ≡ (begun c (on (continue k) images.old []) r).state }
+    ensures answer { counted_answer result ≡ (begun c (on (continue k) images.old []) r).answer }
+    ensures state { counted_record r result ≡ (begun c (on (continue k) images.old []) r).state }
     ensures images { images.new ≡ (begun c (on (continue k) images.old []) r).images }
 {
     let refused = of_continue(r, images.len(), k);
@@ -121,8 +121,8 @@ pub fn continue_rebuild_cut(c: u64, r: Record, images: &mut [u8], k: u64) -> Cou
 }
 
 pub fn continue_rebuild(r: Record, images: &mut [u8], k: u64) -> Counted
-    ensures answer { countedAnswer result ≡ (called (on (continue k) images.old []) r).answer }
-    ensures state { countedRecord r result ≡ (called (on (continue k) images.old []) r).state }
+    ensures answer { counted_answer result ≡ (called (on (continue k) images.old []) r).answer }
+    ensures state { counted_record r result ≡ (called (on (continue k) images.old []) r).state }
     ensures images { images.new ≡ (called (on (continue k) images.old []) r).images }
 {
     continue_rebuild_cut(ALL, r, images, k)

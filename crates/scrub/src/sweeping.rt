@@ -2,17 +2,17 @@
 // reads stripe by stripe, and of a stripe whose places do not xor to zero no more than up to the first piece that shows it (but all of the
 // first 16 disks, where more are summed).
 ghost use Rattle.std.specs.Prelude.{◌≡◌, cond, [], ◌+◌, ◌≤◌, ◌<◌, ltb, length};
-ghost use Rattle.layout.specs.Layout.{openStripes};
-ghost use Rattle.blocks.specs.Block.{isZeros};
-ghost use Rattle.blocks.specs.Xor.{xorAll};
+ghost use Rattle.layout.specs.Layout.{open_stripes};
+ghost use Rattle.blocks.specs.Block.{is_zeros};
+ghost use Rattle.blocks.specs.Xor.{xor_all};
 ghost use Rattle.state.specs.declared.types.Health.TheVariants.{Whole};
 ghost use Rattle.state.specs.Good.{geometry, GoodRecord};
-ghost use Rattle.refusals.specs.Answers.{sweptAnswer};
+ghost use Rattle.refusals.specs.Answers.{swept_answer};
 ghost use Rattle.calls.specs.Call.{sweep, feed, on};
-ghost use Rattle.calls.specs.Images.{disksOf, size};
-ghost use Rattle.calls.specs.Sound.{seenStripe, blanksZero, isSound, unsoundStripes};
-ghost use Rattle.calls.specs.Table.{refusalOf};
-ghost use Rattle.calls.specs.Effect.{sweptTo, act, called};
+ghost use Rattle.calls.specs.Images.{disks_of, size};
+ghost use Rattle.calls.specs.Sound.{seen_stripe, blanks_zero, is_sound, unsound_stripes};
+ghost use Rattle.calls.specs.Table.{refusal_of};
+ghost use Rattle.calls.specs.Effect.{swept_to, act, called};
 
 use blocks::{GROUP, Group, cancels, is_zero, xor_others};
 use placement::{is_taken, open_stripes, stripe_of};
@@ -22,9 +22,9 @@ use state::{Record, geometry_of};
 // Do the places of stripe s on the first k disks xor to zero? If they are many, the first are summed in block ahead of the others: side by
 // side, so many would be read more slowly.
 fn sums_to_zero(r: Record, images: &[u8], k: usize, s: u32, block: &mut [u8]) -> bool
-    requires { GoodRecord r × (r.health ≡ Whole) × (k ≤ disksOf r) × (s < r.stripes)
+    requires { GoodRecord r × (r.health ≡ Whole) × (k ≤ disks_of r) × (s < r.stripes)
         × (length images.now ≡ size r) × (length block.old ≡ r.block) }
-    ensures answer { result ≡ isZeros r.block (xorAll r.block (seenStripe r images.now s k)) }
+    ensures answer { result ≡ is_zeros r.block (xor_all r.block (seen_stripe r images.now s k)) }
 {
     let stripes = r.stripes as usize;
     let mut first = 0;
@@ -44,8 +44,8 @@ fn sums_to_zero(r: Record, images: &[u8], k: usize, s: u32, block: &mut [u8]) ->
 
 // Are the blanks of stripe s zero? The stripe is not open: they are no blocks yet. Each disk is asked for.
 fn blanks_are_zero(r: Record, images: &[u8], s: u32) -> bool
-    requires { GoodRecord r × (r.health ≡ Whole) × (openStripes (geometry r) ≤ s) × (s < r.stripes) × (length images.now ≡ size r) }
-    ensures answer { result ≡ blanksZero r images.now s (disksOf r) }
+    requires { GoodRecord r × (r.health ≡ Whole) × (open_stripes (geometry r) ≤ s) × (s < r.stripes) × (length images.now ≡ size r) }
+    ensures answer { result ≡ blanks_zero r images.now s (disks_of r) }
 {
     let g = geometry_of(r);
     let x = stripe_of(g.old, g.new, s);
@@ -64,9 +64,9 @@ fn blanks_are_zero(r: Record, images: &[u8], s: u32) -> bool
 
 // The same a zone further on, where no move of the stripe's zone is made: the blanks are the new disks.
 fn new_are_zero(r: Record, images: &[u8], s: u32) -> bool
-    requires { GoodRecord r × (r.health ≡ Whole) × (openStripes (geometry r) + disksOf r ≤ s) × (s < r.stripes)
+    requires { GoodRecord r × (r.health ≡ Whole) × (open_stripes (geometry r) + disks_of r ≤ s) × (s < r.stripes)
         × (length images.now ≡ size r) }
-    ensures answer { result ≡ blanksZero r images.now s (disksOf r) }
+    ensures answer { result ≡ blanks_zero r images.now s (disks_of r) }
 {
     let disks = r.old as u32 + r.new as u32;
     let mut d = r.old as u32;
@@ -81,7 +81,7 @@ fn new_are_zero(r: Record, images: &[u8], s: u32) -> bool
 
 // The disks whose places are summed: all of them, or, after the first `begun` stripes, the old ones.
 fn summed_disks(r: Record, begun: u32, s: u32) -> usize
-    ensures count { result ≡ cond (ltb s begun) (disksOf r) r.old }
+    ensures count { result ≡ cond (ltb s begun) (disks_of r) r.old }
 {
     if s < begun {
         return disks_of(r) as usize;
@@ -95,9 +95,9 @@ fn summed_disks(r: Record, begun: u32, s: u32) -> usize
 // place of a division that rounds up, and right for both. (The sum of places is asked for at one place alone, so that the compiler puts it
 // there: with three, blocks of 64 bytes took 2.5 times as long.)
 fn is_sound(r: Record, images: &[u8], full: u32, s: u32, block: &mut [u8]) -> bool
-    requires { GoodRecord r × (r.health ≡ Whole) × (full ≡ openStripes (geometry r)) × (s < r.stripes)
+    requires { GoodRecord r × (r.health ≡ Whole) × (full ≡ open_stripes (geometry r)) × (s < r.stripes)
         × (length images.now ≡ size r) × (length block.old ≡ r.block) }
-    ensures answer { result ≡ isSound r images.now s }
+    ensures answer { result ≡ is_sound r images.now s }
 {
     let begun = full + disks_of(r) as u32;
     if !sums_to_zero(r, images, summed_disks(r, begun, s), s, block) {
@@ -115,7 +115,7 @@ fn is_sound(r: Record, images: &[u8], full: u32, s: u32, block: &mut [u8]) -> bo
 // Looks at stripe after stripe, up to the first that is unsound. Sums are made in block.
 fn look(r: Record, images: &[u8], block: &mut [u8]) -> Swept
     requires { GoodRecord r × (r.health ≡ Whole) × (length images.now ≡ size r) × (length block.old ≡ r.block) }
-    ensures answer { sweptAnswer result ≡ sweptTo r.stripes (unsoundStripes r images.now) }
+    ensures answer { swept_answer result ≡ swept_to r.stripes (unsound_stripes r images.now) }
 {
     let full = open_stripes(geometry_of(r));
     let mut s = 0;
@@ -133,8 +133,8 @@ fn look(r: Record, images: &[u8], block: &mut [u8]) -> Swept
 
 // The call once the table lets it through, with a block of its own to sum in.
 fn look_alone(r: Record, images: &[u8]) -> Swept
-    requires { refusalOf r (feed sweep (length images.now) 0) ≡ 0 }
-    ensures answer { sweptAnswer result ≡ (act (on sweep images.now []) r).answer }
+    requires { refusal_of r (feed sweep (length images.now) 0) ≡ 0 }
+    ensures answer { swept_answer result ≡ (act (on sweep images.now []) r).answer }
 {
     let mut block = [0u8; 4096];
     let len = r.block as usize;
@@ -142,7 +142,7 @@ fn look_alone(r: Record, images: &[u8]) -> Swept
 }
 
 pub fn sweep(r: Record, images: &[u8]) -> Swept
-    ensures answer { sweptAnswer result ≡ (called (on sweep images.now []) r).answer }
+    ensures answer { swept_answer result ≡ (called (on sweep images.now []) r).answer }
 {
     let k = of_sweep(r, images.len());
     if k != 0 {

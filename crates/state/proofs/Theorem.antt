@@ -13,7 +13,7 @@ use Rattle.state.specs.declared.types.Health.TheVariants.{Whole, Out, Lost, Rebu
 use Rattle.state.specs.declared.types.Health.{Health}
 use Rattle.state.specs.declared.types.Record.{Record}
 use Rattle.state.specs.Good.{geometry, good, HealthWithin, GoodRecord}
-use Rattle.state.specs.Bytes.{recordLength, decode, plain, goodBytes, encode}
+use Rattle.state.specs.Bytes.{record_length, decode, plain, good_bytes, encode}
 use Rattle.state.specs.Theorem.{RoundTrip, GoodIs, Updates}
 use Rattle.conditions.proofs.Tests.{both}
 use Rattle.state.proofs.Laws.Good.{limits, within-limits, out-lt, rebuilding-lt}
@@ -29,13 +29,13 @@ pub round_trip : RoundTrip
 unfolding encode
 round_trip =
     record {
-      record-back = decode-encode;
+      record_back = decode-encode;
       bytes_back = encode-decode;
-      plain-only = λ b r e. (subst (λ (x : List ℕ). length x ≡ recordLength) e (length-encode r), subst (λ (x : List ℕ). plain x ≡ true) e (plain-encode r));
+      plain_only = λ b r e. (subst (λ (x : List ℕ). length x ≡ record_length) e (length-encode r), subst (λ (x : List ℕ). plain x ≡ true) e (plain-encode r));
       offsets = λ r. (refl, refl, refl, refl, omega arith, refl, refl, omega arith, omega arith, omega arith);
-      health-bytes = (refl, refl, refl, (λ d. (refl, refl, refl)), refl, refl, refl, λ d c. (refl, refl, refl));
+      health_bytes = (refl, refl, refl, (λ d. (refl, refl, refl)), refl, refl, refl, λ d c. (refl, refl, refl));
       healths = one_of;
-      mark-bytes = (refl, refl);
+      mark_bytes = (refl, refl);
       example = refl;
     }
 
@@ -45,7 +45,7 @@ module _ (r : Record) (l : GoodRecord r) where
   health-small Whole o = tt
   health-small (Out d) o = omega (arith, o, l.array.disks)
   health-small Lost o = tt
-  health-small (Rebuilding d c) o = (omega (arith, o.0, l.array.disks), omega (arith, o.1, l.array.stripes-high))
+  health-small (Rebuilding d c) o = (omega (arith, o.0, l.array.disks), omega (arith, o.1, l.array.stripes_high))
 
   fits : Fits r
   fits =
@@ -53,20 +53,20 @@ module _ (r : Record) (l : GoodRecord r) where
         old-fits = omega (arith, l.array.disks);
         new-fits = omega (arith, l.array.disks);
         health-fits = health-small r.health l.health;
-        block-fits = omega (arith, l.block-high);
-        stripes-fits = omega (arith, l.array.stripes-high);
+        block-fits = omega (arith, l.block_high);
+        stripes-fits = omega (arith, l.array.stripes_high);
         moves-fits = omega (arith, l.array.moves, total-high (geometry r) l.array);
       }
 
 -- good bytes are those of a good record
-good-bytes : (b : List ℕ) → AreBytes b → length b ≡ recordLength → (goodBytes b ≡ true) ↔ ((r : Record) × (good r ≡ true) × (encode r ≡ b))
+good-bytes : (b : List ℕ) → AreBytes b → length b ≡ record_length → (good_bytes b ≡ true) ↔ ((r : Record) × (good r ≡ true) × (encode r ≡ b))
 good-bytes b are long = (to, from)
   where
-    to : goodBytes b ≡ true → (r : Record) × (good r ≡ true) × (encode r ≡ b)
+    to : good_bytes b ≡ true → (r : Record) × (good r ≡ true) × (encode r ≡ b)
     to q = let z = both (plain b) (good (decode b)) q in (decode b, z.1, encode-decode b are long z.0)
 
-    from : ((r : Record) × (good r ≡ true) × (encode r ≡ b)) → goodBytes b ≡ true
-    from x = subst (λ (y : List ℕ). goodBytes y ≡ true) x.2 (rw (plain-encode x.0, decode-encode x.0) x.1)
+    from : ((r : Record) × (good r ≡ true) × (encode r ≡ b)) → good_bytes b ≡ true
+    from x = subst (λ (y : List ℕ). good_bytes y ≡ true) x.2 (rw (plain-encode x.0, decode-encode x.0) x.1)
 
 -- the disk that is out or being rebuilt, if one is, and the stripes done
 below : (N T : ℕ) (h : Health) → ((d : ℕ) → h ≡ Out d → d < N) → ((d c : ℕ) → h ≡ Rebuilding d c → (d < N) × (c < T)) → HealthWithin N T h
@@ -83,17 +83,17 @@ good-is =
       limits = λ r. (
         (λ l.
             let a = l.array in
-            (a.disks.n-low, a.disks.n-high, a.disks.m-high, l.block-low, l.block-high, a.stripes-low, a.stripes-high, a.moves, (λ d e. out-lt r d l e), λ d c e. rebuilding-lt r d c l e, l.marked)),
-        λ (n-low, n-high, m-high, B-low, B-high, T-low, T-high, moves, out, rebuilding, marked).
+            (a.disks.n_low, a.disks.n_high, a.disks.m_high, l.block_low, l.block_high, a.stripes_low, a.stripes_high, a.moves, (λ d e. out-lt r d l e), λ d c e. rebuilding-lt r d c l e, l.marked)),
+        λ (n_low, n_high, m_high, B-low, B-high, T-low, T-high, moves, out, rebuilding, marked).
             record {
               array = record {
-                disks = record { n-low = n-low; n-high = n-high; m-high = m-high };
-                stripes-low = T-low;
-                stripes-high = T-high;
+                disks = record { n_low = n_low; n_high = n_high; m_high = m_high };
+                stripes_low = T-low;
+                stripes_high = T-high;
                 moves = moves;
               };
-              block-low = B-low;
-              block-high = B-high;
+              block_low = B-low;
+              block_high = B-high;
               health = below (r.old + r.new) r.stripes r.health out rebuilding;
               marked = marked;
             },
@@ -104,4 +104,4 @@ good-is =
     }
 
 pub updates : Updates
-updates = record { formatted-is = λ n B T. refl; grown-is = λ r m. refl; moves-are = λ r t. refl; health-is = λ r h. refl; mark-is = λ r m. refl }
+updates = record { formatted_is = λ n B T. refl; grown_is = λ r m. refl; moves_are = λ r t. refl; health_is = λ r h. refl; mark_is = λ r m. refl }

@@ -11,18 +11,18 @@ use Rattle.state.specs.declared.types.Record.{Record}
 use Rattle.state.specs.Good.{good}
 
 -- "the record becomes 20 bytes"
-abbrev pub recordLength : ℕ
-recordLength = 20
+abbrev pub record_length : ℕ
+record_length = 20
 
 -- ---- from bytes
 
 -- by the health byte, the disk's and the stripes done
-abbrev pub healthOf : ℕ → ℕ → ℕ → Health
-healthOf h d c = cond (eqb h 0) Whole (cond (eqb h 1) (Out d) (cond (eqb h 2) Lost (Rebuilding d c)))
+abbrev pub health_of : ℕ → ℕ → ℕ → Health
+health_of h d c = cond (eqb h 0) Whole (cond (eqb h 1) (Out d) (cond (eqb h 2) Lost (Rebuilding d c)))
 
 -- "16–19 hold the count"
-abbrev pub doneFrom : List ℕ → ℕ
-doneFrom b = four (get_or b 16 0) (get_or b 17 0) (get_or b 18 0) (get_or b 19 0)
+abbrev pub done_from : List ℕ → ℕ
+done_from b = four (get_or b 16 0) (get_or b 17 0) (get_or b 18 0) (get_or b 19 0)
 
 -- the record that so many bytes spell, good or not
 unfoldable pub decode : List ℕ → Record
@@ -30,7 +30,7 @@ decode b =
     record {
       old = get_or b 0 0;
       new = get_or b 1 0;
-      health = healthOf (get_or b 2 0) (get_or b 3 0) (doneFrom b);
+      health = health_of (get_or b 2 0) (get_or b 3 0) (done_from b);
       block = two (get_or b 4 0) (get_or b 5 0);
       stripes = four (get_or b 8 0) (get_or b 9 0) (get_or b 10 0) (get_or b 11 0);
       moves = four (get_or b 12 0) (get_or b 13 0) (get_or b 14 0) (get_or b 15 0);
@@ -38,48 +38,48 @@ decode b =
     }
 
 -- the health byte is 0 to 3; the stripes done are zero unless it is 3, and the disk is unless it is 1 or 3
-abbrev pub healthPlain : ℕ → ℕ → ℕ → Bool
-healthPlain h d c = leb h 3 && ((eqb h 3 || eqb c 0) && (eqb h 3 || (eqb h 1 || eqb d 0)))
+abbrev pub health_plain : ℕ → ℕ → ℕ → Bool
+health_plain h d c = leb h 3 && ((eqb h 3 || eqb c 0) && (eqb h 3 || (eqb h 1 || eqb d 0)))
 
 -- the bytes that `decode` does not look at, or not whole, are as they have to be: byte 6, the mark, is 0 or 1, byte 7 zero
 unfoldable pub plain : List ℕ → Bool
-plain b = healthPlain (get_or b 2 0) (get_or b 3 0) (doneFrom b) && (leb (get_or b 6 0) 1 && eqb (get_or b 7 0) 0)
+plain b = health_plain (get_or b 2 0) (get_or b 3 0) (done_from b) && (leb (get_or b 6 0) 1 && eqb (get_or b 7 0) 0)
 
 -- "A record is good", as bytes
-abbrev pub goodBytes : List ℕ → Bool
-goodBytes b = plain b && good (decode b)
+abbrev pub good_bytes : List ℕ → Bool
+good_bytes b = plain b && good (decode b)
 
 -- ---- to bytes
 
-abbrev pub healthByte : Health → ℕ
-healthByte Whole = 0
-healthByte (Out d) = 1
-healthByte Lost = 2
-healthByte (Rebuilding d c) = 3
+abbrev pub health_byte : Health → ℕ
+health_byte Whole = 0
+health_byte (Out d) = 1
+health_byte Lost = 2
+health_byte (Rebuilding d c) = 3
 
-abbrev pub diskByte : Health → ℕ
-diskByte Whole = 0
-diskByte (Out d) = d
-diskByte Lost = 0
-diskByte (Rebuilding d c) = d
+abbrev pub disk_byte : Health → ℕ
+disk_byte Whole = 0
+disk_byte (Out d) = d
+disk_byte Lost = 0
+disk_byte (Rebuilding d c) = d
 
 -- "with disk and stripes done"
-abbrev pub stripesDone : Health → ℕ
-stripesDone Whole = 0
-stripesDone (Out d) = 0
-stripesDone Lost = 0
-stripesDone (Rebuilding d c) = c
+abbrev pub stripes_done : Health → ℕ
+stripes_done Whole = 0
+stripes_done (Out d) = 0
+stripes_done Lost = 0
+stripes_done (Rebuilding d c) = c
 
 -- "a mark, 1, in byte 6"
-abbrev pub markByte : Bool → ℕ
-markByte m = cond m 1 0
+abbrev pub mark_byte : Bool → ℕ
+mark_byte m = cond m 1 0
 
 unfoldable pub encode : Record → List ℕ
 encode r =
-    r.old ∷ r.new ∷ healthByte r.health ∷ diskByte r.health
-    ∷ r.block % 256 ∷ r.block / 256 ∷ markByte r.mark ∷ 0
+    r.old ∷ r.new ∷ health_byte r.health ∷ disk_byte r.health
+    ∷ r.block % 256 ∷ r.block / 256 ∷ mark_byte r.mark ∷ 0
     ∷ r.stripes % 256 ∷ r.stripes / 256 % 256 ∷ r.stripes / 65536 % 256 ∷ r.stripes / 16777216
     ∷ r.moves % 256 ∷ r.moves / 256 % 256 ∷ r.moves / 65536 % 256 ∷ r.moves / 16777216
-    ∷ stripesDone r.health % 256 ∷ stripesDone r.health / 256 % 256
-    ∷ stripesDone r.health / 65536 % 256 ∷ stripesDone r.health / 16777216
+    ∷ stripes_done r.health % 256 ∷ stripes_done r.health / 256 % 256
+    ∷ stripes_done r.health / 65536 % 256 ∷ stripes_done r.health / 16777216
     ∷ []

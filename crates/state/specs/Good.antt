@@ -4,7 +4,7 @@
 -- (d): of a rebuild the disk is "below N", and the count of stripes "below T". (h): byte 6 may hold a mark.)
 use Rattle.std.specs.Prelude.{ℕ, ◌+◌, ◌≤◌, ◌<◌, ◌≡◌, Bool, true, not, ◌&&◌, ◌||◌, leb, ltb, eqb}
 use Rattle.layout.specs.declared.Geometry.{Geometry}
-use Rattle.layout.specs.Layout.{totalOf}
+use Rattle.layout.specs.Layout.{total_of}
 use Rattle.layout.specs.Limits.{GoodArray}
 use Rattle.state.specs.declared.types.Health.TheVariants.{Whole, Out, Lost, Rebuilding}
 use Rattle.state.specs.declared.types.Health.{Health}
@@ -20,44 +20,44 @@ abbrev pub within : ℕ → ℕ → ℕ → Bool
 within low x high = leb low x && leb x high
 
 -- "n, the old disks, is 3 to 16"
-abbrev pub oldGood : ℕ → Bool
-oldGood n = within 3 n 16
+abbrev pub old_good : ℕ → Bool
+old_good n = within 3 n 16
 
 -- "m, the new ones, 1 to 16"
-abbrev pub newGood : ℕ → Bool
-newGood m = within 1 m 16
+abbrev pub new_good : ℕ → Bool
+new_good m = within 1 m 16
 
 -- "B, the block length, is 1 to 4,096"
-abbrev pub blockGood : ℕ → Bool
-blockGood B = within 1 B 4096
+abbrev pub block_good : ℕ → Bool
+block_good B = within 1 B 4096
 
 -- "T, the stripes, is 1 to 1,048,576"
-abbrev pub stripesGood : ℕ → Bool
-stripesGood T = within 1 T 1048576
+abbrev pub stripes_good : ℕ → Bool
+stripes_good T = within 1 T 1048576
 
 -- a record's m is as many as may be added, or "0 before growth"
-abbrev pub addedGood : ℕ → Bool
-addedGood m = eqb m 0 || newGood m
+abbrev pub added_good : ℕ → Bool
+added_good m = eqb m 0 || new_good m
 
 -- "t is at most the total of moves" ("with m = 0, t = 0": the total is 0 then)
-unfoldable pub movesGood : Geometry → Bool
-movesGood g = addedGood g.new && leb g.moves (totalOf g)
+unfoldable pub moves_good : Geometry → Bool
+moves_good g = added_good g.new && leb g.moves (total_of g)
 
 -- "the out disk is below N"; of a rebuild too, and its count "below T"
-abbrev pub healthGood : ℕ → ℕ → Health → Bool
-healthGood N T Whole = true
-healthGood N T (Out d) = ltb d N
-healthGood N T Lost = true
-healthGood N T (Rebuilding d c) = ltb d N && ltb c T
+abbrev pub health_good : ℕ → ℕ → Health → Bool
+health_good N T Whole = true
+health_good N T (Out d) = ltb d N
+health_good N T Lost = true
+health_good N T (Rebuilding d c) = ltb d N && ltb c T
 
 -- "A marked record needs t above 0" (document 02, (h); that it "is good for restart and status only" is row 1 of the table)
-abbrev pub markGood : Bool → ℕ → Bool
-markGood m t = not m || ltb 0 t
+abbrev pub mark_good : Bool → ℕ → Bool
+mark_good m t = not m || ltb 0 t
 
 unfoldable pub good : Record → Bool
 good r =
-    oldGood r.old && (blockGood r.block && (stripesGood r.stripes
-    && (movesGood (geometry r) && (healthGood (r.old + r.new) r.stripes r.health && markGood r.mark r.moves))))
+    old_good r.old && (block_good r.block && (stripes_good r.stripes
+    && (moves_good (geometry r) && (health_good (r.old + r.new) r.stripes r.health && mark_good r.mark r.moves))))
 
 -- ---- the same as facts (`GoodIs.exactly` of Theorem)
 
@@ -69,7 +69,7 @@ HealthWithin N T (Rebuilding d c) = (d < N) × (c < T)
 
 pub record GoodRecord (r : Record) : Type 0 where
   pub array : GoodArray (geometry r)
-  pub block-low : 1 ≤ r.block
-  pub block-high : r.block ≤ 4096
+  pub block_low : 1 ≤ r.block
+  pub block_high : r.block ≤ 4096
   pub health : HealthWithin (r.old + r.new) r.stripes r.health
   pub marked : r.mark ≡ true → 0 < r.moves

@@ -6,8 +6,8 @@ use Rattle.state.specs.declared.types.Health.TheVariants.{Whole, Out, Lost, Rebu
 use Rattle.state.specs.declared.types.Health.{Health}
 use Rattle.state.specs.declared.types.Record.{Record}
 use Rattle.state.specs.Good.{geometry, good, GoodRecord}
-use Rattle.state.specs.Bytes.{decode, plain, goodBytes, healthByte, diskByte, stripesDone, encode, markByte}
-use Rattle.state.specs.Update.{formatted, grownBy, withMoves, withHealth, withMark}
+use Rattle.state.specs.Bytes.{decode, plain, good_bytes, health_byte, disk_byte, stripes_done, encode, mark_byte}
+use Rattle.state.specs.Update.{formatted, grown_by, with_moves, with_health, with_mark}
 
 -- byte i of a record
 abbrev pub byte_of : Record → ℕ → ℕ
@@ -15,28 +15,28 @@ byte_of r i = get_or (encode r) i 0
 
 -- the record and its bytes: in and out
 pub record RoundTrip : Type 0 where
-  pub record-back : (r : Record) → decode (encode r) ≡ r
+  pub record_back : (r : Record) → decode (encode r) ≡ r
   pub bytes_back : (b : List ℕ) → AreBytes b → length b ≡ 20 → plain b ≡ true → encode (decode b) ≡ b
   -- and bytes that are not `plain` are those of no record
-  pub plain-only : (b : List ℕ) (r : Record) → encode r ≡ b → (length b ≡ 20) × (plain b ≡ true)
+  pub plain_only : (b : List ℕ) (r : Record) → encode r ≡ b → (length b ≡ 20) × (plain b ≡ true)
   -- "decimal byte offsets, least byte first: 0 n; 1 m (0 before growth); 2 health ..; 3 the disk that is out ..; 4–5 B; .. 8–11 T;
   -- 12–15 t, the moves done"; "16–19 hold the count"; "a mark, 1, in byte 6", and 0 where there is none; 7 zero
   pub offsets : (r : Record) → let at : ℕ → ℕ = byte_of r in
-      (at 0 ≡ r.old) × (at 1 ≡ r.new) × (at 2 ≡ healthByte r.health) × (at 3 ≡ diskByte r.health)
-      × (at 4 + 256 * at 5 ≡ r.block) × (at 6 ≡ markByte r.mark) × (at 7 ≡ 0)
+      (at 0 ≡ r.old) × (at 1 ≡ r.new) × (at 2 ≡ health_byte r.health) × (at 3 ≡ disk_byte r.health)
+      × (at 4 + 256 * at 5 ≡ r.block) × (at 6 ≡ mark_byte r.mark) × (at 7 ≡ 0)
       × (at 8 + 256 * at 9 + 65536 * at 10 + 16777216 * at 11 ≡ r.stripes)
       × (at 12 + 256 * at 13 + 65536 * at 14 + 16777216 * at 15 ≡ r.moves)
-      × (at 16 + 256 * at 17 + 65536 * at 18 + 16777216 * at 19 ≡ stripesDone r.health)
+      × (at 16 + 256 * at 17 + 65536 * at 18 + 16777216 * at 19 ≡ stripes_done r.health)
   -- "0 whole, 1 one disk out, 2 lost", "the disk that is out, 0 unless health is 1"; "Rebuilding (byte 2 is 3, byte 3 its disk ..) with
   -- disk and stripes done", "0 otherwise"
-  pub health-bytes : (healthByte Whole ≡ 0) × (diskByte Whole ≡ 0) × (stripesDone Whole ≡ 0)
-      × ((d : ℕ) → (healthByte (Out d) ≡ 1) × (diskByte (Out d) ≡ d) × (stripesDone (Out d) ≡ 0))
-      × (healthByte Lost ≡ 2) × (diskByte Lost ≡ 0) × (stripesDone Lost ≡ 0)
-      × ((d c : ℕ) → (healthByte (Rebuilding d c) ≡ 3) × (diskByte (Rebuilding d c) ≡ d) × (stripesDone (Rebuilding d c) ≡ c))
+  pub health_bytes : (health_byte Whole ≡ 0) × (disk_byte Whole ≡ 0) × (stripes_done Whole ≡ 0)
+      × ((d : ℕ) → (health_byte (Out d) ≡ 1) × (disk_byte (Out d) ≡ d) × (stripes_done (Out d) ≡ 0))
+      × (health_byte Lost ≡ 2) × (disk_byte Lost ≡ 0) × (stripes_done Lost ≡ 0)
+      × ((d c : ℕ) → (health_byte (Rebuilding d c) ≡ 3) × (disk_byte (Rebuilding d c) ≡ d) × (stripes_done (Rebuilding d c) ≡ c))
   -- "one of Whole, Out with its disk, Lost", or "Rebuilding .. with disk and stripes done", and nothing else
   pub healths : (h : Health) → (h ≡ Whole) ⊎ (((d : ℕ) × (h ≡ Out d)) ⊎ ((h ≡ Lost) ⊎ ((d : ℕ) × (c : ℕ) × (h ≡ Rebuilding d c))))
   -- "a mark, 1, in byte 6"
-  pub mark-bytes : (markByte true ≡ 1) × (markByte false ≡ 0)
+  pub mark_bytes : (mark_byte true ≡ 1) × (mark_byte false ≡ 0)
   -- worked out by hand: n = 5, m = 7, disk 11 being rebuilt, B = 515, T = 67,305,985, t = 134,678,021, 202,050,057 stripes done, marked
   pub example : let h : Health = Rebuilding 11 202050057 in
       encode (record { old = 5; new = 7; health = h; block = 515; stripes = 67305985; moves = 134678021; mark = true })
@@ -60,23 +60,23 @@ pub record GoodIs : Type 0 where
   pub fits : (r : Record) → GoodRecord r → AreBytes (encode r)
   -- and so many bytes are good exactly if they are those of a good record: byte 7 is zero, and byte 6 is but for the mark
   pub bytes : (b : List ℕ) → AreBytes b → length b ≡ 20
-      → (goodBytes b ≡ true) ↔ ((r : Record) × (good r ≡ true) × (encode r ≡ b))
+      → (good_bytes b ≡ true) ↔ ((r : Record) × (good r ≡ true) × (encode r ≡ b))
 
 -- What every field is after each update. One equation holds them all: a field more, and these lines have to say what becomes of it. No
 -- update but the last leaves a mark.
 pub record Updates : Type 0 where
   -- "record whole, m = t = 0"; n, B, T as given
-  pub formatted-is : (n B T : ℕ)
+  pub formatted_is : (n B T : ℕ)
       → formatted n B T ≡ record { old = n; new = 0; health = Whole; block = B; stripes = T; moves = 0; mark = false }
   -- m as given, and no move is done yet
-  pub grown-is : (r : Record) (m : ℕ)
-      → grownBy r m ≡ record { old = r.old; new = m; health = r.health; block = r.block; stripes = r.stripes; moves = 0; mark = false }
+  pub grown_is : (r : Record) (m : ℕ)
+      → grown_by r m ≡ record { old = r.old; new = m; health = r.health; block = r.block; stripes = r.stripes; moves = 0; mark = false }
   -- t alone
-  pub moves-are : (r : Record) (t : ℕ) → withMoves r t
+  pub moves_are : (r : Record) (t : ℕ) → with_moves r t
       ≡ record { old = r.old; new = r.new; health = r.health; block = r.block; stripes = r.stripes; moves = t; mark = false }
   -- the health alone: a growth that a lost disk halts goes on where it stopped
-  pub health-is : (r : Record) (h : Health) → withHealth r h
+  pub health_is : (r : Record) (h : Health) → with_health r h
       ≡ record { old = r.old; new = r.new; health = h; block = r.block; stripes = r.stripes; moves = r.moves; mark = false }
   -- the mark alone
-  pub mark-is : (r : Record) (m : Bool) → withMark r m
+  pub mark_is : (r : Record) (m : Bool) → with_mark r m
       ≡ record { old = r.old; new = r.new; health = r.health; block = r.block; stripes = r.stripes; moves = r.moves; mark = m }

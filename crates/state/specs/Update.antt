@@ -11,21 +11,21 @@ abbrev pub formatted : ℕ → ℕ → ℕ → Record
 formatted n B T = record { old = n; new = 0; health = Whole; block = B; stripes = T; moves = 0; mark = false }
 
 -- "**Grow** (m): .. sets m"
-abbrev pub grownBy : Record → ℕ → Record
-grownBy r m =
+abbrev pub grown_by : Record → ℕ → Record
+grown_by r m =
     record { old = r.old; new = m; health = r.health; block = r.block; stripes = r.stripes; moves = 0; mark = false }
 
 -- "**Advance** (k): .. t's rise"
-abbrev pub withMoves : Record → ℕ → Record
-withMoves r t =
+abbrev pub with_moves : Record → ℕ → Record
+with_moves r t =
     record { old = r.old; new = r.new; health = r.health; block = r.block; stripes = r.stripes; moves = t; mark = false }
 
 -- "**Out** (d): whole becomes out; .."; begin: "changes the record only"; continue: "At T health is whole."
-abbrev pub withHealth : Record → Health → Record
-withHealth r h =
+abbrev pub with_health : Record → Health → Record
+with_health r h =
     record { old = r.old; new = r.new; health = h; block = r.block; stripes = r.stripes; moves = r.moves; mark = false }
 
 -- "then the record with t raised and a mark, 1, in byte 6 .., then the zeroes, then the record unmarked"; restart "takes the mark off"
-abbrev pub withMark : Record → Bool → Record
-withMark r m =
+abbrev pub with_mark : Record → Bool → Record
+with_mark r m =
     record { old = r.old; new = r.new; health = r.health; block = r.block; stripes = r.stripes; moves = r.moves; mark = m }

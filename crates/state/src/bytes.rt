@@ -1,26 +1,26 @@
 // The record's bytes, in and out. Reading tests nothing: `is_plain` and `is_good` are apart, so that no caller tests twice. Offsets are
 // bare numbers, as in `RoundTrip.offsets`: a named one would ask for a proof of each sum, and save no edit.
 ghost use Rattle.std.specs.Prelude.{◌≡◌, length};
-ghost use Rattle.state.specs.Bytes.{recordLength, doneFrom, healthOf, decode, healthPlain, plain};
-ghost use Rattle.state.specs.Bytes.{healthByte, diskByte, stripesDone, markByte, encode};
+ghost use Rattle.state.specs.Bytes.{record_length, done_from, health_of, decode, health_plain, plain};
+ghost use Rattle.state.specs.Bytes.{health_byte, disk_byte, stripes_done, mark_byte, encode};
 
 use crate::types::{Health, Record};
 use blocks::{join_four, join_two};
 
-// How many they are: `recordLength`.
+// How many they are: `record_length`.
 pub const RECORD_LENGTH: usize = 20;
 
 // The stripes done that the bytes spell.
 fn done_from(bytes: &[u8]) -> u32
-    requires { length bytes.now ≡ recordLength }
-    ensures { result ≡ doneFrom bytes.now }
+    requires { length bytes.now ≡ record_length }
+    ensures { result ≡ done_from bytes.now }
 {
     join_four(bytes[16], bytes[17], bytes[18], bytes[19])
 }
 
 // Is the health byte 0 to 3, are the stripes done zero unless it is 3, and is the disk unless it is 1 or 3?
 fn health_is_plain(h: u8, d: u8, done: u32) -> bool
-    ensures { result ≡ healthPlain h d done }
+    ensures { result ≡ health_plain h d done }
 {
     if 3 < h {
         return false;
@@ -39,7 +39,7 @@ fn health_is_plain(h: u8, d: u8, done: u32) -> bool
 
 // Are these the bytes of a record, good or not?
 pub fn is_plain(bytes: &[u8]) -> bool
-    requires { length bytes.now ≡ recordLength }
+    requires { length bytes.now ≡ record_length }
     ensures { result ≡ plain bytes.now }
 {
     if !health_is_plain(bytes[2], bytes[3], done_from(bytes)) {
@@ -53,7 +53,7 @@ pub fn is_plain(bytes: &[u8]) -> bool
 
 // The health that its byte, the disk's and the stripes done spell.
 fn health_from(h: u8, d: u8, done: u32) -> Health
-    ensures { result ≡ healthOf h d done }
+    ensures { result ≡ health_of h d done }
 {
     if h == 0 {
         return Health::Whole;
@@ -72,7 +72,7 @@ fn health_from(h: u8, d: u8, done: u32) -> Health
 
 // The record that the bytes spell.
 pub fn decode(bytes: &[u8]) -> Record
-    requires { length bytes.now ≡ recordLength }
+    requires { length bytes.now ≡ record_length }
     ensures { result ≡ decode bytes.now }
 {
     Record {
@@ -88,7 +88,7 @@ pub fn decode(bytes: &[u8]) -> Record
 
 // Byte 2.
 pub fn health_byte(health: Health) -> u8
-    ensures { result ≡ healthByte health }
+    ensures { result ≡ health_byte health }
 {
     match health {
         Health::Whole => 0,
@@ -100,7 +100,7 @@ pub fn health_byte(health: Health) -> u8
 
 // Byte 3: zero unless a disk is out or being rebuilt.
 pub fn disk_byte(health: Health) -> u8
-    ensures { result ≡ diskByte health }
+    ensures { result ≡ disk_byte health }
 {
     match health {
         Health::Whole => 0,
@@ -112,7 +112,7 @@ pub fn disk_byte(health: Health) -> u8
 
 // Bytes 16 to 19: zero unless a disk is being rebuilt.
 pub fn stripes_done(health: Health) -> u32
-    ensures { result ≡ stripesDone health }
+    ensures { result ≡ stripes_done health }
 {
     match health {
         Health::Whole => 0,
@@ -124,7 +124,7 @@ pub fn stripes_done(health: Health) -> u32
 
 // Byte 6.
 pub fn mark_byte(mark: bool) -> u8
-    ensures { result ≡ markByte mark }
+    ensures { result ≡ mark_byte mark }
 {
     if mark {
         return 1;
@@ -134,7 +134,7 @@ pub fn mark_byte(mark: bool) -> u8
 
 // Writes the record's bytes.
 pub fn encode(r: Record, bytes: &mut [u8])
-    requires { length bytes.old ≡ recordLength }
+    requires { length bytes.old ≡ record_length }
     ensures { bytes.new ≡ encode r }
 {
     let health = r.health;

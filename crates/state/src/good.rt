@@ -1,7 +1,7 @@
 // Which records are good. The limits of single fields are functions of their own: format and grow are held to them too.
 ghost use Rattle.std.specs.Prelude.{◌≤◌, ◌≡◌};
-ghost use Rattle.state.specs.Good.{geometry, within, oldGood, newGood, addedGood, blockGood, stripesGood};
-ghost use Rattle.state.specs.Good.{movesGood, healthGood, markGood, good};
+ghost use Rattle.state.specs.Good.{geometry, within, old_good, new_good, added_good, block_good, stripes_good};
+ghost use Rattle.state.specs.Good.{moves_good, health_good, mark_good, good};
 
 use crate::types::{Health, Record};
 use layout::Geometry;
@@ -31,35 +31,35 @@ fn is_within(low: u64, x: u64, high: u64) -> bool
 
 // May an array have n old disks?
 pub fn old_is_good(n: u64) -> bool
-    ensures { result ≡ oldGood n }
+    ensures { result ≡ old_good n }
 {
     is_within(3, n, 16)
 }
 
 // May m disks be added to an array?
 pub fn new_is_good(m: u64) -> bool
-    ensures { result ≡ newGood m }
+    ensures { result ≡ new_good m }
 {
     is_within(1, m, 16)
 }
 
 // May a block be this long?
 pub fn block_is_good(length: u64) -> bool
-    ensures { result ≡ blockGood length }
+    ensures { result ≡ block_good length }
 {
     is_within(1, length, 4096)
 }
 
 // May an array have this many stripes?
 pub fn stripes_are_good(stripes: u64) -> bool
-    ensures { result ≡ stripesGood stripes }
+    ensures { result ≡ stripes_good stripes }
 {
     is_within(1, stripes, 1048576)
 }
 
 // May an array have m new disks, or none?
 fn added_is_good(m: u64) -> bool
-    ensures { result ≡ addedGood m }
+    ensures { result ≡ added_good m }
 {
     if m == 0 {
         return true;
@@ -71,7 +71,7 @@ fn added_is_good(m: u64) -> bool
 // compiler then makes one division of this and of the test whether all moves are made.)
 fn moves_are_good(r: Record) -> bool
     requires { (3 ≤ r.old) × (r.old ≤ 16) × (r.stripes ≤ 1048576) }
-    ensures { result ≡ movesGood (geometry r) }
+    ensures { result ≡ moves_good (geometry r) }
 {
     if !added_is_good(r.new as u64) {
         return false;
@@ -81,7 +81,7 @@ fn moves_are_good(r: Record) -> bool
 
 // Is the disk that is out or being rebuilt, if one is, a disk of the array, and is a stripe of it left to rebuild?
 fn health_is_good(disks: u64, stripes: u32, health: Health) -> bool
-    ensures { result ≡ healthGood disks stripes health }
+    ensures { result ≡ health_good disks stripes health }
 {
     match health {
         Health::Whole => true,
@@ -98,7 +98,7 @@ fn health_is_good(disks: u64, stripes: u32, health: Health) -> bool
 
 // May a record with so many moves done have a mark, if it has one?
 fn mark_is_good(mark: bool, moves: u32) -> bool
-    ensures { result ≡ markGood mark moves }
+    ensures { result ≡ mark_good mark moves }
 {
     if !mark {
         return true;

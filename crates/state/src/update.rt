@@ -1,6 +1,6 @@
 // The records that calls leave.
 ghost use Rattle.std.specs.Prelude.{◌≡◌};
-ghost use Rattle.state.specs.Update.{formatted, grownBy, withMoves, withHealth, withMark};
+ghost use Rattle.state.specs.Update.{formatted, grown_by, with_moves, with_health, with_mark};
 
 use crate::types::{Health, Record};
 
@@ -21,7 +21,7 @@ pub fn formatted(n: u8, block: u16, stripes: u32) -> Record
 
 // With m new disks, and no move done.
 pub fn grown_by(r: Record, m: u8) -> Record
-    ensures { result ≡ grownBy r m }
+    ensures { result ≡ grown_by r m }
 {
     let health = r.health;
     Record {
@@ -37,7 +37,7 @@ pub fn grown_by(r: Record, m: u8) -> Record
 
 // With so many moves done.
 pub fn with_moves(r: Record, moves: u32) -> Record
-    ensures { result ≡ withMoves r moves }
+    ensures { result ≡ with_moves r moves }
 {
     let health = r.health;
     Record {
@@ -53,7 +53,7 @@ pub fn with_moves(r: Record, moves: u32) -> Record
 
 // With another health.
 pub fn with_health(r: Record, health: Health) -> Record
-    ensures { result ≡ withHealth r health }
+    ensures { result ≡ with_health r health }
 {
     Record {
         old: r.old,
@@ -68,7 +68,7 @@ pub fn with_health(r: Record, health: Health) -> Record
 
 // With a mark, or without.
 pub fn with_mark(r: Record, mark: bool) -> Record
-    ensures { result ≡ withMark r mark }
+    ensures { result ≡ with_mark r mark }
 {
     let mut marked = r;
     marked.mark = mark;

@@ -6,12 +6,12 @@ use Rattle.refusals.specs.declared.types.Changed.TheVariants as changed
 use Rattle.refusals.specs.declared.types.Counted.{Counted}
 use Rattle.refusals.specs.declared.types.Counted.TheVariants as counting
 
-abbrev pub changedBytes : Changed → List ℕ → List ℕ
-changedBytes (changed.Refused k) b = b
-changedBytes changed.Cut b = b
-changedBytes (changed.Done r) b = encode r
+abbrev pub changed_bytes : Changed → List ℕ → List ℕ
+changed_bytes (changed.Refused k) b = b
+changed_bytes changed.Cut b = b
+changed_bytes (changed.Done r) b = encode r
 
-abbrev pub countedBytes : Counted → List ℕ → List ℕ
-countedBytes (counting.Refused k) b = b
-countedBytes (counting.Cut k) b = b
-countedBytes (counting.Made k r) b = encode r
+abbrev pub counted_bytes : Counted → List ℕ → List ℕ
+counted_bytes (counting.Refused k) b = b
+counted_bytes (counting.Cut k) b = b
+counted_bytes (counting.Made k r) b = encode r

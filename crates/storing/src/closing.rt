@@ -1,18 +1,18 @@
 // The end of a call that stores its record last.
 ghost use Rattle.std.specs.Prelude.{◌≡◌, length};
-ghost use Rattle.state.specs.Bytes.{recordLength};
-ghost use Rattle.refusals.specs.Answers.{changedAnswer, countedAnswer};
+ghost use Rattle.state.specs.Bytes.{record_length};
+ghost use Rattle.refusals.specs.Answers.{changed_answer, counted_answer};
 ghost use Rattle.calls.specs.Call.{number, count};
-ghost use Rattle.storing.specs.Closing.{changedBytes, countedBytes};
+ghost use Rattle.storing.specs.Closing.{changed_bytes, counted_bytes};
 
 use refusals::{Changed, Count, Counted};
 use state::encode;
 
 // Stores the record, if there is one to store. Answers the number.
 pub(crate) fn close(rec: &mut [u8], x: Changed) -> u8
-    requires { length rec.old ≡ recordLength }
-    ensures answer { result ≡ number (changedAnswer x) }
-    ensures state { rec.new ≡ changedBytes x rec.old }
+    requires { length rec.old ≡ record_length }
+    ensures answer { result ≡ number (changed_answer x) }
+    ensures state { rec.new ≡ changed_bytes x rec.old }
 {
     match x {
         Changed::Refused(k) => k,
@@ -26,9 +26,9 @@ pub(crate) fn close(rec: &mut [u8], x: Changed) -> u8
 
 // The same, with the count beside the number.
 pub(crate) fn close_count(rec: &mut [u8], x: Counted) -> Count
-    requires { length rec.old ≡ recordLength }
-    ensures answer { (result.number ≡ number (countedAnswer x)) × (result.made ≡ count (countedAnswer x)) }
-    ensures state { rec.new ≡ countedBytes x rec.old }
+    requires { length rec.old ≡ record_length }
+    ensures answer { (result.number ≡ number (counted_answer x)) × (result.made ≡ count (counted_answer x)) }
+    ensures state { rec.new ≡ counted_bytes x rec.old }
 {
     match x {
         Counted::Refused(k) => Count { number: k, made: 0 },

@@ -1,11 +1,11 @@
 -- What is printed.
 use Rattle.std.specs.Prelude.{ℕ, zero, suc, ◌+◌, ◌*◌, ◌<◌, ◌≡◌, List, [], ◌∷◌, ◌++◌, length, take, drop}
-use Rattle.layout.specs.Moves.{moveZone, moveWithin, moveFrom, moveTo}
+use Rattle.layout.specs.Moves.{move_zone, move_within, move_from, move_to}
 use Rattle.layout.specs.Limits.{Disks}
 use Rattle.zone_moves.specs.declared.parse.Request.TheVariants.{Zone, Refused}
 use Rattle.zone_moves.specs.declared.parse.Request.{Request}
 use Rattle.zone_moves.specs.Decimal.{decimal}
-use Rattle.zone_moves.specs.Request.{requestOf}
+use Rattle.zone_moves.specs.Request.{request_of}
 
 -- the number x, with the byte `stop` after it
 unfoldable pub column : ℕ → ℕ → List ℕ
@@ -15,7 +15,7 @@ column x stop = decimal x ++ (stop ∷ [])
 -- line ends with a line feed"
 unfoldable pub move_line : ℕ → ℕ → ℕ → List ℕ
 move_line n m k =
-    column k 32 ++ column (moveZone n m k) 32 ++ column (moveWithin n m k) 32 ++ column (moveFrom n m k) 32 ++ column (moveTo n m k) 10
+    column k 32 ++ column (move_zone n m k) 32 ++ column (move_within n m k) 32 ++ column (move_from n m k) 32 ++ column (move_to n m k) 10
 
 -- the lines of some moves, one after the other; a move is given by its index
 unfoldable pub lines_of : ℕ → ℕ → List ℕ → List ℕ
@@ -28,8 +28,8 @@ indices first zero = []
 indices first (suc count) = indices first count ++ ((first + count) ∷ [])
 
 -- "zone z's moves": they are the m * n from index z * m * n on (`ZoneMoves` of Exact.antt says what that has to mean)
-unfoldable pub zoneMoves : ℕ → ℕ → ℕ → List ℕ
-zoneMoves n m z = indices (z * m * n) (m * n)
+unfoldable pub zone_moves : ℕ → ℕ → ℕ → List ℕ
+zone_moves n m z = indices (z * m * n) (m * n)
 
 -- "refused 6" and a line feed
 abbrev pub refusal : List ℕ
@@ -38,11 +38,11 @@ refusal = 114 ∷ 101 ∷ 102 ∷ 117 ∷ 115 ∷ 101 ∷ 100 ∷ 32 ∷ 54 ∷ 
 -- the answer to a request
 unfoldable pub answered : Request → List ℕ
 answered Refused = refusal
-answered (Zone n m z) = lines_of n m (zoneMoves n m z)
+answered (Zone n m z) = lines_of n m (zone_moves n m z)
 
 -- the answer to an input
 unfoldable pub answer : List ℕ → List ℕ
-answer s = answered (requestOf s)
+answer s = answered (request_of s)
 
 -- a buffer with a text stored from position `at` on
 unfoldable pub written : List ℕ → ℕ → List ℕ → List ℕ

@@ -1,6 +1,6 @@
 // What a line asks for.
 ghost use Rattle.std.specs.Prelude.{◌-◌, ◌≤◌, ◌<◌, ◌≡◌, get_or};
-ghost use Rattle.zone_moves.specs.Request.{isDigit, inLimits, field_of, fieldAt, requestOf};
+ghost use Rattle.zone_moves.specs.Request.{is_digit, in_limits, field_of, field_at, request_of};
 
 // What stands at a position: a number, with the position after the byte that ends it, or none.
 #[derive(Drop)]
@@ -24,7 +24,7 @@ fn byte_at(s: &[u8], i: usize) -> u8
 }
 
 fn is_digit(b: u8) -> bool
-    ensures { result ≡ isDigit b }
+    ensures { result ≡ is_digit b }
 {
     b'0' <= b && b <= b'9'
 }
@@ -67,7 +67,7 @@ fn field_of(a: u8, b: u8, c: u8, at: usize, stop: u8) -> Field
 
 fn field_at(s: &[u8], at: usize, stop: u8) -> Field
     requires { at < 4096 }
-    ensures { result ≡ fieldAt s.now at stop }
+    ensures { result ≡ field_at s.now at stop }
 {
     let a = byte_at(s, at);
     let b = byte_at(s, at + 1);
@@ -76,7 +76,7 @@ fn field_at(s: &[u8], at: usize, stop: u8) -> Field
 }
 
 fn in_limits(n: u32, m: u32, z: u32) -> bool
-    ensures { result ≡ inLimits n m z }
+    ensures { result ≡ in_limits n m z }
 {
     if n < 3 {
         return false;
@@ -94,7 +94,7 @@ fn in_limits(n: u32, m: u32, z: u32) -> bool
 }
 
 pub fn request_of(s: &[u8]) -> Request
-    ensures { result ≡ requestOf s.now }
+    ensures { result ≡ request_of s.now }
 {
     let Field::Number { value: n, next: a } = field_at(s, 0, b' ') else {
         return Request::Refused;

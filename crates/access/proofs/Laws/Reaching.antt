@@ -20,26 +20,26 @@ use Rattle.state.specs.Good.{geometry, GoodRecord}
 use Rattle.access.specs.declared.types.Choice.TheVariants.{Part, Scratch}
 use Rattle.access.specs.Viewing.{choice_of}
 use Rattle.calls.specs.Call.{read, feed}
-use Rattle.calls.specs.Health.{isLost, absent}
-use Rattle.calls.specs.Images.{disksOf, size, othersIn, seen}
-use Rattle.calls.specs.Table.{refusalOf}
-use Rattle.calls.specs.Effect.{standing, block_of, view_of, scratchLeft}
+use Rattle.calls.specs.Health.{is_lost, absent}
+use Rattle.calls.specs.Images.{disks_of, size, others_in, seen}
+use Rattle.calls.specs.Table.{refusal_of}
+use Rattle.calls.specs.Effect.{standing, block_of, view_of, scratch_left}
 use Rattle.calls.proofs.Laws.Passed.{passed, in-limits, Reaches, reads}
 use Rattle.calls.proofs.Laws.Write.{lS, ld, lp, parity-apart}
 
 -- block b stands as y says, inside the images, and its parity on another disk
 pub record Reached (r : Record) (len b room : ℕ) (y : Standing) : Type 0 where
   pub limits : GoodRecord r
-  pub here : isLost r.health ≡ false
+  pub here : is_lost r.health ≡ false
   pub long : len ≡ size r
   pub whole : room ≡ r.block
   pub is : y ≡ standing r b
-  pub stripe-lt : y.block.stripe < r.stripes
-  pub disk-lt : y.block.disk < disksOf r
-  pub parity-lt : y.parity.disk < disksOf r
+  pub stripe_lt : y.block.stripe < r.stripes
+  pub disk_lt : y.block.disk < disks_of r
+  pub parity_lt : y.parity.disk < disks_of r
   pub apart : y.parity.disk ≢ y.block.disk
 
-module _ (r : Record) (len b room : ℕ) (z : refusalOf r (feed (read b) len room) ≡ 0) (g : Geometry) (e : g ≡ geometry r) where
+module _ (r : Record) (len b room : ℕ) (z : refusal_of r (feed (read b) len room) ≡ 0) (g : Geometry) (e : g ≡ geometry r) where
   lets : Reaches r (capacity (geometry r)) len b room
   lets = reads r (capacity (geometry r)) len room b (passed r (capacity (geometry r)) (feed (read b) len room) z)
 
@@ -64,9 +64,9 @@ module _ (r : Record) (len b room : ℕ) (z : refusalOf r (feed (read b) len roo
         long = lets.long;
         whole = lets.whole;
         is = is;
-        stripe-lt = rw is (lS (geometry r) a b lb);
-        disk-lt = rw is (ld (geometry r) a b lb);
-        parity-lt = rw is (lp (geometry r) a b lb);
+        stripe_lt = rw is (lS (geometry r) a b lb);
+        disk_lt = rw is (ld (geometry r) a b lb);
+        parity_lt = rw is (lp (geometry r) a b lb);
         apart = rw is (parity-apart (geometry r) a b lb);
       }
 
@@ -76,17 +76,17 @@ module _ {r : Record} {len b room : ℕ} {y : Standing} (x : Reached r len b roo
 
   -- its place lies inside the images
   pub inside : {at : ℕ} → at ≡ offset r.block r.stripes q.stripe q.disk → at + room ≤ len
-  inside e = rw (e, x.whole, x.long) (place-in r.block r.stripes q.stripe q.disk (disksOf r) x.stripe-lt x.disk-lt)
+  inside e = rw (e, x.whole, x.long) (place-in r.block r.stripes q.stripe q.disk (disks_of r) x.stripe_lt x.disk_lt)
 
   -- no block is longer than what a copy goes through
   pub short : room ≤ 4096
-  short = rw x.whole x.limits.block-high
+  short = rw x.whole x.limits.block_high
 
-  pub summed : {N : ℕ} → N ≡ disksOf r → (1 ≤ room) × (q.stripe < r.stripes) × (N * (r.stripes * room) ≤ len)
-  summed e = rw (e, x.whole, x.long) (x.limits.block-low, x.stripe-lt, omega arith)
+  pub summed : {N : ℕ} → N ≡ disks_of r → (1 ≤ room) × (q.stripe < r.stripes) × (N * (r.stripes * room) ≤ len)
+  summed e = rw (e, x.whole, x.long) (x.limits.block_low, x.stripe_lt, omega arith)
 
   -- what is seen there, by whether its disk is absent
-  pub block_out : (img : List ℕ) → absent r.health q.stripe q.disk ≡ true → othersIn r img q.stripe q.disk ≡ block_of r img b
+  pub block_out : (img : List ℕ) → absent r.health q.stripe q.disk ≡ true → others_in r img q.stripe q.disk ≡ block_of r img b
   unfolding seen
   block_out img u = rw (x.is, rw x.is at u) refl
 
@@ -97,11 +97,11 @@ module _ {r : Record} {len b room : ℕ} {y : Standing} (x : Reached r len b roo
 
   -- .. and which view it is
   pub choice-out : (img scratch : List ℕ) → absent r.health q.stripe q.disk ≡ true
-      → (Scratch ≡ choice_of 0 (view_of r b)) × (othersIn r img q.stripe q.disk ≡ scratchLeft r img b scratch)
-  unfolding view_of scratchLeft
+      → (Scratch ≡ choice_of 0 (view_of r b)) × (others_in r img q.stripe q.disk ≡ scratch_left r img b scratch)
+  unfolding view_of scratch_left
   choice-out img scratch u = rw (x.is, rw x.is at u) (refl, refl)
 
   pub choice-in : (img scratch : List ℕ) {at : ℕ} → at ≡ offset r.block r.stripes q.stripe q.disk → absent r.health q.stripe q.disk ≡ false
-      → (Part at ≡ choice_of 0 (view_of r b)) × (scratch ≡ scratchLeft r img b scratch)
-  unfolding view_of scratchLeft
+      → (Part at ≡ choice_of 0 (view_of r b)) × (scratch ≡ scratch_left r img b scratch)
+  unfolding view_of scratch_left
   choice-in img scratch e u = rw (e, x.is, rw x.is at u) (refl, refl)

@@ -11,15 +11,15 @@ use lib.Seq.{take_all}
 use Rattle.layout.specs.declared.Place.{Place}
 use Rattle.layout.specs.declared.Standing.{Standing}
 use Rattle.blocks.specs.Block.{store, Disjoint}
-use Rattle.blocks.specs.Xor.{xorB}
+use Rattle.blocks.specs.Xor.{xor_b}
 use Rattle.blocks.specs.Stripe.{offset, place, PlaceInside, others}
 use Rattle.parity.specs.Fold.{folded}
 use Rattle.blocks.proofs.Laws.Block.{length-store}
 use Rattle.blocks.proofs.Laws.Stripe.{place-in, places-apart}
 use Rattle.state.specs.declared.types.Record.{Record}
 use Rattle.calls.specs.Health.{absent}
-use Rattle.calls.specs.Images.{disksOf, seen, Store, block, stored, unless}
-use Rattle.calls.specs.Effect.{place_of, parityOf, writeStores}
+use Rattle.calls.specs.Images.{disks_of, seen, Store, block, stored, unless}
+use Rattle.calls.specs.Effect.{place_of, parity_of, write_stores}
 use Rattle.calls.proofs.Laws.Column.{Single}
 use Rattle.calls.proofs.Laws.Holding.{single}
 use Rattle.access.proofs.Laws.Reaching.{Reached, inside, short, summed}
@@ -60,41 +60,41 @@ module _ {r : Record} {len b : ℕ} {v : List ℕ} {y : Standing} (a : Aimed r l
   other-in u = go (absent r.health q.stripe p) refl
     where
       go : (c : Bool) → absent r.health q.stripe p ≡ c → c ≡ false
-      go true w = absurd (apart (sym (single (disksOf r) r.stripes r.health x.here q.stripe p q.disk w u)))
+      go true w = absurd (apart (sym (single (disks_of r) r.stripes r.health x.here q.stripe p q.disk w u)))
       go false w = refl
 
   -- ---- what the folds ask for
 
-  pub sums : {N : ℕ} → N ≡ disksOf r → PlaceInside (length v) r.stripes q.stripe p N len × (q.disk ≢ p)
-  sums e = let (i, s, l) = summed x e in ((i, short x, s, rw e x.parity-lt, l), apart)
+  pub sums : {N : ℕ} → N ≡ disks_of r → PlaceInside (length v) r.stripes q.stripe p N len × (q.disk ≢ p)
+  sums e = let (i, s, l) = summed x e in ((i, short x, s, rw e x.parity_lt, l), apart)
 
   pub folds : {at to : ℕ} → at ≡ offset r.block r.stripes q.stripe q.disk → to ≡ offset r.block r.stripes q.stripe p
       → (to + length v ≤ len) × (at + length v ≤ len) × Disjoint to (length v) at (length v)
   folds f t = (
-    rw (t, x.whole, x.long) (place-in r.block r.stripes q.stripe p (disksOf r) x.stripe-lt x.parity-lt),
+    rw (t, x.whole, x.long) (place-in r.block r.stripes q.stripe p (disks_of r) x.stripe_lt x.parity_lt),
     inside x f,
-    rw (f, t, x.whole) (places-apart r.block r.stripes q.stripe p q.stripe q.disk x.stripe-lt x.stripe-lt (inr apart)),
+    rw (f, t, x.whole) (places-apart r.block r.stripes q.stripe p q.stripe q.disk x.stripe_lt x.stripe_lt (inr apart)),
   )
 
   -- ---- what the stores leave
 
-  pub data-out : (img : List ℕ) {N : ℕ} → N ≡ disksOf r → absent r.health q.stripe q.disk ≡ true
-      → store img (offset (length v) r.stripes q.stripe p) (xorB (xorB (place (length v) r.stripes img q.stripe p) (others (length v) r.stripes img q.stripe N q.disk)) v)
-      ≡ stored r.block r.stripes (writeStores r img b v) img
-  unfolding writeStores stored seen
+  pub data-out : (img : List ℕ) {N : ℕ} → N ≡ disks_of r → absent r.health q.stripe q.disk ≡ true
+      → store img (offset (length v) r.stripes q.stripe p) (xor_b (xor_b (place (length v) r.stripes img q.stripe p) (others (length v) r.stripes img q.stripe N q.disk)) v)
+      ≡ stored r.block r.stripes (write_stores r img b v) img
+  unfolding write_stores stored seen
   data-out img e u = rw (e, x.whole, x.is, rw x.is at (other-in u), rw x.is at u) refl
 
   -- the data over what is left of the images by the fold, or with no fold
   pub both-in : (img : List ℕ) {left : List ℕ} {at to : ℕ} → at ≡ offset r.block r.stripes q.stripe q.disk → to ≡ offset r.block r.stripes q.stripe p
       → absent r.health q.stripe q.disk ≡ false → absent r.health q.stripe p ≡ false → left ≡ store img to (folded img to at v)
-      → (length left ≡ length img) × (store left at v ≡ stored r.block r.stripes (writeStores r img b v) img)
-  unfolding writeStores stored seen
+      → (length left ≡ length img) × (store left at v ≡ stored r.block r.stripes (write_stores r img b v) img)
+  unfolding write_stores stored seen
   both-in img {left} {at} {to} f t u w z = (ap length z ∙ length-store img to (folded img to at v), rw (z, f, t, x.whole, x.is, rw x.is at w, rw x.is at u) refl)
 
   pub parity-out : (img : List ℕ) {left : List ℕ} {at : ℕ} → at ≡ offset r.block r.stripes q.stripe q.disk
       → absent r.health q.stripe q.disk ≡ false → absent r.health q.stripe p ≡ true → left ≡ img
-      → (length left ≡ length img) × (store left at v ≡ stored r.block r.stripes (writeStores r img b v) img)
-  unfolding writeStores stored seen
+      → (length left ≡ length img) × (store left at v ≡ stored r.block r.stripes (write_stores r img b v) img)
+  unfolding write_stores stored seen
   parity-out img f u w z = (ap length z, rw (z, f, x.is, rw x.is at w, rw x.is at u) refl)
 
   -- ---- and the first c of them
@@ -102,21 +102,21 @@ module _ {r : Record} {len b : ℕ} {v : List ℕ} {y : Standing} (a : Aimed r l
   abbrev gone : ℕ → Bool
   gone d = absent r.health (place_of r b).stripe d
 
-  few : (img : List ℕ) → (length (writeStores r img b v) ≤ 2)
-      × ((gone (parityOf r b).disk ≡ true) ⊎ (gone (place_of r b).disk ≡ true) → length (writeStores r img b v) ≤ 1)
-  unfolding writeStores
+  few : (img : List ℕ) → (length (write_stores r img b v) ≤ 2)
+      × ((gone (parity_of r b).disk ≡ true) ⊎ (gone (place_of r b).disk ≡ true) → length (write_stores r img b v) ≤ 1)
+  unfolding write_stores
   few img =
       let S : ℕ = (place_of r b).stripe in
       let d : ℕ = (place_of r b).disk in
-      let p' : ℕ = (parityOf r b).disk in
-      count (gone p') (gone d) (block S p' (xorB (xorB (seen r img S p') (seen r img S d)) v)) (block S d v)
+      let p' : ℕ = (parity_of r b).disk in
+      count (gone p') (gone d) (block S p' (xor_b (xor_b (seen r img S p') (seen r img S d)) v)) (block S d v)
 
   -- c are all
   abbrev All : List ℕ → ℕ → Type 0
-  All img c = stored r.block r.stripes (writeStores r img b v) img ≡ stored r.block r.stripes (take c (writeStores r img b v)) img
+  All img c = stored r.block r.stripes (write_stores r img b v) img ≡ stored r.block r.stripes (take c (write_stores r img b v)) img
 
-  all_made : (img : List ℕ) (c : ℕ) → length (writeStores r img b v) ≤ c → All img c
-  all_made img c l = ap (λ (ps : List Store). stored r.block r.stripes ps img) (sym (take_all c (writeStores r img b v) l))
+  all_made : (img : List ℕ) (c : ℕ) → length (write_stores r img b v) ≤ c → All img c
+  all_made img c l = ap (λ (ps : List Store). stored r.block r.stripes ps img) (sym (take_all c (write_stores r img b v) l))
 
   -- two always, and one where the other is skipped
   pub two_made : (img : List ℕ) {c : ℕ} → 2 ≤ c → All img c
@@ -128,6 +128,6 @@ module _ {r : Record} {len b : ℕ} {v : List ℕ} {y : Standing} (a : Aimed r l
   -- else one is the parity's
   pub parity-made : (img : List ℕ) {left : List ℕ} {c at to : ℕ} → at ≡ offset r.block r.stripes q.stripe q.disk → to ≡ offset r.block r.stripes q.stripe p
       → absent r.health q.stripe q.disk ≡ false → absent r.health q.stripe p ≡ false → left ≡ store img to (folded img to at v) → 1 ≤ c → c < 2
-      → left ≡ stored r.block r.stripes (take c (writeStores r img b v)) img
-  unfolding writeStores stored seen
+      → left ≡ stored r.block r.stripes (take c (write_stores r img b v)) img
+  unfolding write_stores stored seen
   parity-made img {left} {c} f t u w z l h = let e : c ≡ 1 = omega (arith, l, h) in rw (e, z, f, t, x.whole, x.is, rw x.is at w, rw x.is at u) refl

@@ -54,37 +54,37 @@ drop-store (x ∷ l) zero [] n h = refl
 drop-store (x ∷ l) zero (y ∷ b) zero h = absurd (omega arith)
 drop-store (x ∷ l) zero (y ∷ b) (suc n) h = drop-store l zero b n (omega arith)
 
-pub getD-store-other : (l : List ℕ) (at : ℕ) (b : List ℕ) (i d : ℕ) → (i < at) ⊎ (at + length b ≤ i) → get_or (store l at b) i d ≡ get_or l i d
-getD-store-other [] at b i d h = refl
-getD-store-other (x ∷ l) (suc at) b zero d h = refl
-getD-store-other (x ∷ l) (suc at) b (suc i) d (inl h) = getD-store-other l at b i d (inl (omega arith))
-getD-store-other (x ∷ l) (suc at) b (suc i) d (inr h) = getD-store-other l at b i d (inr (omega arith))
-getD-store-other (x ∷ l) zero [] i d h = refl
-getD-store-other (x ∷ l) zero (y ∷ b) i d (inl h) = absurd (omega arith)
-getD-store-other (x ∷ l) zero (y ∷ b) zero d (inr h) = absurd (omega arith)
-getD-store-other (x ∷ l) zero (y ∷ b) (suc i) d (inr h) = getD-store-other l zero b i d (inr (omega arith))
+pub get_or-store-other : (l : List ℕ) (at : ℕ) (b : List ℕ) (i d : ℕ) → (i < at) ⊎ (at + length b ≤ i) → get_or (store l at b) i d ≡ get_or l i d
+get_or-store-other [] at b i d h = refl
+get_or-store-other (x ∷ l) (suc at) b zero d h = refl
+get_or-store-other (x ∷ l) (suc at) b (suc i) d (inl h) = get_or-store-other l at b i d (inl (omega arith))
+get_or-store-other (x ∷ l) (suc at) b (suc i) d (inr h) = get_or-store-other l at b i d (inr (omega arith))
+get_or-store-other (x ∷ l) zero [] i d h = refl
+get_or-store-other (x ∷ l) zero (y ∷ b) i d (inl h) = absurd (omega arith)
+get_or-store-other (x ∷ l) zero (y ∷ b) zero d (inr h) = absurd (omega arith)
+get_or-store-other (x ∷ l) zero (y ∷ b) (suc i) d (inr h) = get_or-store-other l zero b i d (inr (omega arith))
 
 -- a block is read back
-pub blockAt-store : (l : List ℕ) (at : ℕ) (b : List ℕ) (n : ℕ) → length b ≡ n → at + n ≤ length l → block_at (store l at b) at n ≡ b
-blockAt-store [] at [] n e h = rw (← e)
-blockAt-store [] at (y ∷ b) n e h = absurd (omega arith)
-blockAt-store (x ∷ l) (suc at) b n e h = blockAt-store l at b n e (omega arith)
-blockAt-store (x ∷ l) zero [] n e h = rw (← e)
-blockAt-store (x ∷ l) zero (y ∷ b) zero e h = absurd (omega arith)
-blockAt-store (x ∷ l) zero (y ∷ b) (suc n) e h = ap (λ (r : List ℕ). y ∷ r) (blockAt-store l zero b n (omega arith) (omega arith))
+pub block_at-store : (l : List ℕ) (at : ℕ) (b : List ℕ) (n : ℕ) → length b ≡ n → at + n ≤ length l → block_at (store l at b) at n ≡ b
+block_at-store [] at [] n e h = rw (← e)
+block_at-store [] at (y ∷ b) n e h = absurd (omega arith)
+block_at-store (x ∷ l) (suc at) b n e h = block_at-store l at b n e (omega arith)
+block_at-store (x ∷ l) zero [] n e h = rw (← e)
+block_at-store (x ∷ l) zero (y ∷ b) zero e h = absurd (omega arith)
+block_at-store (x ∷ l) zero (y ∷ b) (suc n) e h = ap (λ (r : List ℕ). y ∷ r) (block_at-store l zero b n (omega arith) (omega arith))
 
 -- a block before a store
-blockAt-before : (l : List ℕ) (at : ℕ) (b : List ℕ) (at' n : ℕ) → at' + n ≤ at → block_at (store l at b) at' n ≡ block_at l at' n
-blockAt-before [] at b at' n h = refl
-blockAt-before (x ∷ l) zero b at' zero h = refl
-blockAt-before (x ∷ l) zero b at' (suc n) h = absurd (omega arith)
-blockAt-before (x ∷ l) (suc at) b (suc at') n h = blockAt-before l at b at' n (omega arith)
-blockAt-before (x ∷ l) (suc at) b zero zero h = refl
-blockAt-before (x ∷ l) (suc at) b zero (suc n) h = ap (λ (r : List ℕ). x ∷ r) (blockAt-before l at b zero n (omega arith))
+block_at-before : (l : List ℕ) (at : ℕ) (b : List ℕ) (at' n : ℕ) → at' + n ≤ at → block_at (store l at b) at' n ≡ block_at l at' n
+block_at-before [] at b at' n h = refl
+block_at-before (x ∷ l) zero b at' zero h = refl
+block_at-before (x ∷ l) zero b at' (suc n) h = absurd (omega arith)
+block_at-before (x ∷ l) (suc at) b (suc at') n h = block_at-before l at b at' n (omega arith)
+block_at-before (x ∷ l) (suc at) b zero zero h = refl
+block_at-before (x ∷ l) (suc at) b zero (suc n) h = ap (λ (r : List ℕ). x ∷ r) (block_at-before l at b zero n (omega arith))
 
-pub blockAt-other : (l : List ℕ) (at : ℕ) (b : List ℕ) (at' n : ℕ) → Disjoint at (length b) at' n → block_at (store l at b) at' n ≡ block_at l at' n
-blockAt-other l at b at' n (inl h) = ap (take n) (drop-store l at b at' h)
-blockAt-other l at b at' n (inr h) = blockAt-before l at b at' n h
+pub block_at-other : (l : List ℕ) (at : ℕ) (b : List ℕ) (at' n : ℕ) → Disjoint at (length b) at' n → block_at (store l at b) at' n ≡ block_at l at' n
+block_at-other l at b at' n (inl h) = ap (take n) (drop-store l at b at' h)
+block_at-other l at b at' n (inr h) = block_at-before l at b at' n h
 
 -- a whole list stored over another
 pub store-whole : (l b : List ℕ) → length b ≡ length l → store l 0 b ≡ b
@@ -93,15 +93,15 @@ store-whole [] (y ∷ b) e = absurd (omega arith)
 store-whole (x ∷ l) [] e = absurd (omega arith)
 store-whole (x ∷ l) (y ∷ b) e = ap (λ (r : List ℕ). y ∷ r) (store-whole l b (omega arith))
 
-pub length-blockAt : (l : List ℕ) (at n : ℕ) → at + n ≤ length l → length (block_at l at n) ≡ n
-length-blockAt l at n h = length-take-le n (drop at l) (simp length-drop (omega arith))
+pub length-block_at : (l : List ℕ) (at n : ℕ) → at + n ≤ length l → length (block_at l at n) ≡ n
+length-block_at l at n h = length-take-le n (drop at l) (simp length-drop (omega arith))
 
-pub getD-blockAt : (l : List ℕ) (at n i : ℕ) → i < n → get_or (block_at l at n) i 0 ≡ get_or l (at + i) 0
-getD-blockAt l at n i h = rw (get_or-take, get_or-drop)
+pub get_or-block_at : (l : List ℕ) (at n i : ℕ) → i < n → get_or (block_at l at n) i 0 ≡ get_or l (at + i) 0
+get_or-block_at l at n i h = rw (get_or-take, get_or-drop)
 
 -- a whole list is a block
-pub blockAt-whole : (l : List ℕ) (n : ℕ) → length l ≡ n → block_at l 0 n ≡ l
-blockAt-whole l n e = take_all n l (omega arith)
+pub block_at-whole : (l : List ℕ) (n : ℕ) → length l ≡ n → block_at l 0 n ≡ l
+block_at-whole l n e = take_all n l (omega arith)
 
 -- a part of a block is a part of the list
 drop-take : (l : List ℕ) (B at n : ℕ) → at + n ≤ B → take n (drop at (take B l)) ≡ take n (drop at l)
@@ -111,8 +111,8 @@ drop-take [] (suc B) at n h = refl
 drop-take (x ∷ l) (suc B) zero n h = take-take n (suc B) (x ∷ l) (omega arith)
 drop-take (x ∷ l) (suc B) (suc at) n h = drop-take l B at n (omega arith)
 
-pub blockAt-within : (l : List ℕ) (from B at n : ℕ) → at + n ≤ B → block_at (block_at l from B) at n ≡ block_at l (from + at) n
-blockAt-within l from B at n h = drop-take (drop from l) B at n h ∙ ap (take n) (drop-drop at from l)
+pub block_at-within : (l : List ℕ) (from B at n : ℕ) → at + n ≤ B → block_at (block_at l from B) at n ≡ block_at l (from + at) n
+block_at-within l from B at n h = drop-take (drop from l) B at n h ∙ ap (take n) (drop-drop at from l)
 
 take_short : (n : ℕ) (l : List ℕ) → length (take n l) ≤ n
 take_short zero l = omega arith
@@ -120,30 +120,30 @@ take_short (suc n) [] = omega arith
 take_short (suc n) (x ∷ l) = omega (arith, take_short n l)
 
 -- shorter only where the list ends
-pub blockAt-short : (l : List ℕ) (at n : ℕ) → length (block_at l at n) ≤ n
-blockAt-short l at n = take_short n (drop at l)
+pub block_at-short : (l : List ℕ) (at n : ℕ) → length (block_at l at n) ≤ n
+block_at-short l at n = take_short n (drop at l)
 
 -- the first n of k zeroes are n
 pub length-prefix : (n k : ℕ) → n ≤ k → length (take n (zeros k)) ≡ n
 length-prefix n k h = length-take-le n (zeros k) (rw (length-replicate {A = ℕ} k 0) h)
 
 -- a part of zeroes
-pub blockAt-zeros : (k at n : ℕ) → at + n ≤ k → block_at (zeros k) at n ≡ zeros n
-blockAt-zeros zero at zero h = refl
-blockAt-zeros zero at (suc n) h = absurd (omega arith)
-blockAt-zeros (suc k) zero zero h = refl
-blockAt-zeros (suc k) zero (suc n) h = ap (λ (r : List ℕ). 0 ∷ r) (blockAt-zeros k zero n (omega arith))
-blockAt-zeros (suc k) (suc at) n h = blockAt-zeros k at n (omega arith)
+pub block_at-zeros : (k at n : ℕ) → at + n ≤ k → block_at (zeros k) at n ≡ zeros n
+block_at-zeros zero at zero h = refl
+block_at-zeros zero at (suc n) h = absurd (omega arith)
+block_at-zeros (suc k) zero zero h = refl
+block_at-zeros (suc k) zero (suc n) h = ap (λ (r : List ℕ). 0 ∷ r) (block_at-zeros k zero n (omega arith))
+block_at-zeros (suc k) (suc at) n h = block_at-zeros k at n (omega arith)
 
 -- a block of zeroes is two, one after the other
 pub zeros-append : (a b : ℕ) → zeros (a + b) ≡ zeros a ++ zeros b
 zeros-append a b = sym (replicate-append-replicate a b 0)
 
 -- a block is its first byte and the rest of it; or two blocks, one after the other
-pub blockAt-cons : (l : List ℕ) (at n : ℕ) → at < length l → block_at l at (suc n) ≡ get_or l at 0 ∷ block_at l (at + 1) n
-blockAt-cons [] at n h = absurd (omega arith)
-blockAt-cons (x ∷ l) zero n h = refl
-blockAt-cons (x ∷ l) (suc at) n h = rw suc-add (blockAt-cons l at n (omega arith))
+pub block_at-cons : (l : List ℕ) (at n : ℕ) → at < length l → block_at l at (suc n) ≡ get_or l at 0 ∷ block_at l (at + 1) n
+block_at-cons [] at n h = absurd (omega arith)
+block_at-cons (x ∷ l) zero n h = refl
+block_at-cons (x ∷ l) (suc at) n h = rw suc-add (block_at-cons l at n (omega arith))
 
-pub blockAt-split : (l : List ℕ) (at m n : ℕ) → block_at l at (m + n) ≡ block_at l at m ++ block_at l (at + m) n
-blockAt-split l at m n = take-add m n (drop at l) ∙ ap (λ (r : List ℕ). take m (drop at l) ++ take n r) (drop-drop m at l)
+pub block_at-split : (l : List ℕ) (at m n : ℕ) → block_at l at (m + n) ≡ block_at l at m ++ block_at l (at + m) n
+block_at-split l at m n = take-add m n (drop at l) ∙ ap (λ (r : List ℕ). take m (drop at l) ++ take n r) (drop-drop m at l)

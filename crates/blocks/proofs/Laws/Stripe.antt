@@ -8,12 +8,12 @@ use native.Mathlib.Nat.{mul-le-mul_right}
 use native.Mathlib.Omega.{arith}
 use lib.ListN.{length, get_or, length-append, length-replicate}
 use Rattle.blocks.specs.Block.{store, Disjoint}
-use Rattle.blocks.specs.Xor.{xorB, xorAll, without}
+use Rattle.blocks.specs.Xor.{xor_b, xor_all, without}
 use Rattle.blocks.specs.Stripe.{offset, place, stripe, others}
-use Rattle.blocks.proofs.Laws.Block.{getD-store-other, blockAt-store, blockAt-other, length-blockAt, getD-blockAt, blockAt-short}
-use Rattle.blocks.proofs.Laws.Xor.{getD-xorB, getD-zeros, length-xorB-short, xorAll-snoc, without-snoc-same, without-snoc-other}
+use Rattle.blocks.proofs.Laws.Block.{get_or-store-other, block_at-store, block_at-other, length-block_at, get_or-block_at, block_at-short}
+use Rattle.blocks.proofs.Laws.Xor.{get_or-xor_b, get_or-zeros, length-xor_b-short, xor_all-snoc, without-snoc-same, without-snoc-other}
 use Rattle.blocks.proofs.Laws.Rows.{put, put_same, put_other, ◌⊕◌, sum, rest, zero-r}
-use Rattle.blocks.proofs.Laws.Grid.{storeAt, storeAt-same, storeAt-row, storeAt-far}
+use Rattle.blocks.proofs.Laws.Grid.{store_at, store_at-same, store_at-row, store_at-far}
 
 -- byte j of place (S, d)
 abbrev pub cell : ℕ → ℕ → List ℕ → ℕ → ℕ → ℕ → ℕ
@@ -61,37 +61,37 @@ byte-apart B T S d S' d' j hs hs' hj ne = go (places-apart B T S d S' d' hs hs' 
 -- ---- a place
 
 pub length-place : (B T : ℕ) (l : List ℕ) (S d N : ℕ) → S < T → d < N → N * (T * B) ≤ length l → length (place B T l S d) ≡ B
-length-place B T l S d N hs hd room = length-blockAt l (offset B T S d) B (omega (arith, place-in B T S d N hs hd))
+length-place B T l S d N hs hd room = length-block_at l (offset B T S d) B (omega (arith, place-in B T S d N hs hd))
 
-pub getD-place : (B T : ℕ) (l : List ℕ) (S d j : ℕ) → j < B → get_or (place B T l S d) j 0 ≡ cell B T l j S d
-getD-place B T l S d j hj = getD-blockAt l (offset B T S d) B j hj
+pub get_or-place : (B T : ℕ) (l : List ℕ) (S d j : ℕ) → j < B → get_or (place B T l S d) j 0 ≡ cell B T l j S d
+get_or-place B T l S d j hj = get_or-block_at l (offset B T S d) B j hj
 
 -- a store into another place leaves it
 pub place-store-other : (B T : ℕ) (l : List ℕ) (S d S' d' : ℕ) (v : List ℕ) → S < T → S' < T → (S' ≢ S) ⊎ (d' ≢ d) → length v ≡ B
     → place B T (store l (offset B T S' d') v) S d ≡ place B T l S d
 place-store-other B T l S d S' d' v hs hs' ne full =
-    blockAt-other l (offset B T S' d') v (offset B T S d) B
+    block_at-other l (offset B T S' d') v (offset B T S d) B
     (subst (λ (n : ℕ). Disjoint (offset B T S' d') n (offset B T S d) B) (sym full) (⊎_elim inr inl (places-apart B T S d S' d' hs hs' ne)))
 
 -- a block stored into place (S, d) is that place of the grid of bytes j replaced
 pub cell-store : (B T N : ℕ) (l : List ℕ) (S d : ℕ) (v : List ℕ) (j S' d' : ℕ) → length l ≡ N * (T * B) → S < T → d < N → length v ≡ B → j < B → S' < T
-    → cell B T (store l (offset B T S d) v) j S' d' ≡ storeAt (cell B T l j) S d (get_or v j 0) S' d'
+    → cell B T (store l (offset B T S d) v) j S' d' ≡ store_at (cell B T l j) S d (get_or v j 0) S' d'
 cell-store B T N l S d v j S' d' size hs hd full hj hs' = go (ℕ_discrete S' S) (ℕ_discrete d' d)
   where
     far : (S' ≢ S) ⊎ (d' ≢ d) → cell B T (store l (offset B T S d) v) j S' d' ≡ cell B T l j S' d'
     far ne =
-        getD-store-other l (offset B T S d) v (offset B T S' d' + j) 0
+        get_or-store-other l (offset B T S d) v (offset B T S' d' + j) 0
         (subst (λ (n : ℕ). (offset B T S' d' + j < offset B T S d) ⊎ (offset B T S d + n ≤ offset B T S' d' + j)) (sym full) (byte-apart B T S d S' d' j hs hs' hj ne))
 
     here : cell B T (store l (offset B T S d) v) j S d ≡ get_or v j 0
     here =
-        sym (getD-place B T (store l (offset B T S d) v) S d j hj)
-        ∙ ap (λ (b : List ℕ). get_or b j 0) (blockAt-store l (offset B T S d) v B full (rw size (place-in B T S d N hs hd)))
+        sym (get_or-place B T (store l (offset B T S d) v) S d j hj)
+        ∙ ap (λ (b : List ℕ). get_or b j 0) (block_at-store l (offset B T S d) v B full (rw size (place-in B T S d N hs hd)))
 
-    go : Dec (S' ≡ S) → Dec (d' ≡ d) → cell B T (store l (offset B T S d) v) j S' d' ≡ storeAt (cell B T l j) S d (get_or v j 0) S' d'
-    go (yes p) (yes p') = rw (p, p') (here ∙ sym (storeAt-same (cell B T l j) S d (get_or v j 0)))
-    go (yes p) (no n) = far (inr n) ∙ rw (p, storeAt-row (cell B T l j) S d (get_or v j 0) d' n)
-    go (no n) x = far (inl n) ∙ sym (storeAt-far (cell B T l j) S d (get_or v j 0) S' d' n)
+    go : Dec (S' ≡ S) → Dec (d' ≡ d) → cell B T (store l (offset B T S d) v) j S' d' ≡ store_at (cell B T l j) S d (get_or v j 0) S' d'
+    go (yes p) (yes p') = rw (p, p') (here ∙ sym (store_at-same (cell B T l j) S d (get_or v j 0)))
+    go (yes p) (no n) = far (inr n) ∙ rw (p, store_at-row (cell B T l j) S d (get_or v j 0) d' n)
+    go (no n) x = far (inl n) ∙ sym (store_at-far (cell B T l j) S d (get_or v j 0) S' d' n)
 
 -- ---- the xor over a stripe
 
@@ -100,21 +100,21 @@ length-stripe B T l S zero = refl
 length-stripe B T l S (suc N) = length-append (stripe B T l S N) (place B T l S N ∷ []) ∙ ap (λ (k : ℕ). k + 1) (length-stripe B T l S N) ∙ omega arith
 
 -- one disk more: its place is xored in, or it is the one left out
-pub others-in : (B T : ℕ) (l : List ℕ) (S N d : ℕ) → N ≢ d → others B T l S (suc N) d ≡ xorB (others B T l S N d) (place B T l S N)
+pub others-in : (B T : ℕ) (l : List ℕ) (S N d : ℕ) → N ≢ d → others B T l S (suc N) d ≡ xor_b (others B T l S N d) (place B T l S N)
 others-in B T l S N d ne =
-    ap (xorAll B) (without-snoc-other (stripe B T l S N) (place B T l S N) d (λ q. ne (sym (length-stripe B T l S N) ∙ q)))
-    ∙ xorAll-snoc B (without (stripe B T l S N) d) (place B T l S N)
+    ap (xor_all B) (without-snoc-other (stripe B T l S N) (place B T l S N) d (λ q. ne (sym (length-stripe B T l S N) ∙ q)))
+    ∙ xor_all-snoc B (without (stripe B T l S N) d) (place B T l S N)
 
 pub others-out : (B T : ℕ) (l : List ℕ) (S N d : ℕ) → N ≡ d → others B T l S (suc N) d ≡ others B T l S N d
-others-out B T l S N d e = ap (xorAll B) (without-snoc-same (stripe B T l S N) (place B T l S N) d (sym e ∙ sym (length-stripe B T l S N)))
+others-out B T l S N d e = ap (xor_all B) (without-snoc-same (stripe B T l S N) (place B T l S N) d (sym e ∙ sym (length-stripe B T l S N)))
 
 -- if d is none of the N disks, none is left out
-pub others-all : (B T : ℕ) (l : List ℕ) (S N d : ℕ) → N ≤ d → others B T l S N d ≡ xorAll B (stripe B T l S N)
+pub others-all : (B T : ℕ) (l : List ℕ) (S N d : ℕ) → N ≤ d → others B T l S N d ≡ xor_all B (stripe B T l S N)
 others-all B T l S zero d h = refl
 others-all B T l S (suc N) d h =
     others-in B T l S N d (λ e. absurd (omega arith))
-    ∙ ap (λ (b : List ℕ). xorB b (place B T l S N)) (others-all B T l S N d (omega arith))
-    ∙ sym (xorAll-snoc B (stripe B T l S N) (place B T l S N))
+    ∙ ap (λ (b : List ℕ). xor_b b (place B T l S N)) (others-all B T l S N d (omega arith))
+    ∙ sym (xor_all-snoc B (stripe B T l S N) (place B T l S N))
 
 pub length-others : (B T : ℕ) (l : List ℕ) (S N d : ℕ) → length (others B T l S N d) ≡ B
 length-others B T l S zero d = length-replicate B 0
@@ -122,14 +122,14 @@ length-others B T l S (suc N) d =
     let ih : length (others B T l S N d) ≡ B = length-others B T l S N d in
     elim (ℕ_discrete N d) [
       | yes e ↦ ap length (others-out B T l S N d e) ∙ ih
-      | no ne ↦ ap length (others-in B T l S N d ne) ∙ length-xorB-short (others B T l S N d) (place B T l S N) B ih (blockAt-short l (offset B T S N) B)
+      | no ne ↦ ap length (others-in B T l S N d ne) ∙ length-xor_b-short (others B T l S N d) (place B T l S N) B ih (block_at-short l (offset B T S N) B)
     ]
 
 -- of all but disk d's, byte by byte
-pub getD-others : (B T : ℕ) (l : List ℕ) (S N d j : ℕ) → j < B → get_or (others B T l S N d) j 0 ≡ rest N d (cell B T l j S)
+pub get_or-others : (B T : ℕ) (l : List ℕ) (S N d j : ℕ) → j < B → get_or (others B T l S N d) j 0 ≡ rest N d (cell B T l j S)
 unfolding rest sum
-getD-others B T l S zero d j hj = getD-zeros B j
-getD-others B T l S (suc N) d j hj = go (ℕ_discrete N d) (getD-others B T l S N d j hj)
+get_or-others B T l S zero d j hj = get_or-zeros B j
+get_or-others B T l S (suc N) d j hj = go (ℕ_discrete N d) (get_or-others B T l S N d j hj)
   where
     f : ℕ → ℕ
     f = cell B T l j S
@@ -139,8 +139,8 @@ getD-others B T l S (suc N) d j hj = go (ℕ_discrete N d) (getD-others B T l S 
         ap (λ (b : List ℕ). get_or b j 0) (others-out B T l S N d e) ∙ ih
         ∙ rw (← e, put_same f N 0) (sym (zero-r (sum N (put f N 0))))
     go (no ne) ih =
-        ap (λ (b : List ℕ). get_or b j 0) (others-in B T l S N d ne) ∙ getD-xorB (others B T l S N d) (place B T l S N) j
-        ∙ ap₂ ◌⊕◌ ih (getD-place B T l S N j hj ∙ sym (put_other f d 0 N ne))
+        ap (λ (b : List ℕ). get_or b j 0) (others-in B T l S N d ne) ∙ get_or-xor_b (others B T l S N d) (place B T l S N) j
+        ∙ ap₂ ◌⊕◌ ih (get_or-place B T l S N j hj ∙ sym (put_other f d 0 N ne))
 
 -- a store into another stripe, or into disk d itself, leaves the xor of all but disk d's
 pub others-store : (B T : ℕ) (l : List ℕ) (S N d S' d' : ℕ) (v : List ℕ) → S < T → S' < T → (S' ≢ S) ⊎ (d' ≡ d) → length v ≡ B
@@ -158,5 +158,5 @@ others-store B T l S (suc N) d S' d' v hs hs' o full = go (ℕ_discrete N d) (ot
     go : Dec (N ≡ d) → others B T l' S N d ≡ others B T l S N d → others B T l' S (suc N) d ≡ others B T l S (suc N) d
     go (yes e) ih = others-out B T l' S N d e ∙ ih ∙ sym (others-out B T l S N d e)
     go (no ne) ih =
-        others-in B T l' S N d ne ∙ ap₂ xorB ih (place-store-other B T l S N S' d' v hs hs' (away ne o) full)
+        others-in B T l' S N d ne ∙ ap₂ xor_b ih (place-store-other B T l S N S' d' v hs hs' (away ne o) full)
         ∙ sym (others-in B T l S N d ne)

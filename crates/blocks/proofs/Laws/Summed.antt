@@ -11,12 +11,12 @@ use borrow.Author.Tests.{ne_eqb}
 use lib.Dec.{eqb}
 use lib.ListN.{length}
 use Rattle.blocks.specs.Block.{block_at, zeros}
-use Rattle.blocks.specs.Xor.{xorB}
+use Rattle.blocks.specs.Xor.{xor_b}
 use Rattle.blocks.specs.Stripe.{offset, place, others}
 use Rattle.blocks.specs.declared.types.Group.{Group}
 use Rattle.blocks.specs.Sum.{sum_to, Begun, GroupBegun, PartBegun}
-use Rattle.blocks.proofs.Laws.Block.{blockAt-within, blockAt-zeros}
-use Rattle.blocks.proofs.Laws.Xor.{blockAt-xorB}
+use Rattle.blocks.proofs.Laws.Block.{block_at-within, block_at-zeros}
+use Rattle.blocks.proofs.Laws.Xor.{block_at-xor_b}
 use Rattle.blocks.proofs.Laws.Stripe.{others-in, others-out, length-others}
 
 -- what a group of disks begins with: zeroes before disk 0, else what was left in b
@@ -25,7 +25,7 @@ pub begun : (l : List ℕ) (B : ℕ) (x : Group) (b : List ℕ) (at n : ℕ) →
 begun l B x b at n h o = go x.first o
   where
     go : (k : ℕ) → (k ≡ 0) ⊎ (block_at b at n ≡ block_at (sum_to B l x k) at n) → cond (eqb k 0) (zeros n) (block_at b at n) ≡ block_at (sum_to B l x k) at n
-    go zero q = sym (blockAt-zeros B at n h)
+    go zero q = sym (block_at-zeros B at n h)
     go (suc k) (inl e) = absurd (omega arith)
     go (suc k) (inr q) = rw (ne_eqb (suc k) 0 (λ (e : suc k ≡ 0). absurd (omega arith))) q
 
@@ -62,14 +62,14 @@ pub record SummedPart (l : List ℕ) (T S out B last at n : ℕ) (b : List ℕ) 
 
 -- a turn that xors a place in, and one that leaves it out
 module _ {l : List ℕ} {T S out B last at n : ℕ} {b b' : List ℕ} {d : ℕ} (lt : d < last) where
-  pub part_in : {from : ℕ} → at + n ≤ B → d ≢ out → from ≡ offset B T S d + at → SummedPart l T S out B last at n b d → b' ≡ xorB b (block_at l from (length b)) → length b' ≡ length b
+  pub part_in : {from : ℕ} → at + n ≤ B → d ≢ out → from ≡ offset B T S d + at → SummedPart l T S out B last at n b d → b' ≡ xor_b b (block_at l from (length b)) → length b' ≡ length b
       → SummedPart l T S out B last at n b' (d + 1)
   part_in h ne p f e k =
       record {
         is =
-            e ∙ ap₂ (λ (i m : ℕ). xorB b (block_at l i m)) p f.size
-            ∙ ap₂ xorB f.is (sym (blockAt-within l (offset B T S d) B at n h))
-            ∙ sym (blockAt-xorB (others B T l S d out) (place B T l S d) at n)
+            e ∙ ap₂ (λ (i m : ℕ). xor_b b (block_at l i m)) p f.size
+            ∙ ap₂ xor_b f.is (sym (block_at-within l (offset B T S d) B at n h))
+            ∙ sym (block_at-xor_b (others B T l S d out) (place B T l S d) at n)
             ∙ ap (λ (x : List ℕ). block_at x at n) (sym (others-in B T l S d out ne))
             ∙ rw (add-one d);
         size = k ∙ f.size;

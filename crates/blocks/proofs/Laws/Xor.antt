@@ -8,7 +8,7 @@ use lib.Arith.{bin_ind}
 use lib.Bits.{bit_xor, differ, xor_step, xor_shr, xor_mod, xor_comm, xor_self, xor_zero_l, xor_zero_r}
 use lib.ListN.{length, get_or, take, drop}
 use Rattle.blocks.specs.Block.{block_at, zeros}
-use Rattle.blocks.specs.Xor.{xorB, xorAll, without}
+use Rattle.blocks.specs.Xor.{xor_b, xor_all, without}
 
 digit_assoc : (x y z : ℕ) → x < 2 → y < 2 → z < 2 → differ (bit_xor x y) z ≡ differ x (bit_xor y z)
 digit_assoc zero zero z hx hy hz = refl
@@ -37,79 +37,79 @@ xor_assoc =
 
 -- ---- two blocks
 
-pub xorB-nil : (a : List ℕ) → xorB a [] ≡ a
-xorB-nil [] = refl
-xorB-nil (x ∷ a) = refl
+pub xor_b-nil : (a : List ℕ) → xor_b a [] ≡ a
+xor_b-nil [] = refl
+xor_b-nil (x ∷ a) = refl
 
-pub xorB-comm : (a b : List ℕ) → xorB a b ≡ xorB b a
-xorB-comm [] b = sym (xorB-nil b)
-xorB-comm (x ∷ a) [] = refl
-xorB-comm (x ∷ a) (y ∷ b) = ap₂ (λ (h : ℕ) (t : List ℕ). h ∷ t) (xor_comm x y) (xorB-comm a b)
+pub xor_b-comm : (a b : List ℕ) → xor_b a b ≡ xor_b b a
+xor_b-comm [] b = sym (xor_b-nil b)
+xor_b-comm (x ∷ a) [] = refl
+xor_b-comm (x ∷ a) (y ∷ b) = ap₂ (λ (h : ℕ) (t : List ℕ). h ∷ t) (xor_comm x y) (xor_b-comm a b)
 
-pub xorB-assoc : (a b c : List ℕ) → xorB (xorB a b) c ≡ xorB a (xorB b c)
-xorB-assoc [] b c = refl
-xorB-assoc (x ∷ a) [] c = refl
-xorB-assoc (x ∷ a) (y ∷ b) [] = refl
-xorB-assoc (x ∷ a) (y ∷ b) (z ∷ c) = ap₂ (λ (h : ℕ) (t : List ℕ). h ∷ t) (xor_assoc x y z) (xorB-assoc a b c)
+pub xor_b-assoc : (a b c : List ℕ) → xor_b (xor_b a b) c ≡ xor_b a (xor_b b c)
+xor_b-assoc [] b c = refl
+xor_b-assoc (x ∷ a) [] c = refl
+xor_b-assoc (x ∷ a) (y ∷ b) [] = refl
+xor_b-assoc (x ∷ a) (y ∷ b) (z ∷ c) = ap₂ (λ (h : ℕ) (t : List ℕ). h ∷ t) (xor_assoc x y z) (xor_b-assoc a b c)
 
 -- the shorter of two counts as if zeroes followed it
-pub length-xorB-short : (a b : List ℕ) (n : ℕ) → length a ≡ n → length b ≤ n → length (xorB a b) ≡ n
-length-xorB-short [] [] n p q = p
-length-xorB-short [] (y ∷ b) n p q = omega arith
-length-xorB-short (x ∷ a) [] n p q = p
-length-xorB-short (x ∷ a) (y ∷ b) zero p q = absurd (omega arith)
-length-xorB-short (x ∷ a) (y ∷ b) (suc n) p q = ap suc (length-xorB-short a b n (omega arith) (omega arith))
+pub length-xor_b-short : (a b : List ℕ) (n : ℕ) → length a ≡ n → length b ≤ n → length (xor_b a b) ≡ n
+length-xor_b-short [] [] n p q = p
+length-xor_b-short [] (y ∷ b) n p q = omega arith
+length-xor_b-short (x ∷ a) [] n p q = p
+length-xor_b-short (x ∷ a) (y ∷ b) zero p q = absurd (omega arith)
+length-xor_b-short (x ∷ a) (y ∷ b) (suc n) p q = ap suc (length-xor_b-short a b n (omega arith) (omega arith))
 
-pub length-xorB : (a b : List ℕ) (n : ℕ) → length a ≡ n → length b ≡ n → length (xorB a b) ≡ n
-length-xorB a b n p q = length-xorB-short a b n p (omega arith)
+pub length-xor_b : (a b : List ℕ) (n : ℕ) → length a ≡ n → length b ≡ n → length (xor_b a b) ≡ n
+length-xor_b a b n p q = length-xor_b-short a b n p (omega arith)
 
-pub getD-xorB : (a b : List ℕ) (j : ℕ) → get_or (xorB a b) j 0 ≡ bit_xor (get_or a j 0) (get_or b j 0)
-getD-xorB [] b j = refl
-getD-xorB (x ∷ a) [] j = sym (xor_zero_r (get_or (x ∷ a) j 0))
-getD-xorB (x ∷ a) (y ∷ b) zero = refl
-getD-xorB (x ∷ a) (y ∷ b) (suc j) = getD-xorB a b j
+pub get_or-xor_b : (a b : List ℕ) (j : ℕ) → get_or (xor_b a b) j 0 ≡ bit_xor (get_or a j 0) (get_or b j 0)
+get_or-xor_b [] b j = refl
+get_or-xor_b (x ∷ a) [] j = sym (xor_zero_r (get_or (x ∷ a) j 0))
+get_or-xor_b (x ∷ a) (y ∷ b) zero = refl
+get_or-xor_b (x ∷ a) (y ∷ b) (suc j) = get_or-xor_b a b j
 
-pub getD-zeros : (n j : ℕ) → get_or (zeros n) j 0 ≡ 0
-getD-zeros zero j = refl
-getD-zeros (suc n) zero = refl
-getD-zeros (suc n) (suc j) = getD-zeros n j
+pub get_or-zeros : (n j : ℕ) → get_or (zeros n) j 0 ≡ 0
+get_or-zeros zero j = refl
+get_or-zeros (suc n) zero = refl
+get_or-zeros (suc n) (suc j) = get_or-zeros n j
 
-take-xorB : (n : ℕ) (a b : List ℕ) → take n (xorB a b) ≡ xorB (take n a) (take n b)
-take-xorB zero a b = refl
-take-xorB (suc n) [] b = refl
-take-xorB (suc n) (x ∷ a) [] = refl
-take-xorB (suc n) (x ∷ a) (y ∷ b) = ap (λ (r : List ℕ). bit_xor x y ∷ r) (take-xorB n a b)
+take-xor_b : (n : ℕ) (a b : List ℕ) → take n (xor_b a b) ≡ xor_b (take n a) (take n b)
+take-xor_b zero a b = refl
+take-xor_b (suc n) [] b = refl
+take-xor_b (suc n) (x ∷ a) [] = refl
+take-xor_b (suc n) (x ∷ a) (y ∷ b) = ap (λ (r : List ℕ). bit_xor x y ∷ r) (take-xor_b n a b)
 
-drop-xorB : (n : ℕ) (a b : List ℕ) → drop n (xorB a b) ≡ xorB (drop n a) (drop n b)
-drop-xorB zero a b = refl
-drop-xorB (suc n) [] b = refl
-drop-xorB (suc n) (x ∷ a) [] = sym (xorB-nil (drop n a))
-drop-xorB (suc n) (x ∷ a) (y ∷ b) = drop-xorB n a b
+drop-xor_b : (n : ℕ) (a b : List ℕ) → drop n (xor_b a b) ≡ xor_b (drop n a) (drop n b)
+drop-xor_b zero a b = refl
+drop-xor_b (suc n) [] b = refl
+drop-xor_b (suc n) (x ∷ a) [] = sym (xor_b-nil (drop n a))
+drop-xor_b (suc n) (x ∷ a) (y ∷ b) = drop-xor_b n a b
 
 -- a part of the xor is the xor of the parts
-pub blockAt-xorB : (a b : List ℕ) (at n : ℕ) → block_at (xorB a b) at n ≡ xorB (block_at a at n) (block_at b at n)
-blockAt-xorB a b at n = ap (take n) (drop-xorB at a b) ∙ take-xorB n (drop at a) (drop at b)
+pub block_at-xor_b : (a b : List ℕ) (at n : ℕ) → block_at (xor_b a b) at n ≡ xor_b (block_at a at n) (block_at b at n)
+block_at-xor_b a b at n = ap (take n) (drop-xor_b at a b) ∙ take-xor_b n (drop at a) (drop at b)
 
 -- xor with zeroes changes nothing
-pub xorB-zeros : (a : List ℕ) (n : ℕ) → n ≤ length a → xorB a (zeros n) ≡ a
-xorB-zeros a zero h = xorB-nil a
-xorB-zeros [] (suc n) h = absurd (omega arith)
-xorB-zeros (x ∷ a) (suc n) h = ap₂ (λ (y : ℕ) (r : List ℕ). y ∷ r) (xor_zero_r x) (xorB-zeros a n (omega arith))
+pub xor_b-zeros : (a : List ℕ) (n : ℕ) → n ≤ length a → xor_b a (zeros n) ≡ a
+xor_b-zeros a zero h = xor_b-nil a
+xor_b-zeros [] (suc n) h = absurd (omega arith)
+xor_b-zeros (x ∷ a) (suc n) h = ap₂ (λ (y : ℕ) (r : List ℕ). y ∷ r) (xor_zero_r x) (xor_b-zeros a n (omega arith))
 
 -- what is xored in twice is gone
-pub xorB-cancel : (a b : List ℕ) → length a ≤ length b → xorB a (xorB b a) ≡ b
-xorB-cancel [] b h = xorB-nil b
-xorB-cancel (x ∷ a) [] h = absurd (omega arith)
-xorB-cancel (x ∷ a) (y ∷ b) h =
+pub xor_b-cancel : (a b : List ℕ) → length a ≤ length b → xor_b a (xor_b b a) ≡ b
+xor_b-cancel [] b h = xor_b-nil b
+xor_b-cancel (x ∷ a) [] h = absurd (omega arith)
+xor_b-cancel (x ∷ a) (y ∷ b) h =
     ap₂ (λ (z : ℕ) (r : List ℕ). z ∷ r) (ap (bit_xor x) (xor_comm y x) ∙ sym (xor_assoc x x y) ∙ ap (λ (z : ℕ). bit_xor z y) (xor_self x) ∙ xor_zero_l y)
-    (xorB-cancel a b (omega arith))
+    (xor_b-cancel a b (omega arith))
 
 -- ---- lists of blocks
 
 -- one more at the end
-pub xorAll-snoc : (n : ℕ) (xs : List (List ℕ)) (y : List ℕ) → xorAll n (xs ++ (y ∷ [])) ≡ xorB (xorAll n xs) y
-xorAll-snoc n [] y = xorB-comm y (zeros n)
-xorAll-snoc n (x ∷ xs) y = ap (xorB x) (xorAll-snoc n xs y) ∙ sym (xorB-assoc x (xorAll n xs) y)
+pub xor_all-snoc : (n : ℕ) (xs : List (List ℕ)) (y : List ℕ) → xor_all n (xs ++ (y ∷ [])) ≡ xor_b (xor_all n xs) y
+xor_all-snoc n [] y = xor_b-comm y (zeros n)
+xor_all-snoc n (x ∷ xs) y = ap (xor_b x) (xor_all-snoc n xs y) ∙ sym (xor_b-assoc x (xor_all n xs) y)
 
 -- ---- a list of blocks that grows at its end, without its i-th
 

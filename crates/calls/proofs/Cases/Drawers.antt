@@ -1,93 +1,93 @@
 -- One cabinet, byte by byte, by computation. Assumes nothing.
 use mathlib.Core.Path.{refl}
-use Rattle.layout.specs.Home.{dataDisk, homeStripe, homeDisk, rank_of, homeBlock, homeOwner}
-use Rattle.layout.specs.Moves.{moveZone, moveTo, moveLag, moveWithin, moveStripe, moveFrom, total}
-use Rattle.layout.specs.Closed.{lag, target, turn, isMoved, diskAt, source, taken}
-use Rattle.layout.specs.Blanks.{blanksBelow, blanks, newStripe, newDisk, newBlock}
-use Rattle.layout.specs.Layout.{openStripes, capacity, grownPlace, grownParity, newOwner, grownOwner}
-use Rattle.state.specs.Good.{movesGood, good}
-use Rattle.calls.specs.Images.{seen, stored, recorded, fillDisk, zeroDisks}
-use Rattle.calls.specs.Table.{idle, formable, terms, laterRows, table, refusal}
-use Rattle.calls.specs.Effect.{view_of, scratchLeft, writeStores, moveStores, advanceStores, continueStores}
-use Rattle.calls.specs.Effect.{clearStores, zeroBlanks, mendStripe, mendStripes, restartStores, effect, called, begun}
+use Rattle.layout.specs.Home.{data_disk, home_stripe, home_disk, rank_of, home_block, home_owner}
+use Rattle.layout.specs.Moves.{move_zone, move_to, move_lag, move_within, move_stripe, move_from, total}
+use Rattle.layout.specs.Closed.{lag, target, turn, is_moved, disk_at, source, taken}
+use Rattle.layout.specs.Blanks.{blanks_below, blanks, new_stripe, new_disk, new_block}
+use Rattle.layout.specs.Layout.{open_stripes, capacity, grown_place, grown_parity, new_owner, grown_owner}
+use Rattle.state.specs.Good.{moves_good, good}
+use Rattle.calls.specs.Images.{seen, stored, recorded, fill_disk, zero_disks}
+use Rattle.calls.specs.Table.{idle, formable, terms, later_rows, table, refusal}
+use Rattle.calls.specs.Effect.{view_of, scratch_left, write_stores, move_stores, advance_stores, continue_stores}
+use Rattle.calls.specs.Effect.{clear_stores, zero_blanks, mend_stripe, mend_stripes, restart_stores, effect, called, begun}
 use Rattle.calls.specs.Cases.Drawers.{Drawers}
 
 pub drawers : Drawers
-unfolding dataDisk homeStripe homeDisk rank_of homeBlock homeOwner moveZone moveTo moveLag moveWithin moveStripe moveFrom total
-    lag target turn isMoved diskAt source taken blanksBelow blanks newStripe newDisk newBlock
-    openStripes capacity grownPlace grownParity newOwner grownOwner
-    movesGood good seen stored recorded fillDisk zeroDisks idle formable terms laterRows table refusal
-    view_of scratchLeft writeStores moveStores advanceStores continueStores
-    clearStores zeroBlanks mendStripe mendStripes restartStores effect called begun
+unfolding data_disk home_stripe home_disk rank_of home_block home_owner move_zone move_to move_lag move_within move_stripe move_from total
+    lag target turn is_moved disk_at source taken blanks_below blanks new_stripe new_disk new_block
+    open_stripes capacity grown_place grown_parity new_owner grown_owner
+    moves_good good seen stored recorded fill_disk zero_disks idle formable terms later_rows table refusal
+    view_of scratch_left write_stores move_stores advance_stores continue_stores
+    clear_stores zero_blanks mend_stripe mend_stripes restart_stores effect called begun
 drawers = record {
   move = refl;
   no_move = refl;
-  move-unsound = refl;
+  move_unsound = refl;
   written = refl;
-  written-degraded = refl;
-  written-no-parity = refl;
-  read-degraded = refl;
+  written_degraded = refl;
+  written_no_parity = refl;
+  read_degraded = refl;
   viewed = refl;
-  viewed-degraded = refl;
+  viewed_degraded = refl;
   begun = refl;
   rebuilt = refl;
-  rebuilt-some = refl;
-  rebuilt-none = refl;
-  rebuilt-more = refl;
-  rebuilt-but-one = refl;
-  rebuilt-rest = refl;
+  rebuilt_some = refl;
+  rebuilt_none = refl;
+  rebuilt_more = refl;
+  rebuilt_but_one = refl;
+  rebuilt_rest = refl;
   read_done = refl;
-  read-not-done = refl;
-  viewed-done = refl;
-  viewed-not-done = refl;
-  written-done = refl;
-  written-not-done = refl;
-  parity-done = refl;
-  parity-not-done = refl;
-  out-again = refl;
-  out-other = refl;
-  no-advance = refl;
+  read_not_done = refl;
+  viewed_done = refl;
+  viewed_not_done = refl;
+  written_done = refl;
+  written_not_done = refl;
+  parity_done = refl;
+  parity_not_done = refl;
+  out_again = refl;
+  out_other = refl;
+  no_advance = refl;
   first_out = refl;
-  second-out = refl;
+  second_out = refl;
   grown = refl;
   formats = refl;
   written_new = refl;
-  new-left = refl;
-  written-new-degraded = refl;
-  read-new-degraded = refl;
-  rebuilt-new = refl;
+  new_left = refl;
+  written_new_degraded = refl;
+  read_new_degraded = refl;
+  rebuilt_new = refl;
   no_block = refl;
   move-stores = refl;
   write-stores = refl;
   continue-stores = refl;
-  last-stores = refl;
-  format-stores = refl;
-  grow-stores = refl;
+  last_stores = refl;
+  format_stores = refl;
+  grow_stores = refl;
   restart-stores = refl;
   restarted = refl;
-  restarted-last = refl;
-  restarted-sound = refl;
-  cut-copy = refl;
-  cut-marked = refl;
-  any-first-byte = refl;
-  written-unsound = refl;
-  written-beside-unsound = refl;
-  written-degraded-unsound = refl;
-  read-unsound = refl;
-  read-degraded-unsound = refl;
-  viewed-degraded-unsound = refl;
-  rebuilt-unsound = refl;
-  blank-unsound = refl;
-  wide-moves = refl;
-  wide-written = refl;
-  wide-written-unsound = refl;
-  wide-written-degraded = refl;
+  restarted_last = refl;
+  restarted_sound = refl;
+  cut_copy = refl;
+  cut_marked = refl;
+  any_first_byte = refl;
+  written_unsound = refl;
+  written_beside_unsound = refl;
+  written_degraded_unsound = refl;
+  read_unsound = refl;
+  read_degraded_unsound = refl;
+  viewed_degraded_unsound = refl;
+  rebuilt_unsound = refl;
+  blank_unsound = refl;
+  wide_moves = refl;
+  wide_written = refl;
+  wide_written_unsound = refl;
+  wide_written_degraded = refl;
   wide_read = refl;
-  wide-read-degraded = refl;
-  wide-viewed = refl;
-  wide-viewed-degraded = refl;
-  wide-rebuilt = refl;
-  wide-rebuilt-unsound = refl;
-  wide-grown = refl;
-  wide-formatted = refl;
+  wide_read_degraded = refl;
+  wide_viewed = refl;
+  wide_viewed_degraded = refl;
+  wide_rebuilt = refl;
+  wide_rebuilt_unsound = refl;
+  wide_grown = refl;
+  wide_formatted = refl;
 }

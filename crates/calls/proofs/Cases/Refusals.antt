@@ -1,15 +1,15 @@
 -- The table of refusals row by row, and every cell of it, by computation. Assumes nothing.
 use mathlib.Core.Path.{refl}
-use Rattle.layout.specs.Layout.{openStripes, capacity}
+use Rattle.layout.specs.Layout.{open_stripes, capacity}
 use Rattle.layout.specs.Moves.{total}
-use Rattle.state.specs.Good.{movesGood, good}
+use Rattle.state.specs.Good.{moves_good, good}
 use Rattle.state.specs.Bytes.{decode, plain, encode}
 use Rattle.calls.specs.Call.{format, read, view, write, grow, advance, out, begin, continue, status, locate, owner, sweep, restart}
-use Rattle.calls.specs.Table.{idle, formable, terms, laterRows, table, rowsBytes, refusalBytes}
+use Rattle.calls.specs.Table.{idle, formable, terms, later_rows, table, rows_bytes, refusal_bytes}
 use Rattle.calls.specs.Cases.Refusals.{Rowwise, Refusals}
 
 pub rowwise : Rowwise
-unfolding terms laterRows table
+unfolding terms later_rows table
 rowwise (format n B T) short bad r cap len room = refl
 rowwise (read b) short bad r cap len room = refl
 rowwise (view b) short bad r cap len room = refl
@@ -26,15 +26,15 @@ rowwise sweep short bad r cap len room = refl
 rowwise restart short bad r cap len room = refl
 
 pub refusals : Refusals
-unfolding openStripes capacity total movesGood good decode plain encode idle formable terms laterRows table rowsBytes refusalBytes
+unfolding open_stripes capacity total moves_good good decode plain encode idle formable terms later_rows table rows_bytes refusal_bytes
 refusals = record {
-  row-1 = refl;
-  row-1-format = refl;
+  row_1 = refl;
+  row_1_format = refl;
   formats = refl;
-  read-cells = refl;
-  view-cells = refl;
-  write-cells = refl;
-  write-room = refl;
+  read_cells = refl;
+  view_cells = refl;
+  write_cells = refl;
+  write_room = refl;
   grows = refl;
   advances = refl;
   outs = refl;
@@ -45,5 +45,5 @@ refusals = record {
   owners = refl;
   sweeps = refl;
   restarts = refl;
-  marked-others = refl;
+  marked_others = refl;
 }

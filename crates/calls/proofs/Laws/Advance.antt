@@ -8,17 +8,17 @@ use native.Mathlib.Nat.{zero-add, suc-add}
 use native.Mathlib.Omega.{arith}
 use lib.ListN.{length}
 use Rattle.layout.specs.declared.Geometry.{Geometry}
-use Rattle.layout.specs.Layout.{capacity, totalOf, layout}
+use Rattle.layout.specs.Layout.{capacity, total_of, layout}
 use Rattle.layout.specs.Limits.{GoodArray}
 use Rattle.layout.proofs.Laws.Opening.{capacity-rises}
 use Rattle.state.specs.declared.types.Health.TheVariants.{Whole}
 use Rattle.state.specs.declared.types.Record.{Record}
 use Rattle.state.specs.Good.{geometry}
-use Rattle.state.specs.Update.{withMoves}
+use Rattle.state.specs.Update.{with_moves}
 use Rattle.calls.specs.Call.{advance, on, made}
 use Rattle.calls.specs.Images.{size, place_in, Store, block, stored, recorded}
-use Rattle.calls.specs.Table.{idle, laterRows, word}
-use Rattle.calls.specs.Effect.{moveStores, advanceStores, parityAfter, effect, act}
+use Rattle.calls.specs.Table.{idle, later_rows, word}
+use Rattle.calls.specs.Effect.{move_stores, advance_stores, parity_after, effect, act}
 use Rattle.calls.proofs.Laws.Stores.{stored-append, recorded-append}
 use Rattle.calls.proofs.Laws.Table.{some-new, some_left, none_left}
 use Rattle.calls.proofs.Laws.Lists.{with-new, same-with-new, twice-with-new}
@@ -28,10 +28,10 @@ use Rattle.calls.proofs.Laws.Passed as passed
 
 -- the record after k moves, or as many as are left
 abbrev pub advanced : ℕ → Record → Record
-advanced k r = withMoves r (r.moves + min k (totalOf (geometry r) - r.moves))
+advanced k r = with_moves r (r.moves + min k (total_of (geometry r) - r.moves))
 
 -- an unmarked record with the moves that it has
-pub as_moved : (r : Record) → r.mark ≡ false → (t : ℕ) → r.moves ≡ t → r ≡ withMoves r t
+pub as_moved : (r : Record) → r.mark ≡ false → (t : ℕ) → r.moves ≡ t → r ≡ with_moves r t
 as_moved r clean t q =
     λ i. record { old = r.old; new = r.new; health = r.health; block = r.block; stripes = r.stripes; moves = q i; mark = clean i }
 
@@ -43,36 +43,36 @@ module _ (P : Record → List ℕ → Type 0) where
     pub good : GoodArray (geometry (recorded ps r))
     pub kept : P (recorded ps r) (stored r.block r.stripes ps img)
 
-  pub carried : ((r : Record) (img : List ℕ) → GoodArray (geometry r) → idle (geometry r) ≡ false → P r img → P (moved r) (stored r.block r.stripes (moveStores r img) img))
-      → (k : ℕ) (r : Record) (img : List ℕ) → GoodArray (geometry r) → r.new ≢ 0 → r.mark ≡ false → P r img → Carried k r (advanceStores k r img) img
-  unfolding advanceStores stored recorded moveStores
+  pub carried : ((r : Record) (img : List ℕ) → GoodArray (geometry r) → idle (geometry r) ≡ false → P r img → P (moved r) (stored r.block r.stripes (move_stores r img) img))
+      → (k : ℕ) (r : Record) (img : List ℕ) → GoodArray (geometry r) → r.new ≢ 0 → r.mark ≡ false → P r img → Carried k r (advance_stores k r img) img
+  unfolding advance_stores stored recorded move_stores
   carried step zero r img gd nz clean p =
-      record { state = as_moved r clean (r.moves + min 0 (totalOf (geometry r) - r.moves)) (omega arith); good = gd; kept = p }
+      record { state = as_moved r clean (r.moves + min 0 (total_of (geometry r) - r.moves)) (omega arith); good = gd; kept = p }
   carried step (suc k) r img gd nz clean p =
-      go (idle (geometry r)) refl (λ q. carried step k (moved r) (stored r.block r.stripes (moveStores r img) img) (good-moved r gd q) nz refl (step r img gd q p))
+      go (idle (geometry r)) refl (λ q. carried step k (moved r) (stored r.block r.stripes (move_stores r img) img) (good-moved r gd q) nz refl (step r img gd q p))
     where
       J : List ℕ
-      J = stored r.block r.stripes (moveStores r img) img
+      J = stored r.block r.stripes (move_stores r img) img
 
       qs : List Store
-      qs = advanceStores k (moved r) J
+      qs = advance_stores k (moved r) J
 
       go : (b : Bool) → idle (geometry r) ≡ b → (idle (geometry r) ≡ false → Carried k (moved r) qs J)
-          → Carried (suc k) r (elim b as (λ y. List Store) [ true ↦ [] | false ↦ moveStores r img ++ qs ]) img
+          → Carried (suc k) r (elim b as (λ y. List Store) [ true ↦ [] | false ↦ move_stores r img ++ qs ]) img
       go false q f =
           let ih : Carried k (moved r) qs J = f q in
-          let left : r.moves < totalOf (geometry r) = some_left (geometry r) gd q in
-          let z : suc r.moves + min k (totalOf (geometry r) - suc r.moves) ≡ r.moves + min (suc k) (totalOf (geometry r) - r.moves) = omega arith in
-          let hs : recorded (moveStores r img ++ qs) r ≡ recorded qs (moved r) = recorded-append (moveStores r img) qs r in
+          let left : r.moves < total_of (geometry r) = some_left (geometry r) gd q in
+          let z : suc r.moves + min k (total_of (geometry r) - suc r.moves) ≡ r.moves + min (suc k) (total_of (geometry r) - r.moves) = omega arith in
+          let hs : recorded (move_stores r img ++ qs) r ≡ recorded qs (moved r) = recorded-append (move_stores r img) qs r in
           record {
-            state = hs ∙ ih.state ∙ ap {B = Record} (λ (x : ℕ). withMoves r x) z;
+            state = hs ∙ ih.state ∙ ap {B = Record} (λ (x : ℕ). with_moves r x) z;
             good = subst (λ (x : Record). GoodArray (geometry x)) (sym hs) ih.good;
-            kept = rw (hs, stored-append r.block r.stripes (moveStores r img) qs img) ih.kept;
+            kept = rw (hs, stored-append r.block r.stripes (move_stores r img) qs img) ih.kept;
           }
       go true q f =
-          let all : r.moves ≡ totalOf (geometry r) = none_left (geometry r) nz q in
+          let all : r.moves ≡ total_of (geometry r) = none_left (geometry r) nz q in
           record {
-            state = as_moved r clean (r.moves + min (suc k) (totalOf (geometry r) - r.moves)) (omega arith);
+            state = as_moved r clean (r.moves + min (suc k) (total_of (geometry r) - r.moves)) (omega arith);
             good = gd;
             kept = p;
           }
@@ -80,32 +80,32 @@ module _ (P : Record → List ℕ → Type 0) where
 -- the stores of i + k moves are those of i moves, and those of k more on what they leave
 module _ (r : Record) (img : List ℕ) where
   abbrev rest_of : ℕ → List Store → List Store
-  rest_of k ps = advanceStores k (recorded ps r) (stored r.block r.stripes ps img)
+  rest_of k ps = advance_stores k (recorded ps r) (stored r.block r.stripes ps img)
 
-pub idle-none : (k : ℕ) (r : Record) (img : List ℕ) → idle (geometry r) ≡ true → advanceStores k r img ≡ []
-unfolding advanceStores
+pub idle-none : (k : ℕ) (r : Record) (img : List ℕ) → idle (geometry r) ≡ true → advance_stores k r img ≡ []
+unfolding advance_stores
 idle-none zero r img q = refl
 idle-none (suc k) r img q =
-    subst (λ (b : Bool). ◌≡◌ {A = List Store} (elim b as (λ y. List Store) [ true ↦ [] | false ↦ moveStores r img ++ rest_of r img k (moveStores r img) ]) []) (sym q) refl
+    subst (λ (b : Bool). ◌≡◌ {A = List Store} (elim b as (λ y. List Store) [ true ↦ [] | false ↦ move_stores r img ++ rest_of r img k (move_stores r img) ]) []) (sym q) refl
 
-pub advance-split : (i k : ℕ) (r : Record) (img : List ℕ) → advanceStores (i + k) r img ≡ advanceStores i r img ++ rest_of r img k (advanceStores i r img)
-unfolding advanceStores recorded stored moveStores
-advance-split zero k r img = ap (λ (x : ℕ). advanceStores x r img) (zero-add k)
-advance-split (suc i) k r img = ap (λ (x : ℕ). advanceStores x r img) (suc-add i k) ∙ go (idle (geometry r)) refl (advance-split i k (moved r) (stored r.block r.stripes (moveStores r img) img))
+pub advance-split : (i k : ℕ) (r : Record) (img : List ℕ) → advance_stores (i + k) r img ≡ advance_stores i r img ++ rest_of r img k (advance_stores i r img)
+unfolding advance_stores recorded stored move_stores
+advance-split zero k r img = ap (λ (x : ℕ). advance_stores x r img) (zero-add k)
+advance-split (suc i) k r img = ap (λ (x : ℕ). advance_stores x r img) (suc-add i k) ∙ go (idle (geometry r)) refl (advance-split i k (moved r) (stored r.block r.stripes (move_stores r img) img))
   where
     ps : List Store
-    ps = moveStores r img
+    ps = move_stores r img
 
     J : List ℕ
     J = stored r.block r.stripes ps img
 
-    go : (b : Bool) → idle (geometry r) ≡ b → advanceStores (i + k) (recorded ps r) J ≡ advanceStores i (recorded ps r) J ++ rest_of (recorded ps r) J k (advanceStores i (recorded ps r) J)
-        → elim b as (λ y. List Store) [ true ↦ [] | false ↦ ps ++ advanceStores (i + k) (recorded ps r) J ]
-        ≡ elim b as (λ y. List Store) [ true ↦ [] | false ↦ ps ++ advanceStores i (recorded ps r) J ]
-        ++ rest_of r img k (elim b as (λ y. List Store) [ true ↦ [] | false ↦ ps ++ advanceStores i (recorded ps r) J ])
+    go : (b : Bool) → idle (geometry r) ≡ b → advance_stores (i + k) (recorded ps r) J ≡ advance_stores i (recorded ps r) J ++ rest_of (recorded ps r) J k (advance_stores i (recorded ps r) J)
+        → elim b as (λ y. List Store) [ true ↦ [] | false ↦ ps ++ advance_stores (i + k) (recorded ps r) J ]
+        ≡ elim b as (λ y. List Store) [ true ↦ [] | false ↦ ps ++ advance_stores i (recorded ps r) J ]
+        ++ rest_of r img k (elim b as (λ y. List Store) [ true ↦ [] | false ↦ ps ++ advance_stores i (recorded ps r) J ])
     go true q ih = sym (idle-none k r img q)
     go false q ih =
-        let qs : List Store = advanceStores i (recorded ps r) J in
+        let qs : List Store = advance_stores i (recorded ps r) J in
         rw (recorded-append ps qs r, stored-append r.block r.stripes ps qs img)
         (ap (λ (x : List Store). ps ++ x) ih ∙ sym (append_assoc ps qs (rest_of (recorded ps r) J k qs)))
 
@@ -117,7 +117,7 @@ pub record Moving (bs : List (List ℕ)) (r : Record) (img : List ℕ) : Type 0 
   pub holding : Holding r img (with-new (geometry r) r.block bs)
 
 pub moving : (bs : List (List ℕ)) (r : Record) (img : List ℕ) → GoodArray (geometry r) → idle (geometry r) ≡ false → Moving bs r img
-    → Moving bs (moved r) (stored r.block r.stripes (moveStores r img) img)
+    → Moving bs (moved r) (stored r.block r.stripes (move_stores r img) img)
 moving bs r img good busy p =
     let rise : capacity (geometry r) ≤ capacity (geometry (moved r)) = capacity-rises (geometry r) good (suc r.moves) (omega arith) (some_left (geometry r) good busy) in
     record {
@@ -134,21 +134,21 @@ unfoldable Parities : (ℕ → List ℕ) → Record → List ℕ → Type 0
 Parities f r img = (length img ≡ size r) × ((S : ℕ) → S < r.stripes → place_in r img S ((layout (geometry r)).parity S) ≡ f S)
 
 pub parity-kept : (k : ℕ) (r : Record) (img : List ℕ) → GoodArray (geometry r) → r.new ≢ 0 → r.mark ≡ false → length img ≡ size r → (S : ℕ) → S < r.stripes
-    → parityAfter k r img S ≡ place_in r img S ((layout (geometry r)).parity S)
-unfolding Parities parityAfter
+    → parity_after k r img S ≡ place_in r img S ((layout (geometry r)).parity S)
+unfolding Parities parity_after
 parity-kept k r img good nz clean long S lS =
     let f : ℕ → List ℕ = λ s. place_in r img s ((layout (geometry r)).parity s) in
-    let x : Carried (Parities f) k r (advanceStores k r img) img =
+    let x : Carried (Parities f) k r (advance_stores k r img) img =
     carried (Parities f) (λ y J gd q p. (long-move y J gd q p.0, λ s ls. parity-move y J gd q p.0 s ls ∙ p.1 s ls)) k r img good nz clean (long, λ s ls. refl) in
-    let p : Parities f (advanced k r) (stored r.block r.stripes (advanceStores k r img) img) =
-    subst (λ (y : Record). Parities f y (stored r.block r.stripes (advanceStores k r img) img)) x.state x.kept in
+    let p : Parities f (advanced k r) (stored r.block r.stripes (advance_stores k r img) img) =
+    subst (λ (y : Record). Parities f y (stored r.block r.stripes (advance_stores k r img) img)) x.state x.kept in
     rw x.state (p.1 S lS)
 
 -- ---- the call
 
 module _ (r : Record) (img room : List ℕ) (bs : List (List ℕ)) (lends : length img ≡ size r → Holding r img bs) (k : ℕ) (cap len : ℕ) where
-  pub advances : word (laterRows (advance k) r cap (length img) len) ≡ 0
-      → Leaves (act (on (advance k) img room) r) (made (min k (totalOf (geometry r) - r.moves))) (advanced k r)
+  pub advances : word (later_rows (advance k) r cap (length img) len) ≡ 0
+      → Leaves (act (on (advance k) img room) r) (made (min k (total_of (geometry r) - r.moves))) (advanced k r)
       (with-new (geometry (advanced k r)) r.block bs)
   unfolding effect
   advances z =
@@ -157,9 +157,9 @@ module _ (r : Record) (img room : List ℕ) (bs : List (List ℕ)) (lends : leng
       let g : Geometry = geometry r in
       let begun : Moving bs r img =
       record { whole = q.all_in; enough = omega (arith, h.count); holding = rw (same-with-new g r.block bs h.count) h } in
-      let c : Carried (Moving bs) k r (advanceStores k r img) img = carried (Moving bs) (moving bs) k r img h.limits.array (some-new g q.busy) h.clean begun in
-      let p : Moving bs (advanced k r) (stored r.block r.stripes (advanceStores k r img) img) =
-      subst (λ (x : Record). Moving bs x (stored r.block r.stripes (advanceStores k r img) img)) c.state c.kept in
+      let c : Carried (Moving bs) k r (advance_stores k r img) img = carried (Moving bs) (moving bs) k r img h.limits.array (some-new g q.busy) h.clean begun in
+      let p : Moving bs (advanced k r) (stored r.block r.stripes (advance_stores k r img) img) =
+      subst (λ (x : Record). Moving bs x (stored r.block r.stripes (advance_stores k r img) img)) c.state c.kept in
       record {
         answer = ap made (ap (λ (x : Record). x.moves - r.moves) c.state ∙ omega arith);
         state = c.state;

@@ -8,12 +8,12 @@ use Rattle.layout.specs.declared.Role.TheVariants.{Parity, Blank}
 use Rattle.layout.specs.declared.Role.{Role}
 use Rattle.layout.proofs.Laws.Owners.{Carries}
 use Rattle.blocks.proofs.Laws.Rows.{◌⊕◌, zero-l, self}
-use Rattle.blocks.proofs.Laws.Grid.{Grid, storeAt, storeAt-same, storeAt-row, storeAt-far}
+use Rattle.blocks.proofs.Laws.Grid.{Grid, store_at, store_at-same, store_at-row, store_at-far}
 use Rattle.calls.proofs.Laws.Column.{Fits, fits-blank, Agree, Even, Holds, Stored, agree-store, even-pair}
 
 -- the copy, then the zeroes
 abbrev pub carry : Grid → ℕ → ℕ → ℕ → Grid
-carry I S from to = storeAt (storeAt I S to (I S from)) S from 0
+carry I S from to = store_at (store_at I S to (I S from)) S from 0
 
 module _ (N T : ℕ) (own own' : ℕ → ℕ → Role) (S from to : ℕ) (c : Carries N T own own' S from to) where
   -- what is true of each place and of a blank one with 0 in it is true of each place afterwards
@@ -22,31 +22,31 @@ module _ (N T : ℕ) (own own' : ℕ → ℕ → Role) (S from to : ℕ) (c : Ca
   carry-cases P I z h s d ls ld = go (ℕ_discrete s S) (ℕ_discrete d from) (ℕ_discrete d to)
     where
       J : Grid
-      J = storeAt I S to (I S from)
+      J = store_at I S to (I S from)
 
-      go : Dec (s ≡ S) → Dec (d ≡ from) → Dec (d ≡ to) → P s (own' s d) (storeAt J S from 0 s d)
-      go (yes p) (yes x) y = rw (p, x, storeAt-same J S from 0, c.leaves) z
+      go : Dec (s ≡ S) → Dec (d ≡ from) → Dec (d ≡ to) → P s (own' s d) (store_at J S from 0 s d)
+      go (yes p) (yes x) y = rw (p, x, store_at-same J S from 0, c.leaves) z
       go (yes p) (no x) (yes y) =
-          rw (p, y, c.arrives, storeAt-row J S from 0 to (λ q. c.apart (sym q)), storeAt-same I S to (I S from)) (h S from c.stripe-lt c.from-lt)
-      go (yes p) (no x) (no y) = rw (p, c.row d x y, storeAt-row J S from 0 d x, storeAt-row I S to (I S from) d y) (h S d c.stripe-lt ld)
-      go (no p) x y = rw (c.far s d p, storeAt-far J S from 0 s d p, storeAt-far I S to (I S from) s d p) (h s d ls ld)
+          rw (p, y, c.arrives, store_at-row J S from 0 to (λ q. c.apart (sym q)), store_at-same I S to (I S from)) (h S from c.stripe_lt c.from_lt)
+      go (yes p) (no x) (no y) = rw (p, c.row d x y, store_at-row J S from 0 d x, store_at-row I S to (I S from) d y) (h S d c.stripe_lt ld)
+      go (no p) x y = rw (c.far s d p, store_at-far J S from 0 s d p, store_at-far I S to (I S from) s d p) (h s d ls ld)
 
   -- with every disk in
   pub stored-carry : (bs : List ℕ) (I : Grid) → Stored N T own (λ s d. false) I bs → Stored N T own' (λ s d. false) (carry I S from to) bs
   unfolding Agree Holds
   stored-carry bs I x =
       let L : Grid = x.grid in
-      let same : I S from ≡ L S from = x.agree S from c.stripe-lt c.from-lt refl in
-      let zero : L S to ≡ 0 = fits-blank bs (own S to) (L S to) c.onto-blank (x.holds S to c.stripe-lt c.to-lt) in
+      let same : I S from ≡ L S from = x.agree S from c.stripe_lt c.from_lt refl in
+      let zero : L S to ≡ 0 = fits-blank bs (own S to) (L S to) c.onto_blank (x.holds S to c.stripe_lt c.to-lt) in
       let gone : L S from ⊕ (L S to ⊕ L S from) ≡ 0 = rw (zero, zero-l (L S from), self (L S from)) in
       record {
         grid = carry L S from to;
         agree =
             rw same
-            (agree-store N T (λ s d. false) (storeAt I S to (L S from)) (storeAt L S to (L S from)) S from 0 (agree-store N T (λ s d. false) I L S to (L S from) x.agree));
+            (agree-store N T (λ s d. false) (store_at I S to (L S from)) (store_at L S to (L S from)) S from 0 (agree-store N T (λ s d. false) I L S to (L S from) x.agree));
         even =
-            subst (λ (y : ℕ). Even N T (storeAt (storeAt L S to (L S from)) S from y)) gone
-            (even-pair N T L S to from (L S from) c.stripe-lt c.to-lt c.from-lt c.apart x.even);
+            subst (λ (y : ℕ). Even N T (store_at (store_at L S to (L S from)) S from y)) gone
+            (even-pair N T L S to from (L S from) c.stripe_lt c.to-lt c.from_lt c.apart x.even);
         holds = carry-cases (λ s. Fits bs) L refl x.holds;
       }
 

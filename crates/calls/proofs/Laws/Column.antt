@@ -10,15 +10,15 @@ use lib.Seq.{get_or-set_other}
 use Rattle.layout.specs.declared.Role.TheVariants.{Data, Parity, Blank}
 use Rattle.layout.specs.declared.Role.{Role}
 use Rattle.blocks.proofs.Laws.Rows.{◌⊕◌, put, sum, rest, put_other, sum-put, rest-ext, rest-is, zero-l, self, cancel-l}
-use Rattle.blocks.proofs.Laws.Grid.{Grid, storeAt, storeAt-same, storeAt-row, storeAt-far, storeAt-this-row, storeAt-far-row}
+use Rattle.blocks.proofs.Laws.Grid.{Grid, store_at, store_at-same, store_at-row, store_at-far, store_at-this-row, store_at-far-row}
 
 -- which places count as out
 abbrev pub Mask : Type 0
 Mask = ℕ → ℕ → Bool
 
 -- a store that skips those, and a place as a call sees it
-abbrev pub storeIf : Mask → Grid → ℕ → ℕ → ℕ → Grid
-storeIf a I S d v = cond (a S d) I (storeAt I S d v)
+abbrev pub store_if : Mask → Grid → ℕ → ℕ → ℕ → Grid
+store_if a I S d v = cond (a S d) I (store_at I S d v)
 
 abbrev pub see : ℕ → Mask → Grid → ℕ → ℕ → ℕ
 see N a I S d = cond (a S d) (rest N d (I S)) (I S d)
@@ -98,32 +98,32 @@ module _ (N T : ℕ) where
   reowned own own' a I bs bs' s f = record { grid = s.grid; agree = s.agree; even = s.even; holds = λ S d lS ld. f S d (s.grid S d) lS ld (s.holds S d lS ld) }
 
   -- a store that skips what is masked keeps agreement with the store that does not
-  pub agree-store : (a : Mask) (I L : Grid) (S d v : ℕ) → Agree a I L → Agree a (storeIf a I S d v) (storeAt L S d v)
+  pub agree-store : (a : Mask) (I L : Grid) (S d v : ℕ) → Agree a I L → Agree a (store_if a I S d v) (store_at L S d v)
   unfolding Agree
   agree-store a I L S d v q s e ls le u = go (a S d) refl (ℕ_discrete s S) (ℕ_discrete e d)
     where
-      go : (b : Bool) → a S d ≡ b → Dec (s ≡ S) → Dec (e ≡ d) → cond b I (storeAt I S d v) s e ≡ storeAt L S d v s e
-      go true x (yes p) (yes p') = let z : true ≡ false = sym x ∙ rw (← p, ← p') u in let w : I s e ≡ storeAt L S d v s e = cc in w
-      go true x (yes p) (no n') = rw (p, storeAt-row L S d v e n', ← p) (q s e ls le u)
-      go true x (no n) y = rw (storeAt-far L S d v s e n) (q s e ls le u)
-      go false x (yes p) (yes p') = rw (p, p', storeAt-same I S d v, storeAt-same L S d v)
-      go false x (yes p) (no n') = rw (p, storeAt-row L S d v e n', storeAt-row I S d v e n', ← p) (q s e ls le u)
-      go false x (no n) y = rw (storeAt-far L S d v s e n, storeAt-far I S d v s e n) (q s e ls le u)
+      go : (b : Bool) → a S d ≡ b → Dec (s ≡ S) → Dec (e ≡ d) → cond b I (store_at I S d v) s e ≡ store_at L S d v s e
+      go true x (yes p) (yes p') = let z : true ≡ false = sym x ∙ rw (← p, ← p') u in let w : I s e ≡ store_at L S d v s e = cc in w
+      go true x (yes p) (no n') = rw (p, store_at-row L S d v e n', ← p) (q s e ls le u)
+      go true x (no n) y = rw (store_at-far L S d v s e n) (q s e ls le u)
+      go false x (yes p) (yes p') = rw (p, p', store_at-same I S d v, store_at-same L S d v)
+      go false x (yes p) (no n') = rw (p, store_at-row L S d v e n', store_at-row I S d v e n', ← p) (q s e ls le u)
+      go false x (no n) y = rw (store_at-far L S d v s e n, store_at-far I S d v s e n) (q s e ls le u)
 
   -- two places of a stripe changed by the same difference
-  pub even-pair : (L : Grid) (S d p v : ℕ) → S < T → d < N → p < N → p ≢ d → Even L → Even (storeAt (storeAt L S d v) S p (L S p ⊕ (L S d ⊕ v)))
+  pub even-pair : (L : Grid) (S d p v : ℕ) → S < T → d < N → p < N → p ≢ d → Even L → Even (store_at (store_at L S d v) S p (L S p ⊕ (L S d ⊕ v)))
   unfolding Even
   even-pair L S d p v lS ld lp ne z s ls = go (ℕ_discrete s S)
     where
       w : ℕ
       w = L S p ⊕ (L S d ⊕ v)
 
-      go : Dec (s ≡ S) → sum N (storeAt (storeAt L S d v) S p w s) ≡ 0
+      go : Dec (s ≡ S) → sum N (store_at (store_at L S d v) S p w s) ≡ 0
       go (yes e) =
           rw (
             e,
-            storeAt-this-row (storeAt L S d v) S p w,
-            storeAt-this-row L S d v,
+            store_at-this-row (store_at L S d v) S p w,
+            store_at-this-row L S d v,
             sum-put N (put (L S) d v) p w lp,
             put_other (L S) d v p ne,
             sum-put N (L S) d v ld,
@@ -132,4 +132,4 @@ module _ (N T : ℕ) where
             cancel-l (L S p) (L S d ⊕ v),
             self (L S d ⊕ v),
           )
-      go (no n) = rw (storeAt-far-row (storeAt L S d v) S p w s n, storeAt-far-row L S d v s n) (z s ls)
+      go (no n) = rw (store_at-far-row (store_at L S d v) S p w s n, store_at-far-row L S d v s n) (z s ls)

@@ -10,15 +10,15 @@ use lib.ListN.{length}
 use lib.Seq.{ext_get_or}
 use Rattle.layout.specs.Limits.{GoodArray}
 use Rattle.blocks.specs.Stripe.{place}
-use Rattle.blocks.proofs.Laws.Grid.{Grid, storeAt, storeAt-row, storeAt-far}
-use Rattle.blocks.proofs.Laws.Stripe.{cell, place-in, length-place, getD-place}
+use Rattle.blocks.proofs.Laws.Grid.{Grid, store_at, store_at-row, store_at-far}
+use Rattle.blocks.proofs.Laws.Stripe.{cell, place-in, length-place, get_or-place}
 use Rattle.state.specs.declared.types.Record.{Record}
 use Rattle.state.specs.Good.{geometry}
-use Rattle.calls.specs.Images.{disksOf, size, Store, block, header, stored, recorded}
+use Rattle.calls.specs.Images.{disks_of, size, Store, block, header, stored, recorded}
 use Rattle.calls.specs.Table.{idle}
-use Rattle.calls.specs.Effect.{moveStores, advanceStores}
+use Rattle.calls.specs.Effect.{move_stores, advance_stores}
 use Rattle.calls.specs.Alone.{Inside}
-use Rattle.calls.proofs.Laws.Column.{Mask, storeIf}
+use Rattle.calls.proofs.Laws.Column.{Mask, store_if}
 use Rattle.calls.proofs.Laws.Stores.{Within, within-append}
 use Rattle.calls.proofs.Laws.Moved.{moved, good-moved, within-move, long-move}
 
@@ -37,42 +37,42 @@ module _ (N B T len : ℕ) (whole : len ≡ N * (T * B)) where
       let full : length (place B T img S d) ≡ B = length-place B T img S d N lS ld (rw (long, whole) (omega arith)) in
       let full' : length (place B T J S d) ≡ B = length-place B T J S d N lS ld (rw (long', whole) (omega arith)) in
       ext_get_or 0 (place B T J S d) (place B T img S d) (full' ∙ sym full)
-      (λ j l. let lj : j < B = rw full' at l in getD-place B T J S d j lj ∙ same j lj ∙ sym (getD-place B T img S d j lj))
+      (λ j l. let lj : j < B = rw full' at l in get_or-place B T J S d j lj ∙ same j lj ∙ sym (get_or-place B T img S d j lj))
 
 -- ---- a store that skips what is masked, seen from any other place and from a masked one
 
 module _ (a : Mask) (I : Grid) (S d v : ℕ) (s e : ℕ) where
-  pub storeIf-other : (s ≡ S → e ≢ d) → storeIf a I S d v s e ≡ I s e
-  storeIf-other ne = go (a S d) (ℕ_discrete s S)
+  pub store_if-other : (s ≡ S → e ≢ d) → store_if a I S d v s e ≡ I s e
+  store_if-other ne = go (a S d) (ℕ_discrete s S)
     where
-      go : (b : Bool) → Dec (s ≡ S) → cond b I (storeAt I S d v) s e ≡ I s e
+      go : (b : Bool) → Dec (s ≡ S) → cond b I (store_at I S d v) s e ≡ I s e
       go true x = refl
-      go false (yes q) = rw (q, storeAt-row I S d v e (ne q))
-      go false (no n) = storeAt-far I S d v s e n
+      go false (yes q) = rw (q, store_at-row I S d v e (ne q))
+      go false (no n) = store_at-far I S d v s e n
 
-  pub storeIf-masked : a s e ≡ true → storeIf a I S d v s e ≡ I s e
-  storeIf-masked u = go (a S d) refl (ℕ_discrete s S) (ℕ_discrete e d)
+  pub store_if-masked : a s e ≡ true → store_if a I S d v s e ≡ I s e
+  store_if-masked u = go (a S d) refl (ℕ_discrete s S) (ℕ_discrete e d)
     where
-      go : (b : Bool) → a S d ≡ b → Dec (s ≡ S) → Dec (e ≡ d) → cond b I (storeAt I S d v) s e ≡ I s e
+      go : (b : Bool) → a S d ≡ b → Dec (s ≡ S) → Dec (e ≡ d) → cond b I (store_at I S d v) s e ≡ I s e
       go true q x y = refl
-      go false q (yes p) (yes p') = let z : true ≡ false = sym u ∙ rw (p, p') q in let w : storeAt I S d v s e ≡ I s e = cc in w
-      go false q (yes p) (no n) = rw (p, storeAt-row I S d v e n)
-      go false q (no n) y = storeAt-far I S d v s e n
+      go false q (yes p) (yes p') = let z : true ≡ false = sym u ∙ rw (p, p') q in let w : store_at I S d v s e ≡ I s e = cc in w
+      go false q (yes p) (no n) = rw (p, store_at-row I S d v e n)
+      go false q (no n) y = store_at-far I S d v s e n
 
 -- ---- the moves of an advance, each on what the ones before left
 
-pub within-advance : (k : ℕ) (r : Record) (img : List ℕ) → GoodArray (geometry r) → length img ≡ size r → Within (disksOf r) r.block r.stripes (advanceStores k r img)
-unfolding advanceStores stored recorded moveStores Within
+pub within-advance : (k : ℕ) (r : Record) (img : List ℕ) → GoodArray (geometry r) → length img ≡ size r → Within (disks_of r) r.block r.stripes (advance_stores k r img)
+unfolding advance_stores stored recorded move_stores Within
 within-advance zero r img good long = tt
 within-advance (suc k) r img good long = go (idle (geometry r)) refl (λ q. within-advance k (moved r) J (good-moved r good q) (long-move r img good q long))
   where
     J : List ℕ
-    J = stored r.block r.stripes (moveStores r img) img
+    J = stored r.block r.stripes (move_stores r img) img
 
     qs : List Store
-    qs = advanceStores k (moved r) J
+    qs = advance_stores k (moved r) J
 
-    go : (b : Bool) → idle (geometry r) ≡ b → (idle (geometry r) ≡ false → Within (disksOf r) r.block r.stripes qs)
-        → Within (disksOf r) r.block r.stripes (elim b as (λ y. List Store) [ true ↦ [] | false ↦ moveStores r img ++ qs ])
+    go : (b : Bool) → idle (geometry r) ≡ b → (idle (geometry r) ≡ false → Within (disks_of r) r.block r.stripes qs)
+        → Within (disks_of r) r.block r.stripes (elim b as (λ y. List Store) [ true ↦ [] | false ↦ move_stores r img ++ qs ])
     go true q f = tt
-    go false q f = within-append (disksOf r) r.block r.stripes (moveStores r img) qs (within-move r img good q long) (f q)
+    go false q f = within-append (disks_of r) r.block r.stripes (move_stores r img) qs (within-move r img good q long) (f q)

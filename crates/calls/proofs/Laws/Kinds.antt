@@ -13,14 +13,14 @@ use Rattle.state.specs.declared.types.Record.{Record}
 use Rattle.state.specs.Good.{geometry, GoodRecord}
 use Rattle.calls.specs.Call.{Call, format, read, view, write, grow, advance, out, begin, continue, status, locate, owner, sweep, restart}
 use Rattle.calls.specs.Call.{Event, Fed, feed, Answer, accepted, number, done}
-use Rattle.state.specs.Update.{formatted, grownBy}
+use Rattle.state.specs.Update.{formatted, grown_by}
 use Rattle.calls.specs.Health.{absent}
-use Rattle.calls.specs.Images.{disksOf, othersIn, Store, header, stored, storedIn, recorded, zeroDisks}
-use Rattle.calls.specs.Sound.{unsoundStripes}
-use Rattle.calls.specs.Table.{looks, takesMarked, refusalOf}
-use Rattle.calls.specs.Effect.{place_of, scratchLeft, writeStores, advanceStores, continueStores, restartStores, sweptTo, Effect, tells, fills, stores, effect, answer_of, recordLeft, imagesLeft, room_left}
+use Rattle.calls.specs.Images.{disks_of, others_in, Store, header, stored, stored_in, recorded, zero_disks}
+use Rattle.calls.specs.Sound.{unsound_stripes}
+use Rattle.calls.specs.Table.{looks, takes_marked, refusal_of}
+use Rattle.calls.specs.Effect.{place_of, scratch_left, write_stores, advance_stores, continue_stores, restart_stores, swept_to, Effect, tells, fills, stores, effect, answer_of, record_left, images_left, room_left}
 use Rattle.calls.specs.Alone.{Inside, StoresInside, FillsRoom, read-fills, view-fills}
-use Rattle.calls.specs.Alone.{StoresBlocks, format-stores, write-stores, grow-stores, advance-stores, continue-stores, restart-stores}
+use Rattle.calls.specs.Alone.{StoresBlocks, format_stores, write-stores, grow_stores, advance-stores, continue-stores, restart-stores}
 use Rattle.calls.specs.Acts.{StoresRecord, format-records, grow-records, advance-records, out-records, begin-records, continue-records, restart-records}
 use Rattle.calls.proofs.Laws.Stores.{Within, length-stored, within-append, within-zero}
 use Rattle.calls.proofs.Laws.Acting.{zero-done}
@@ -33,7 +33,7 @@ use Rattle.calls.proofs.Laws.Rebuild.{within-remade, stores-are}
 use Rattle.calls.proofs.Laws.Restart.{within-restart}
 
 -- a sweep answers, whatever it finds
-swept-accepted : (T : ℕ) (l : List ℕ) → accepted (sweptTo T l) ≡ true
+swept-accepted : (T : ℕ) (l : List ℕ) → accepted (swept_to T l) ≡ true
 swept-accepted T [] = refl
 swept-accepted T (S ∷ more) = refl
 
@@ -56,12 +56,12 @@ module _ (r : Record) (e : Event) where
   -- ---- what a call has passed that the table lets through
 
   abbrev pub Passed : Call → Type 0
-  Passed c = refusalOf r (feed c (length e.images) (length e.room)) ≡ 0
+  Passed c = refusal_of r (feed c (length e.images) (length e.room)) ≡ 0
 
   pub bounds : (c : Call) → looks c ≡ true → Passed c → GoodRecord r
   bounds c l z = in-limits r cap (asked c) l z
 
-  pub unmarked : (c : Call) → looks c ≡ true → takesMarked c ≡ false → Passed c → r.mark ≡ false
+  pub unmarked : (c : Call) → looks c ≡ true → takes_marked c ≡ false → Passed c → r.mark ≡ false
   unmarked c l m z = no-mark-on r cap (asked c) l m z
 
   pub formatting : (n B T : ℕ) → Passed (format n B T) → Formats n B T (length img)
@@ -91,48 +91,48 @@ module _ (r : Record) (e : Event) where
   -- ---- the stores of each call that makes any
 
   abbrev pub zeroed : ℕ → List Store
-  zeroed m = zeroDisks r.block r.stripes r.old m
+  zeroed m = zero_disks r.block r.stripes r.old m
 
   pub within-grow : (m : ℕ) → Within (r.old + m) r.block r.stripes (zeroed m)
   within-grow m = within-zero r.block r.stripes r.old (r.old + m) m (omega arith)
 
-  format-inside : (n B T : ℕ) → Passed (format n B T) → Inside (length img) B T (zeroDisks B T 0 n ++ header (formatted n B T) ∷ [])
+  format-inside : (n B T : ℕ) → Passed (format n B T) → Inside (length img) B T (zero_disks B T 0 n ++ header (formatted n B T) ∷ [])
   format-inside n B T z =
-      inside-within n B T (length img) (formatting n B T z).long (zeroDisks B T 0 n ++ header (formatted n B T) ∷ [])
-      (within-last n B T (zeroDisks B T 0 n) (formatted n B T) (within-zero B T 0 n n (omega arith)))
+      inside-within n B T (length img) (formatting n B T z).long (zero_disks B T 0 n ++ header (formatted n B T) ∷ [])
+      (within-last n B T (zero_disks B T 0 n) (formatted n B T) (within-zero B T 0 n n (omega arith)))
 
-  write-inside : (b : ℕ) (v : List ℕ) → Passed (write b v) → Inside (length img) r.block r.stripes (writeStores r img b v)
+  write-inside : (b : ℕ) (v : List ℕ) → Passed (write b v) → Inside (length img) r.block r.stripes (write_stores r img b v)
   write-inside b v z =
       let w = writing b v z in
-      inside-within (disksOf r) r.block r.stripes (length img) w.long (writeStores r img b v)
+      inside-within (disks_of r) r.block r.stripes (length img) w.long (write_stores r img b v)
       (within-write r img (bounds (write b v) refl z) w.long b w.block-lt v w.whole)
 
-  write-state : (b : ℕ) (v : List ℕ) → Passed (write b v) → recorded (writeStores r img b v) r ≡ r
+  write-state : (b : ℕ) (v : List ℕ) → Passed (write b v) → recorded (write_stores r img b v) r ≡ r
   write-state b v z = let w = writing b v z in recorded-write r img (bounds (write b v) refl z) w.long b w.block-lt v w.whole
 
-  grow-inside : (m : ℕ) → Passed (grow m) → Inside (length img) r.block r.stripes (zeroed m ++ header (grownBy r m) ∷ [])
+  grow-inside : (m : ℕ) → Passed (grow m) → Inside (length img) r.block r.stripes (zeroed m ++ header (grown_by r m) ∷ [])
   grow-inside m z =
-      inside-within (r.old + m) r.block r.stripes (length img) (growing m z).long (zeroed m ++ header (grownBy r m) ∷ [])
-      (within-last (r.old + m) r.block r.stripes (zeroed m) (grownBy r m) (within-grow m))
+      inside-within (r.old + m) r.block r.stripes (length img) (growing m z).long (zeroed m ++ header (grown_by r m) ∷ [])
+      (within-last (r.old + m) r.block r.stripes (zeroed m) (grown_by r m) (within-grow m))
 
-  advance-inside : (k : ℕ) → Passed (advance k) → Inside (length img) r.block r.stripes (advanceStores k r img)
+  advance-inside : (k : ℕ) → Passed (advance k) → Inside (length img) r.block r.stripes (advance_stores k r img)
   advance-inside k z =
       let w = moving k z in
-      inside-within (disksOf r) r.block r.stripes (length img) w.long (advanceStores k r img)
+      inside-within (disks_of r) r.block r.stripes (length img) w.long (advance_stores k r img)
       (within-advance k r img (bounds (advance k) refl z).array w.long)
 
-  continue-inside : (k : ℕ) → Passed (continue k) → Inside (length img) r.block r.stripes (continueStores k r img)
+  continue-inside : (k : ℕ) → Passed (continue k) → Inside (length img) r.block r.stripes (continue_stores k r img)
   continue-inside k z =
       let w = continuing k z in
       let l = bounds (continue k) refl z in
-      inside-within (disksOf r) r.block r.stripes (length img) w.long (continueStores k r img)
+      inside-within (disks_of r) r.block r.stripes (length img) w.long (continue_stores k r img)
       (rw (stores-are r img w.disk w.done w.health k)
-      (within-last (disksOf r) r.block r.stripes _ _ (within-remade r img w.disk w.done w.health k l)))
+      (within-last (disks_of r) r.block r.stripes _ _ (within-remade r img w.disk w.done w.health k l)))
 
-  restart-inside : Passed restart → Inside (length img) r.block r.stripes (restartStores r img)
+  restart-inside : Passed restart → Inside (length img) r.block r.stripes (restart_stores r img)
   restart-inside z =
       let w = mending z in
-      inside-within (disksOf r) r.block r.stripes (length img) w.long (restartStores r img)
+      inside-within (disks_of r) r.block r.stripes (length img) w.long (restart_stores r img)
       (within-restart r img (bounds restart refl z) w.long)
 
   -- ---- the block or scratch of each call that fills it is as long as it was
@@ -142,14 +142,14 @@ module _ (r : Record) (e : Event) where
   read-long b z =
       let w = reading b z in
       let l = lawful (geometry r) (bounds (read b) refl z).array in
-      length_seen r img (place_of r b).stripe (place_of r b).disk w.long (l.stripe-lt b w.block-lt) (l.disk-lt b w.block-lt) ∙ sym w.whole
+      length_seen r img (place_of r b).stripe (place_of r b).disk w.long (l.stripe_lt b w.block-lt) (l.disk_lt b w.block-lt) ∙ sym w.whole
 
-  scratch-long : (b : ℕ) → length e.room ≡ r.block → length (scratchLeft r img b e.room) ≡ length e.room
-  unfolding scratchLeft
+  scratch-long : (b : ℕ) → length e.room ≡ r.block → length (scratch_left r img b e.room) ≡ length e.room
+  unfolding scratch_left
   scratch-long b q = go (absent r.health (place_of r b).stripe (place_of r b).disk)
     where
-      go : (a : Bool) → length (cond a (othersIn r img (place_of r b).stripe (place_of r b).disk) e.room) ≡ length e.room
-      go true = length-others r.block r.stripes img (place_of r b).stripe (disksOf r) (place_of r b).disk ∙ sym q
+      go : (a : Bool) → length (cond a (others_in r img (place_of r b).stripe (place_of r b).disk) e.room) ≡ length e.room
+      go true = length-others r.block r.stripes img (place_of r b).stripe (disks_of r) (place_of r b).disk ∙ sym q
       go false = refl
 
   -- ---- what a call that does x leaves alone
@@ -157,11 +157,11 @@ module _ (r : Record) (e : Event) where
   pub record Facts (c : Call) (x : Effect) : Type 0 where
     pub accepts : accepted (answer_of x) ≡ true
     pub inside : Passed c → StoresInside (length img) x
-    pub long : length (imagesLeft x img) ≡ length img
-    pub room-long : Passed c → length (room_left x e.room) ≡ length e.room
+    pub long : length (images_left x img) ≡ length img
+    pub room_long : Passed c → length (room_left x e.room) ≡ length e.room
     pub room : ¬ FillsRoom c → room_left x e.room ≡ e.room
-    pub images : ¬ StoresBlocks c → imagesLeft x img ≡ img
-    pub state : Passed c → ¬ StoresRecord c → recordLeft x r ≡ r
+    pub images : ¬ StoresBlocks c → images_left x img ≡ img
+    pub state : Passed c → ¬ StoresRecord c → record_left x r ≡ r
 
   telling : (c : Call) (a : Answer) → accepted a ≡ true → Facts c (tells a)
   telling c a ok =
@@ -169,7 +169,7 @@ module _ (r : Record) (e : Event) where
         accepts = ok;
         inside = λ z. tt;
         long = refl;
-        room-long = λ z. refl;
+        room_long = λ z. refl;
         room = λ no. refl;
         images = λ no. refl;
         state = λ z no. refl;
@@ -181,20 +181,20 @@ module _ (r : Record) (e : Event) where
         accepts = refl;
         inside = λ z. tt;
         long = refl;
-        room-long = lw;
+        room_long = lw;
         room = λ no. absurd (no is);
         images = λ no. refl;
         state = λ z no. refl;
       }
 
   storing : (c : Call) (a : Answer) (x : Record) (ps : List Store) → accepted a ≡ true → (Passed c → Inside (length img) x.block x.stripes ps)
-      → (¬ StoresBlocks c → storedIn x ps img ≡ img) → (Passed c → ¬ StoresRecord c → recorded ps r ≡ r) → Facts c (stores a x ps)
+      → (¬ StoresBlocks c → stored_in x ps img ≡ img) → (Passed c → ¬ StoresRecord c → recorded ps r ≡ r) → Facts c (stores a x ps)
   storing c a x ps ok in-it blocks records =
       record {
         accepts = ok;
         inside = in-it;
         long = length-stored x.block x.stripes ps img;
-        room-long = λ z. refl;
+        room_long = λ z. refl;
         room = λ no. refl;
         images = blocks;
         state = records;
@@ -204,11 +204,11 @@ module _ (r : Record) (e : Event) where
   unfolding effect Inside stored
   facts (format n B T) =
       storing (format n B T) done (formatted n B T) _ refl (format-inside n B T)
-      (λ no. absurd (no (format-stores n B T))) (λ z no. absurd (no (format-records n B T)))
+      (λ no. absurd (no (format_stores n B T))) (λ z no. absurd (no (format-records n B T)))
   facts (read b) = filling (read b) _ _ (read-fills b) (read-long b)
   facts (view b) = filling (view b) _ _ (view-fills b) (λ z. scratch-long b (viewing b z).whole)
   facts (write b v) = storing (write b v) done r _ refl (write-inside b v) (λ no. absurd (no (write-stores b v))) (λ z no. write-state b v z)
-  facts (grow m) = storing (grow m) done r _ refl (grow-inside m) (λ no. absurd (no (grow-stores m))) (λ z no. absurd (no (grow-records m)))
+  facts (grow m) = storing (grow m) done r _ refl (grow-inside m) (λ no. absurd (no (grow_stores m))) (λ z no. absurd (no (grow-records m)))
   facts (advance k) = storing (advance k) _ r _ refl (advance-inside k) (λ no. absurd (no (advance-stores k))) (λ z no. absurd (no (advance-records k)))
   facts (out d) = storing (out d) done r _ refl (λ z. tt) (λ no. refl) (λ z no. absurd (no (out-records d)))
   facts (begin d) = storing (begin d) done r _ refl (λ z. tt) (λ no. refl) (λ z no. absurd (no (begin-records d)))
@@ -217,7 +217,7 @@ module _ (r : Record) (e : Event) where
   facts status = telling status _ refl
   facts (locate b) = telling (locate b) _ refl
   facts (owner S d) = telling (owner S d) _ refl
-  facts sweep = telling sweep _ (swept-accepted r.stripes (unsoundStripes r e.images))
+  facts sweep = telling sweep _ (swept-accepted r.stripes (unsound_stripes r e.images))
   facts restart = storing restart done r _ refl restart-inside (λ no. absurd (no restart-stores)) (λ z no. absurd (no restart-records))
 
 -- "0 is done"

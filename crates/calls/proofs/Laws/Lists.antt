@@ -14,7 +14,7 @@ use Rattle.layout.proofs.Laws.Owners.Opened.{kept, new}
 use Rattle.layout.proofs.Laws.Owners.{Opened}
 use Rattle.blocks.specs.Block.{zeros}
 use Rattle.blocks.proofs.Laws.Grid.{Grid}
-use Rattle.blocks.proofs.Laws.Xor.{getD-zeros}
+use Rattle.blocks.proofs.Laws.Xor.{get_or-zeros}
 use Rattle.calls.proofs.Laws.Column.{Mask, Fits, Stored, reowned}
 use Rattle.calls.proofs.Laws.Holding.{bytes_at}
 
@@ -31,7 +31,7 @@ map-replicate f zero x = refl
 map-replicate f (suc n) x = ap (λ r. f x ∷ r) (map-replicate f n x)
 
 pub bytes-blank : (c B j : ℕ) → bytes_at j (blank-blocks c B) ≡ zeros c
-bytes-blank c B j = map-replicate (λ (v : List ℕ). get_or v j 0) c (zeros B) ∙ ap (replicate c) (getD-zeros B j)
+bytes-blank c B j = map-replicate (λ (v : List ℕ). get_or v j 0) c (zeros B) ∙ ap (replicate c) (get_or-zeros B j)
 
 pub whole-blank : (c B b : ℕ) → b < c → length (get_or (blank-blocks c B) b []) ≡ B
 whole-blank c B b h = ap length (get_or-replicate c b (zeros B) [] h) ∙ length-replicate {A = ℕ} B 0
@@ -78,7 +78,7 @@ twice-with-new g g' B bs le le' =
 
 -- zeroes after a list change no entry: where there was none, none is other than zero
 padded : (bs : List ℕ) (c b : ℕ) → get_or (bs ++ zeros c) b 0 ≡ get_or bs b 0
-padded [] c b = getD-zeros c b
+padded [] c b = get_or-zeros c b
 padded (x ∷ bs) c zero = refl
 padded (x ∷ bs) c (suc b) = padded bs c b
 

@@ -10,55 +10,55 @@ use borrow.Author.Tests.{eq-eqb, ne_eqb}
 use Rattle.layout.specs.Layout.{capacity}
 use Rattle.state.specs.declared.types.Record.{Record}
 use Rattle.state.specs.Good.{geometry, good}
-use Rattle.state.specs.Bytes.{recordLength, decode, plain, goodBytes, encode}
+use Rattle.state.specs.Bytes.{record_length, decode, plain, good_bytes, encode}
 use Rattle.state.specs.Update.{formatted}
 use Rattle.state.proofs.Laws.Bytes.{decode-encode, length-encode, plain-encode}
 use Rattle.calls.specs.Call.{Call, format, Event, on, Fed, feed, fed, number}
-use Rattle.calls.specs.Images.{Store, block, header, storedIn, recorded, recordedBytes, zeroDisks}
-use Rattle.calls.specs.Table.{looks, takesMarked, unfit, terms, laterRows, table, word, refusal, refusalOf, rowsBytes, refusalBytes}
-use Rattle.calls.specs.Effect.{Effect, tells, fills, stores, effect, Left, leftBy, act, untouched, settle, called, sealed, calledBytes, first_of, actUpTo, begun, left_of, begunBytes}
+use Rattle.calls.specs.Images.{Store, block, header, stored_in, recorded, recorded_bytes, zero_disks}
+use Rattle.calls.specs.Table.{looks, takes_marked, unfit, terms, later_rows, table, word, refusal, refusal_of, rows_bytes, refusal_bytes}
+use Rattle.calls.specs.Effect.{Effect, tells, fills, stores, effect, Left, left_by, act, untouched, settle, called, sealed, called_bytes, first_of, act_up_to, begun, left_of, begun_bytes}
 use Rattle.calls.proofs.Laws.Stores.{recorded-last}
 use Rattle.calls.proofs.Laws.Acting.{zero-done}
 use Rattle.calls.proofs.Laws.Kinds.{facts}
 
-pub good-encode : (r : Record) → goodBytes (encode r) ≡ good r
+pub good-encode : (r : Record) → good_bytes (encode r) ≡ good r
 good-encode r = rw (plain-encode r, decode-encode r)
 
-pub refusal-encode : (r : Record) (e : Fed) → refusalBytes (encode r) e ≡ refusal r (capacity (geometry r)) e
-unfolding refusalBytes rowsBytes refusal
+pub refusal-encode : (r : Record) (e : Fed) → refusal_bytes (encode r) e ≡ refusal r (capacity (geometry r)) e
+unfolding refusal_bytes rows_bytes refusal
 refusal-encode r e = rw (length-encode r, good-encode r, decode-encode r)
 
 settled : (e : Event) (r : Record) (x : Left Record) (n : ℕ) → settle n (untouched e (encode r)) (sealed x) ≡ sealed (settle n (untouched e r) x)
 settled e r x zero = refl
 settled e r x (suc n) = refl
 
-pub on-bytes : (e : Event) (r : Record) → calledBytes e (encode r) ≡ sealed (called e r)
-unfolding calledBytes called
-on-bytes e r = rw (refusal-encode r (fed e), decode-encode r) (settled e r (act e r) (refusalOf r (fed e)))
+pub on_bytes : (e : Event) (r : Record) → called_bytes e (encode r) ≡ sealed (called e r)
+unfolding called_bytes called
+on_bytes e r = rw (refusal-encode r (fed e), decode-encode r) (settled e r (act e r) (refusal_of r (fed e)))
 
 -- and so are its first c stores
-recorded-encode : (ps : List Store) (r : Record) → recordedBytes ps (encode r) ≡ encode (recorded ps r)
-unfolding recordedBytes recorded
+recorded-encode : (ps : List Store) (r : Record) → recorded_bytes ps (encode r) ≡ encode (recorded ps r)
+unfolding recorded_bytes recorded
 recorded-encode [] r = refl
 recorded-encode (block S d v ∷ ps) r = recorded-encode ps r
 recorded-encode (header x ∷ ps) r = recorded-encode ps x
 
-left-encode : (x : Effect) (e : Event) (r : Record) → left_of x e (encode r) ≡ sealed (leftBy x e r)
+left-encode : (x : Effect) (e : Event) (r : Record) → left_of x e (encode r) ≡ sealed (left_by x e r)
 left-encode (tells a) e r = refl
 left-encode (fills shown room) e r = refl
 left-encode (stores a shape ps) e r =
-    ap (λ (b : List ℕ). record { answer = a; state = b; images = storedIn shape ps e.images; room = e.room }) (recorded-encode ps r)
+    ap (λ (b : List ℕ). record { answer = a; state = b; images = stored_in shape ps e.images; room = e.room }) (recorded-encode ps r)
 
 pub begun-encode : (c : ℕ) (e : Event) (r : Record)
-    → begunBytes c e (encode r) ≡ settle (refusalOf r (fed e)) (untouched e (encode r)) (sealed (actUpTo c e r))
-unfolding begunBytes
+    → begun_bytes c e (encode r) ≡ settle (refusal_of r (fed e)) (untouched e (encode r)) (sealed (act_up_to c e r))
+unfolding begun_bytes
 begun-encode c e r =
     rw (refusal-encode r (fed e), decode-encode r)
-    (ap (settle (refusalOf r (fed e)) (untouched e (encode r))) (left-encode (first_of c (effect e.call r e)) e r))
+    (ap (settle (refusal_of r (fed e)) (untouched e (encode r))) (left-encode (first_of c (effect e.call r e)) e r))
 
-pub begun-on-bytes : (c : ℕ) (e : Event) (r : Record) → begunBytes c e (encode r) ≡ sealed (begun c e r)
+pub begun-on-bytes : (c : ℕ) (e : Event) (r : Record) → begun_bytes c e (encode r) ≡ sealed (begun c e r)
 unfolding begun
-begun-on-bytes c e r = begun-encode c e r ∙ settled e r (actUpTo c e r) (refusalOf r (fed e))
+begun-on-bytes c e r = begun-encode c e r ∙ settled e r (act_up_to c e r) (refusal_of r (fed e))
 
 -- ---- the same by the bytes lent, for a call that decodes them
 
@@ -68,43 +68,43 @@ module _ (bad : Bool) (r : Record) (cap len room : ℕ) (c : Call) where
   unfolding table
   short-first = go (looks c)
     where
-      go : (l : Bool) → ◌≡◌ {A = ℕ} (cond (cond l (true || unfit c bad r) true) 1 (word (laterRows c r cap len room))) 1
+      go : (l : Bool) → ◌≡◌ {A = ℕ} (cond (cond l (true || unfit c bad r) true) 1 (word (later_rows c r cap len room))) 1
       go true = refl
       go false = refl
 
   bad-first : looks c ≡ true → bad ≡ true → word (table c false bad r cap len room) ≡ 1
   unfolding table
-  bad-first l q = rw (l, q) (go (takesMarked c))
+  bad-first l q = rw (l, q) (go (takes_marked c))
     where
-      go : (m : Bool) → ◌≡◌ {A = ℕ} (cond (cond m true (true || r.mark)) 1 (word (laterRows c r cap len room))) 1
+      go : (m : Bool) → ◌≡◌ {A = ℕ} (cond (cond m true (true || r.mark)) 1 (word (later_rows c r cap len room))) 1
       go true = refl
       go false = refl
 
 -- bytes that are not so many, or that no record is written as: refusal 1
-refused-short : (e : Event) (b : List ℕ) → length b ≢ recordLength → refusalBytes b (fed e) ≡ 1
-unfolding refusalBytes rowsBytes
-refused-short e b h = rw (ne_eqb _ _ h) (short-first (not (goodBytes b)) (decode b) (capacity (geometry (decode b))) (length e.images) (length e.room) e.call)
+refused-short : (e : Event) (b : List ℕ) → length b ≢ record_length → refusal_bytes b (fed e) ≡ 1
+unfolding refusal_bytes rows_bytes
+refused-short e b h = rw (ne_eqb _ _ h) (short-first (not (good_bytes b)) (decode b) (capacity (geometry (decode b))) (length e.images) (length e.room) e.call)
 
-refused-damaged : (e : Event) (b : List ℕ) → length b ≡ recordLength → looks e.call ≡ true → plain b ≡ false → refusalBytes b (fed e) ≡ 1
-unfolding refusalBytes rowsBytes
+refused-damaged : (e : Event) (b : List ℕ) → length b ≡ record_length → looks e.call ≡ true → plain b ≡ false → refusal_bytes b (fed e) ≡ 1
+unfolding refusal_bytes rows_bytes
 refused-damaged e b long l p =
-    rw (eq-eqb _ _ long) (bad-first (not (goodBytes b)) (decode b) (capacity (geometry (decode b))) (length e.images) (length e.room) e.call l (rw p refl))
+    rw (eq-eqb _ _ long) (bad-first (not (good_bytes b)) (decode b) (capacity (geometry (decode b))) (length e.images) (length e.room) e.call l (rw p refl))
 
-pub bytes-short : (e : Event) (b : List ℕ) → length b ≢ recordLength → calledBytes e b ≡ untouched e b 1
-unfolding calledBytes
+pub bytes-short : (e : Event) (b : List ℕ) → length b ≢ record_length → called_bytes e b ≡ untouched e b 1
+unfolding called_bytes
 bytes-short e b h = rw (refused-short e b h) refl
 
-pub bytes-damaged : (e : Event) (b : List ℕ) → length b ≡ recordLength → looks e.call ≡ true → plain b ≡ false → calledBytes e b ≡ untouched e b 1
-unfolding calledBytes
+pub bytes-damaged : (e : Event) (b : List ℕ) → length b ≡ record_length → looks e.call ≡ true → plain b ≡ false → called_bytes e b ≡ untouched e b 1
+unfolding called_bytes
 bytes-damaged e b long l p = rw (refused-damaged e b long l p) refl
 
-pub begun-short : (c : ℕ) (e : Event) (b : List ℕ) → length b ≢ recordLength → begunBytes c e b ≡ untouched e b 1
-unfolding begunBytes
+pub begun-short : (c : ℕ) (e : Event) (b : List ℕ) → length b ≢ record_length → begun_bytes c e b ≡ untouched e b 1
+unfolding begun_bytes
 begun-short c e b h = rw (refused-short e b h) refl
 
-pub begun-damaged : (c : ℕ) (e : Event) (b : List ℕ) → length b ≡ recordLength → looks e.call ≡ true → plain b ≡ false
-    → begunBytes c e b ≡ untouched e b 1
-unfolding begunBytes
+pub begun-damaged : (c : ℕ) (e : Event) (b : List ℕ) → length b ≡ record_length → looks e.call ≡ true → plain b ≡ false
+    → begun_bytes c e b ≡ untouched e b 1
+unfolding begun_bytes
 begun-damaged c e b long l p = rw (refused-damaged e b long l p) refl
 
 -- what a call on bytes b leaves, beside the same call on a record
@@ -122,34 +122,34 @@ seals e b r zero =
 seals e b r (suc n) = record { answer = refl; images = refl; room = refl; kept = λ q. refl; written = λ q. absurd (omega (arith, q)) }
 
 -- bytes that a record is written as
-module _ (e : Event) (b : List ℕ) (long : length b ≡ recordLength) (p : plain b ≡ true) where
-  agrees : refusalBytes b (fed e) ≡ refusal (decode b) (capacity (geometry (decode b))) (fed e)
-  unfolding refusalBytes rowsBytes refusal
+module _ (e : Event) (b : List ℕ) (long : length b ≡ record_length) (p : plain b ≡ true) where
+  agrees : refusal_bytes b (fed e) ≡ refusal (decode b) (capacity (geometry (decode b))) (fed e)
+  unfolding refusal_bytes rows_bytes refusal
   agrees = rw (long, p) refl
 
-  pub record-seals : Seals b (calledBytes e b) (called e (decode b))
-  unfolding called calledBytes
+  pub record-seals : Seals b (called_bytes e b) (called e (decode b))
+  unfolding called called_bytes
   record-seals = rw agrees (seals e b (decode b) (refusal (decode b) (capacity (geometry (decode b))) (fed e)))
 
 -- format, lent any bytes of its length: as on any record
 
-pub format-encode : (n B T len room c : ℕ) (b : List ℕ) (r : Record) → length b ≡ recordLength
-    → refusalBytes b (feed (format n B T) len room) ≡ refusal r c (feed (format n B T) len room)
-unfolding refusalBytes rowsBytes refusal table laterRows terms
+pub format-encode : (n B T len room c : ℕ) (b : List ℕ) (r : Record) → length b ≡ record_length
+    → refusal_bytes b (feed (format n B T) len room) ≡ refusal r c (feed (format n B T) len room)
+unfolding refusal_bytes rows_bytes refusal table later_rows terms
 format-encode n B T len room c b r long = rw long refl
 
-module _ (n B T : ℕ) (img room b : List ℕ) (r : Record) (long : length b ≡ recordLength) where
+module _ (n B T : ℕ) (img room b : List ℕ) (r : Record) (long : length b ≡ record_length) where
   abbrev e : Event
   e = on (format n B T) img room
 
   acts-as-on : act e (decode b) ≡ act e r
   unfolding effect
-  acts-as-on = rw (recorded-last (zeroDisks B T 0 n) (formatted n B T) (decode b), recorded-last (zeroDisks B T 0 n) (formatted n B T) r) refl
+  acts-as-on = rw (recorded-last (zero_disks B T 0 n) (formatted n B T) (decode b), recorded-last (zero_disks B T 0 n) (formatted n B T) r) refl
 
-  settles : calledBytes e b ≡ settle (refusal r (capacity (geometry r)) (fed e)) (untouched e b) (sealed (act e r))
-  unfolding calledBytes
+  settles : called_bytes e b ≡ settle (refusal r (capacity (geometry r)) (fed e)) (untouched e b) (sealed (act e r))
+  unfolding called_bytes
   settles = ap₂ (λ (k : ℕ) (x : Left Record). settle k (untouched e b) (sealed x)) (format-encode n B T (length img) (length room) (capacity (geometry r)) b r long) acts-as-on
 
-  pub format-seals : Seals b (calledBytes e b) (called e r)
+  pub format-seals : Seals b (called_bytes e b) (called e r)
   unfolding called
   format-seals = rw settles (seals e b r (refusal r (capacity (geometry r)) (fed e)))

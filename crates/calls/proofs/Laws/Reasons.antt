@@ -9,14 +9,14 @@ use native.Mathlib.Omega.{arith}
 use lib.Dec.{eqb, ltb}
 use borrow.Author.Tests.{not-true, not-false, eqb-true, eqb-false, ltb-true, lt-ltb}
 use Rattle.layout.specs.declared.Geometry.{Geometry}
-use Rattle.layout.specs.Layout.{totalOf}
+use Rattle.layout.specs.Layout.{total_of}
 use Rattle.layout.proofs.Laws.Basics.{le-or-lt}
 use Rattle.state.specs.declared.types.Health.TheVariants.{Whole, Out, Lost, Rebuilding}
 use Rattle.state.specs.declared.types.Health.{Health}
 use Rattle.state.specs.declared.types.Record.{Record}
-use Rattle.state.specs.Good.{within, oldGood, blockGood, stripesGood, good, GoodRecord}
+use Rattle.state.specs.Good.{within, old_good, block_good, stripes_good, good, GoodRecord}
 use Rattle.state.proofs.Laws.Good.{within-true, true-within, limits, within-limits}
-use Rattle.calls.specs.Health.{isLost, isDegraded, isOut, isRebuilding}
+use Rattle.calls.specs.Health.{is_lost, is_degraded, is_out, is_rebuilding}
 use Rattle.calls.specs.Table.{Row, word, idle, formable}
 use Rattle.calls.specs.Numbered.{Reason, Gives, Outside, Rebuilds}
 use Rattle.calls.proofs.Laws.Health.{which, not-out, rebuilt, not-rebuilt}
@@ -76,13 +76,13 @@ not_good r = record {
   no = λ e n. n (limits r (not-false _ e));
 }
 
-pub is_lost : (h : Health) → Tells (isLost h) (h ≡ Lost)
-is_lost Whole = record { yes = λ e. let z : Whole ≡ Lost = cc in z; no = λ e q. let w : ◌≡◌ {A = ℕ} 0 1 = cc in omega arith }
-is_lost (Out o) = record { yes = λ e. let z : Out o ≡ Lost = cc in z; no = λ e q. let w : ◌≡◌ {A = ℕ} 0 1 = cc in omega arith }
-is_lost (Rebuilding o c) = record { yes = λ e. let z : Rebuilding o c ≡ Lost = cc in z; no = λ e q. let w : ◌≡◌ {A = ℕ} 0 1 = cc in omega arith }
-is_lost Lost = record { yes = λ e. refl; no = λ e q. let w : ◌≡◌ {A = ℕ} 0 1 = cc in omega arith }
+pub is-lost : (h : Health) → Tells (is_lost h) (h ≡ Lost)
+is-lost Whole = record { yes = λ e. let z : Whole ≡ Lost = cc in z; no = λ e q. let w : ◌≡◌ {A = ℕ} 0 1 = cc in omega arith }
+is-lost (Out o) = record { yes = λ e. let z : Out o ≡ Lost = cc in z; no = λ e q. let w : ◌≡◌ {A = ℕ} 0 1 = cc in omega arith }
+is-lost (Rebuilding o c) = record { yes = λ e. let z : Rebuilding o c ≡ Lost = cc in z; no = λ e q. let w : ◌≡◌ {A = ℕ} 0 1 = cc in omega arith }
+is-lost Lost = record { yes = λ e. refl; no = λ e q. let w : ◌≡◌ {A = ℕ} 0 1 = cc in omega arith }
 
-pub is-degraded : (h : Health) → isLost h ≡ false → Tells (isDegraded h) (((o : ℕ) × (h ≡ Out o)) ⊎ Rebuilds h)
+pub is-degraded : (h : Health) → is_lost h ≡ false → Tells (is_degraded h) (((o : ℕ) × (h ≡ Out o)) ⊎ Rebuilds h)
 is-degraded Whole nl = record {
   yes = λ e. absurd (let w : ◌≡◌ {A = ℕ} 0 1 = cc in omega arith);
   no = λ e x. elim x [ inl (o, q) ↦ let w : ◌≡◌ {A = ℕ} 0 1 = cc in omega arith | inr (o, c, q) ↦ let w : ◌≡◌ {A = ℕ} 0 1 = cc in omega arith ];
@@ -91,19 +91,19 @@ is-degraded (Out o) nl = record { yes = λ e. inl (o, refl); no = λ e q. let w 
 is-degraded Lost nl = absurd (let w : ◌≡◌ {A = ℕ} 0 1 = cc in omega arith)
 is-degraded (Rebuilding o c) nl = record { yes = λ e. inr (o, c, refl); no = λ e q. let w : ◌≡◌ {A = ℕ} 0 1 = cc in omega arith }
 
-pub none-rebuilt : (h : Health) → Tells (not (isRebuilding h)) (¬ Rebuilds h)
+pub none-rebuilt : (h : Health) → Tells (not (is_rebuilding h)) (¬ Rebuilds h)
 none-rebuilt h = record { yes = λ e (o, c, q). not-rebuilt h (not-true _ e) o c q; no = λ e n. n (rebuilt h (not-false _ e)) }
 
-pub is-idle : (g : Geometry) → Tells (idle g) ((g.new ≡ 0) ⊎ (g.moves ≡ totalOf g))
+pub is-idle : (g : Geometry) → Tells (idle g) ((g.new ≡ 0) ⊎ (g.moves ≡ total_of g))
 is-idle g = record {
   yes = λ e. elim (ℕ_discrete g.new 0) [ yes z ↦ inl z | no z ↦ inr (none_left g z e) ];
   no = λ e o. elim o [ inl z ↦ some-new g e z | inr z ↦ not-total g e z ];
 }
 
-is-out : (h : Health) (d : ℕ) → isLost h ≡ false → Tells (isOut h d) (h ≡ Out d)
+is-out : (h : Health) (d : ℕ) → is_lost h ≡ false → Tells (is_out h d) (h ≡ Out d)
 is-out h d nl = record { yes = which h d nl; no = not-out h d }
 
-pub is-other : (h : Health) (d : ℕ) → isLost h ≡ false → Tells (not (isOut h d)) (h ≢ Out d)
+pub is-other : (h : Health) (d : ℕ) → is_lost h ≡ false → Tells (not (is_out h d)) (h ≢ Out d)
 is-other h d nl = record { yes = λ e. not-out h d (not-true _ e); no = λ e n. n (which h d nl (not-false _ e)) }
 
 -- ---- one of two
@@ -122,7 +122,7 @@ not-fit r = either (not (good r)) r.mark (not_good r) (record { yes = λ e. e; n
 
 pub unformable : (n B T : ℕ) → Tells (not (formable n B T)) (Outside 3 n 16 ⊎ (Outside 1 B 4096 ⊎ Outside 1 T 1048576))
 unfolding formable
-unformable n B T = not-both (oldGood n) (blockGood B && stripesGood T) (outside 3 n 16) (not-both (blockGood B) (stripesGood T) (outside 1 B 4096) (outside 1 T 1048576))
+unformable n B T = not-both (old_good n) (block_good B && stripes_good T) (outside 3 n 16) (not-both (block_good B) (stripes_good T) (outside 1 B 4096) (outside 1 T 1048576))
 
 inside : (low x high : ℕ) → (Outside low x high → ⊥) → (low ≤ x) × (x ≤ high)
 inside low x high f =
@@ -133,10 +133,10 @@ inside low x high f =
 pub form-facts : (n B T : ℕ) → formable n B T ≡ true → (3 ≤ n) × (n ≤ 16) × (1 ≤ B) × (B ≤ 4096) × (1 ≤ T) × (T ≤ 1048576)
 form-facts n B T e =
     let f = (unformable n B T).no (ap not e) in
-    let (n-low, n-high) = inside 3 n 16 (λ o. f (inl o)) in
+    let (n_low, n_high) = inside 3 n 16 (λ o. f (inl o)) in
     let (B-low, B-high) = inside 1 B 4096 (λ o. f (inr (inl o))) in
     let (T-low, T-high) = inside 1 T 1048576 (λ o. f (inr (inr o))) in
-    (n-low, n-high, B-low, B-high, T-low, T-high)
+    (n_low, n_high, B-low, B-high, T-low, T-high)
 
-pub out-or-past : (h : Health) (d N : ℕ) → isLost h ≡ false → Tells (not (ltb d N) || isOut h d) ((N ≤ d) ⊎ (h ≡ Out d))
-out-or-past h d N nl = either (not (ltb d N)) (isOut h d) (past d N) (is-out h d nl)
+pub out-or-past : (h : Health) (d N : ℕ) → is_lost h ≡ false → Tells (not (ltb d N) || is_out h d) ((N ≤ d) ⊎ (h ≡ Out d))
+out-or-past h d N nl = either (not (ltb d N)) (is_out h d) (past d N) (is-out h d nl)

@@ -15,31 +15,31 @@ use Rattle.layout.proofs.Laws.Basics.{le-or-lt}
 use Rattle.blocks.specs.Stripe.{others}
 use Rattle.blocks.proofs.Laws.Grid.{Grid}
 use Rattle.blocks.proofs.Laws.Rows.{put, rest, put_same, put_other}
-use Rattle.blocks.proofs.Laws.Stripe.{length-others, getD-others, others-store}
+use Rattle.blocks.proofs.Laws.Stripe.{length-others, get_or-others, others-store}
 use Rattle.state.specs.declared.types.Health.TheVariants.{Whole, Out, Rebuilding}
 use Rattle.state.specs.declared.types.Health.{Health}
 use Rattle.state.specs.declared.types.Record.{Record}
 use Rattle.state.specs.Good.{geometry, HealthWithin, GoodRecord}
-use Rattle.state.specs.Update.{withHealth}
-use Rattle.state.specs.Bytes.{stripesDone}
+use Rattle.state.specs.Update.{with_health}
+use Rattle.state.specs.Bytes.{stripes_done}
 use Rattle.state.proofs.Laws.Good.{out-lt, rebuilding-lt, turned}
 use Rattle.calls.specs.Call.{begin, continue, on, done, made}
-use Rattle.calls.specs.Health.{isLost, absent, rebuiltTo}
-use Rattle.calls.specs.Images.{disksOf, size, othersIn, Store, block, header, stored, storedIn, recorded, fillDisk}
-use Rattle.calls.specs.Table.{laterRows, word}
-use Rattle.calls.specs.Effect.{stripesMade, continueStores, effect, act}
+use Rattle.calls.specs.Health.{is_lost, absent, rebuilt_to}
+use Rattle.calls.specs.Images.{disks_of, size, others_in, Store, block, header, stored, stored_in, recorded, fill_disk}
+use Rattle.calls.specs.Table.{later_rows, word}
+use Rattle.calls.specs.Effect.{stripes_made, continue_stores, effect, act}
 use Rattle.calls.specs.Theorem.{rising}
 use Rattle.calls.proofs.Laws.Column.{see, reseen}
 use Rattle.calls.proofs.Laws.Health.{below-count, from-count}
 use Rattle.calls.proofs.Laws.Stores.{Within, length-stored, cell-stored, stored-append, stored_last, recorded-last, column_apart, column-fill, fill-append, fill-cong, fill-rising, within-fill}
-use Rattle.calls.proofs.Laws.Holding.{Holding, Leaves, bytes_at, cellIn, single}
+use Rattle.calls.proofs.Laws.Holding.{Holding, Leaves, bytes_at, cell_in, single}
 use Rattle.calls.proofs.Laws.Passed as passed
 
 -- a rebuild that has come to its last stripe is over, any other goes on
-pub come-to-end : (T o c : ℕ) → T ≡ c → rebuiltTo T o c ≡ Whole
+pub come-to-end : (T o c : ℕ) → T ≡ c → rebuilt_to T o c ≡ Whole
 come-to-end T o c q = rw (eq-eqb c T (sym q)) refl
 
-pub come-to : (T o c : ℕ) → c < T → rebuiltTo T o c ≡ Rebuilding o c
+pub come-to : (T o c : ℕ) → c < T → rebuilt_to T o c ≡ Rebuilding o c
 come-to T o c l = rw (ne_eqb c T (omega arith)) refl
 
 -- a place written anew is as it was seen
@@ -53,7 +53,7 @@ put-seen N I d e = go (ℕ_discrete e d)
 -- where x stripes from the c-th on are written so, and nothing else, each place that counts as in afterwards is what was seen before
 module _ (N T o c x : ℕ) (I J : Grid) (most : c + x ≤ T) where
   resumed : ((S e : ℕ) → S < T → c ≤ S → S < c + x → J S e ≡ put (I S) o (rest N o (I S)) e) → ((S e : ℕ) → S < T → (S < c) ⊎ (c + x ≤ S) → J S e ≡ I S e)
-      → (S e : ℕ) → S < T → absent (rebuiltTo T o (c + x)) S e ≡ false → J S e ≡ see N (absent (Rebuilding o c)) I S e
+      → (S e : ℕ) → S < T → absent (rebuilt_to T o (c + x)) S e ≡ false → J S e ≡ see N (absent (Rebuilding o c)) I S e
   resumed within apart S e lS u = go (le-or-lt c S) (le-or-lt (c + x) S)
     where
       go : (c ≤ S) ⊎ (S < c) → (c + x ≤ S) ⊎ (S < c + x) → J S e ≡ see N (absent (Rebuilding o c)) I S e
@@ -68,37 +68,37 @@ module _ (B T N d S₀ : ℕ) (img : List ℕ) where
   abbrev pub sums : ℕ → List ℕ
   sums S = others B T img S N d
 
-  pub others-filled : (k S : ℕ) → S₀ + k ≤ T → S < T → others B T (stored B T (fillDisk S₀ k d sums) img) S N d ≡ sums S
-  unfolding stored fillDisk
+  pub others-filled : (k S : ℕ) → S₀ + k ≤ T → S < T → others B T (stored B T (fill_disk S₀ k d sums) img) S N d ≡ sums S
+  unfolding stored fill_disk
   others-filled zero S lk lS = refl
   others-filled (suc k) S lk lS =
-      ap (λ (l : List ℕ). others B T l S N d) (stored-append B T (fillDisk S₀ k d sums) (block (S₀ + k) d (sums (S₀ + k)) ∷ []) img)
-      ∙ others-store B T (stored B T (fillDisk S₀ k d sums) img) S N d (S₀ + k) d (sums (S₀ + k)) lS (omega arith) (inr refl) (length-others B T img (S₀ + k) N d)
+      ap (λ (l : List ℕ). others B T l S N d) (stored-append B T (fill_disk S₀ k d sums) (block (S₀ + k) d (sums (S₀ + k)) ∷ []) img)
+      ∙ others-store B T (stored B T (fill_disk S₀ k d sums) img) S N d (S₀ + k) d (sums (S₀ + k)) lS (omega arith) (inr refl) (length-others B T img (S₀ + k) N d)
       ∙ others-filled k S (omega arith) lS
 
 -- ---- begin
 
 module _ (r : Record) (img room : List ℕ) (bs : List (List ℕ)) (lends : length img ≡ size r → Holding r img bs) (d : ℕ) (c k : ℕ) where
-  pub begins : word (laterRows (begin d) r c (length img) k) ≡ 0 → Leaves (act (on (begin d) img room) r) done (withHealth r (Rebuilding d 0)) bs
+  pub begins : word (later_rows (begin d) r c (length img) k) ≡ 0 → Leaves (act (on (begin d) img room) r) done (with_health r (Rebuilding d 0)) bs
   unfolding effect stored recorded
   begins z =
       let q = passed.begins r c (length img) k d z in
       let h : Holding r img bs = lends q.long in
       let hd : r.health ≡ Out d = q.is-out in
-      let nl : isLost r.health ≡ false = rw hd refl in
+      let nl : is_lost r.health ≡ false = rw hd refl in
       record {
         answer = refl;
         state = refl;
         holding =
             record {
-              limits = turned r (Rebuilding d 0) h.limits (out-lt r d h.limits hd, omega (arith, h.limits.array.stripes-low));
+              limits = turned r (Rebuilding d 0) h.limits (out-lt r d h.limits hd, omega (arith, h.limits.array.stripes_low));
               clean = refl;
               long = h.long;
               count = h.count;
               whole = h.whole;
               stored = λ u j lj.
-                  reseen (disksOf r) r.stripes (layout (geometry r)).owner (absent r.health) (absent (Rebuilding d 0)) (cellIn r img j) (cellIn r img j) (bytes_at j bs)
-                  (single (disksOf r) r.stripes r.health nl) (h.stored nl j lj)
+                  reseen (disks_of r) r.stripes (layout (geometry r)).owner (absent r.health) (absent (Rebuilding d 0)) (cell_in r img j) (cell_in r img j) (bytes_at j bs)
+                  (single (disks_of r) r.stripes r.health nl) (h.stored nl j lj)
                   (λ S e lS le v. rw (hd, sym (from-count d 0 S e (omega arith)) ∙ v) refl);
             };
       }
@@ -111,44 +111,44 @@ module _ (r : Record) (img : List ℕ) (o c : ℕ) (hd : r.health ≡ Rebuilding
   more = min k (r.stripes - c)
 
   abbrev pub remade : List Store
-  remade = fillDisk c more o (λ S. othersIn r img S o)
+  remade = fill_disk c more o (λ S. others_in r img S o)
 
   abbrev pub further : Health
-  further = rebuiltTo r.stripes o (c + more)
+  further = rebuilt_to r.stripes o (c + more)
 
   abbrev pub left : List ℕ
   left = stored r.block r.stripes remade img
 
   -- what it does, by these
-  pub stores-are : continueStores k r img ≡ remade ++ header (withHealth r further) ∷ []
-  unfolding continueStores
+  pub stores-are : continue_stores k r img ≡ remade ++ header (with_health r further) ∷ []
+  unfolding continue_stores
   stores-are = rw hd refl
 
-  pub images-are : stored r.block r.stripes (continueStores k r img) img ≡ left
-  images-are = ap (λ (ps : List Store). stored r.block r.stripes ps img) stores-are ∙ stored_last r.block r.stripes remade (withHealth r further) img
+  pub images-are : stored r.block r.stripes (continue_stores k r img) img ≡ left
+  images-are = ap (λ (ps : List Store). stored r.block r.stripes ps img) stores-are ∙ stored_last r.block r.stripes remade (with_health r further) img
 
-  pub record_is : recorded (continueStores k r img) r ≡ withHealth r further
-  record_is = ap (λ (ps : List Store). recorded ps r) stores-are ∙ recorded-last remade (withHealth r further) r
+  pub record_is : recorded (continue_stores k r img) r ≡ with_health r further
+  record_is = ap (λ (ps : List Store). recorded ps r) stores-are ∙ recorded-last remade (with_health r further) r
 
   -- the stripes in rising order, and the record last
-  pub risen : continueStores k r img ≡ rising c more (λ S. block S o (othersIn r img S o)) ++ header (recorded (continueStores k r img) r) ∷ []
+  pub risen : continue_stores k r img ≡ rising c more (λ S. block S o (others_in r img S o)) ++ header (recorded (continue_stores k r img) r) ∷ []
   risen =
       stores-are
-      ∙ ap₂ (λ (ps : List Store) (x : Record). ps ++ header x ∷ []) (fill-rising o (λ S. othersIn r img S o) c more) (sym record_is)
+      ∙ ap₂ (λ (ps : List Store) (x : Record). ps ++ header x ∷ []) (fill-rising o (λ S. others_in r img S o) c more) (sym record_is)
 
   module _ (limits : GoodRecord r) where
     pub as_many : c + more ≤ r.stripes
     as_many = omega (arith, rebuilding-lt r o c limits hd)
 
-    pub within-remade : Within (disksOf r) r.block r.stripes remade
+    pub within-remade : Within (disks_of r) r.block r.stripes remade
     within-remade =
-        within-fill c o (λ S. othersIn r img S o) (disksOf r) r.block r.stripes (rebuilding-lt r o c limits hd).0
-        (λ S. length-others r.block r.stripes img S (disksOf r) o) more as_many
+        within-fill c o (λ S. others_in r img S o) (disks_of r) r.block r.stripes (rebuilding-lt r o c limits hd).0
+        (λ S. length-others r.block r.stripes img S (disks_of r) o) more as_many
 
-    further-within : HealthWithin (disksOf r) r.stripes further
+    further-within : HealthWithin (disks_of r) r.stripes further
     further-within = go (le-or-lt r.stripes (c + more))
       where
-        go : (r.stripes ≤ c + more) ⊎ (c + more < r.stripes) → HealthWithin (disksOf r) r.stripes further
+        go : (r.stripes ≤ c + more) ⊎ (c + more < r.stripes) → HealthWithin (disks_of r) r.stripes further
         go (inl l) = rw (come-to-end r.stripes o (c + more) (omega (arith, as_many, l))) tt
         go (inr l) = rw (come-to r.stripes o (c + more) l) ((rebuilding-lt r o c limits hd).0, l)
 
@@ -157,21 +157,21 @@ module _ (r : Record) (img : List ℕ) (o c : ℕ) (hd : r.health ≡ Rebuilding
       long-left = length-stored r.block r.stripes remade img ∙ long
 
       module _ (j S e : ℕ) (lj : j < r.block) (lS : S < r.stripes) where
-        pub cell_apart : (e ≡ o → (S < c) ⊎ (c + more ≤ S)) → cellIn r left j S e ≡ cellIn r img j S e
+        pub cell_apart : (e ≡ o → (S < c) ⊎ (c + more ≤ S)) → cell_in r left j S e ≡ cell_in r img j S e
         cell_apart far =
-            cell-stored r.block r.stripes (disksOf r) remade img within-remade long j S e lj lS
-            ∙ column_apart c o (λ s. othersIn r img s o) j more (cellIn r img j) S e far
+            cell-stored r.block r.stripes (disks_of r) remade img within-remade long j S e lj lS
+            ∙ column_apart c o (λ s. others_in r img s o) j more (cell_in r img j) S e far
 
-        pub cell-remade : c ≤ S → S < c + more → cellIn r left j S e ≡ put (cellIn r img j S) o (rest (disksOf r) o (cellIn r img j S)) e
+        pub cell-remade : c ≤ S → S < c + more → cell_in r left j S e ≡ put (cell_in r img j S) o (rest (disks_of r) o (cell_in r img j S)) e
         cell-remade l h =
-            cell-stored r.block r.stripes (disksOf r) remade img within-remade long j S e lj lS
-            ∙ column-fill c o (λ s. othersIn r img s o) j more (cellIn r img j) S e l h
-            ∙ ap (λ (x : ℕ). put (cellIn r img j S) o x e) (getD-others r.block r.stripes img S (disksOf r) o j lj)
+            cell-stored r.block r.stripes (disks_of r) remade img within-remade long j S e lj lS
+            ∙ column-fill c o (λ s. others_in r img s o) j more (cell_in r img j) S e l h
+            ∙ ap (λ (x : ℕ). put (cell_in r img j S) o x e) (get_or-others r.block r.stripes img S (disks_of r) o j lj)
 
-      pub carries : (room : List ℕ) (bs : List (List ℕ)) → Holding r img bs → Leaves (act (on (continue k) img room) r) (made more) (withHealth r further) bs
+      pub carries : (room : List ℕ) (bs : List (List ℕ)) → Holding r img bs → Leaves (act (on (continue k) img room) r) (made more) (with_health r further) bs
       unfolding effect
       carries room bs h =
-          let nl : isLost r.health ≡ false = rw hd refl in
+          let nl : is_lost r.health ≡ false = rw hd refl in
           record {
             answer = rw hd refl;
             state = record_is;
@@ -184,11 +184,11 @@ module _ (r : Record) (img : List ℕ) (o c : ℕ) (hd : r.health ≡ Rebuilding
                   whole = h.whole;
                   stored = λ u j lj.
                       rw images-are
-                      (reseen (disksOf r) r.stripes (layout (geometry r)).owner (absent r.health) (absent further) (cellIn r img j) (cellIn r left j) (bytes_at j bs)
-                      (single (disksOf r) r.stripes r.health nl) (h.stored nl j lj)
+                      (reseen (disks_of r) r.stripes (layout (geometry r)).owner (absent r.health) (absent further) (cell_in r img j) (cell_in r left j) (bytes_at j bs)
+                      (single (disks_of r) r.stripes r.health nl) (h.stored nl j lj)
                       (λ S e lS le v.
                       rw hd
-                      (resumed (disksOf r) r.stripes o c more (cellIn r img j) (cellIn r left j) as_many (λ s x ls lo hi. cell-remade j s x lj ls lo hi)
+                      (resumed (disks_of r) r.stripes o c more (cell_in r img j) (cell_in r left j) as_many (λ s x ls lo hi. cell-remade j s x lj ls lo hi)
                       (λ s x ls far. cell_apart j s x lj ls (λ p. far)) S e lS v)));
                 };
           }
@@ -198,10 +198,10 @@ module _ (r : Record) (img : List ℕ) (o c : ℕ) (hd : r.health ≡ Rebuilding
 module _ (i k o c : ℕ) (r : Record) (img : List ℕ) (hd : r.health ≡ Rebuilding o c) (l : c + i < r.stripes) where
   -- the record and the images between the two
   abbrev r₁ : Record
-  r₁ = withHealth r (Rebuilding o (c + i))
+  r₁ = with_health r (Rebuilding o (c + i))
 
   abbrev J : List ℕ
-  J = stored r.block r.stripes (fillDisk c i o (λ S. othersIn r img S o)) img
+  J = stored r.block r.stripes (fill_disk c i o (λ S. others_in r img S o)) img
 
   abbrev x : ℕ
   x = min k (r.stripes - (c + i))
@@ -212,47 +212,47 @@ module _ (i k o c : ℕ) (r : Record) (img : List ℕ) (hd : r.health ≡ Rebuil
   all : min (i + k) (r.stripes - c) ≡ i + min k (r.stripes - (c + i))
   all = omega arith
 
-  between : recorded (continueStores i r img) r ≡ r₁
+  between : recorded (continue_stores i r img) r ≡ r₁
   between =
       record_is r img o c hd i
-      ∙ ap {B = Record} (λ (n : ℕ). withHealth r (rebuiltTo r.stripes o (c + n))) first
-      ∙ ap {B = Record} (λ (h : Health). withHealth r h) (come-to r.stripes o (c + i) l)
+      ∙ ap {B = Record} (λ (n : ℕ). with_health r (rebuilt_to r.stripes o (c + n))) first
+      ∙ ap {B = Record} (λ (h : Health). with_health r h) (come-to r.stripes o (c + i) l)
 
-  left-between : stored r.block r.stripes (continueStores i r img) img ≡ J
+  left-between : stored r.block r.stripes (continue_stores i r img) img ≡ J
   left-between =
       images-are r img o c hd i
-      ∙ ap (λ (n : ℕ). stored r.block r.stripes (fillDisk c n o (λ S. othersIn r img S o)) img) first
+      ∙ ap (λ (n : ℕ). stored r.block r.stripes (fill_disk c n o (λ S. others_in r img S o)) img) first
 
   abbrev Alike : Record → List ℕ → Type 0
   Alike r' img' =
-      (storedIn r (continueStores (i + k) r img) img ≡ storedIn r' (continueStores k r' img') img')
-      × (recorded (continueStores (i + k) r img) r ≡ recorded (continueStores k r' img') r')
-      × (stripesMade (i + k) r ≡ stripesMade i r + stripesMade k r')
+      (stored_in r (continue_stores (i + k) r img) img ≡ stored_in r' (continue_stores k r' img') img')
+      × (recorded (continue_stores (i + k) r img) r ≡ recorded (continue_stores k r' img') r')
+      × (stripes_made (i + k) r ≡ stripes_made i r + stripes_made k r')
 
-  images-alike : stored r.block r.stripes (continueStores (i + k) r img) img ≡ stored r.block r.stripes (continueStores k r₁ J) J
+  images-alike : stored r.block r.stripes (continue_stores (i + k) r img) img ≡ stored r.block r.stripes (continue_stores k r₁ J) J
   images-alike =
       let B : ℕ = r.block in
       let T : ℕ = r.stripes in
-      let f : ℕ → List ℕ = λ S. othersIn r img S o in
+      let f : ℕ → List ℕ = λ S. others_in r img S o in
       images-are r img o c hd (i + k)
-      ∙ ap (λ (n : ℕ). stored B T (fillDisk c n o f) img) all
+      ∙ ap (λ (n : ℕ). stored B T (fill_disk c n o f) img) all
       ∙ ap (λ (ps : List Store). stored B T ps img) (fill-append c o f i x)
-      ∙ stored-append B T (fillDisk c i o f) (fillDisk (c + i) x o f) img
+      ∙ stored-append B T (fill_disk c i o f) (fill_disk (c + i) x o f) img
       ∙ ap (λ (ps : List Store). stored B T ps J)
-      (fill-cong (c + i) o f (λ S. othersIn r J S o) x (λ S h. sym (others-filled B T (disksOf r) o c img i S (omega arith) (omega arith))))
+      (fill-cong (c + i) o f (λ S. others_in r J S o) x (λ S h. sym (others-filled B T (disks_of r) o c img i S (omega arith) (omega arith))))
       ∙ sym (images-are r₁ J o (c + i) refl k)
 
-  record-alike : recorded (continueStores (i + k) r img) r ≡ recorded (continueStores k r₁ J) r₁
+  record-alike : recorded (continue_stores (i + k) r img) r ≡ recorded (continue_stores k r₁ J) r₁
   record-alike =
       record_is r img o c hd (i + k)
-      ∙ ap {B = Record} (λ (n : ℕ). withHealth r (rebuiltTo r.stripes o n))
+      ∙ ap {B = Record} (λ (n : ℕ). with_health r (rebuilt_to r.stripes o n))
       (let q : c + min (i + k) (r.stripes - c) ≡ c + i + min k (r.stripes - (c + i)) = omega arith in q)
       ∙ sym (record_is r₁ J o (c + i) refl k)
 
-  counts-alike : stripesMade (i + k) r ≡ stripesMade i r + stripesMade k r₁
-  counts-alike = omega (arith, (let q : stripesDone r.health ≡ c = ap stripesDone hd in q))
+  counts-alike : stripes_made (i + k) r ≡ stripes_made i r + stripes_made k r₁
+  counts-alike = omega (arith, (let q : stripes_done r.health ≡ c = ap stripes_done hd in q))
 
-  pub in_two : Alike (recorded (continueStores i r img) r) (stored r.block r.stripes (continueStores i r img) img)
+  pub in_two : Alike (recorded (continue_stores i r img) r) (stored r.block r.stripes (continue_stores i r img) img)
   in_two =
-      subst (λ (r' : Record). Alike r' (stored r.block r.stripes (continueStores i r img) img)) (sym between)
+      subst (λ (r' : Record). Alike r' (stored r.block r.stripes (continue_stores i r img) img)) (sym between)
       (subst (λ (l : List ℕ). Alike r₁ l) (sym left-between) (images-alike, record-alike, counts-alike))

@@ -10,18 +10,18 @@ use lib.Dec.{eqb, ltb}
 use borrow.Author.Tests.{eqb-true, eqb-false, eq-eqb}
 use Rattle.conditions.proofs.Tests.{neither}
 use Rattle.layout.specs.declared.Geometry.{Geometry}
-use Rattle.layout.specs.Layout.{totalOf}
+use Rattle.layout.specs.Layout.{total_of}
 use Rattle.layout.specs.Limits.{GoodArray}
 use lib.ListN.{length}
 use Rattle.state.specs.declared.types.Health.TheVariants.{Lost}
 use Rattle.state.specs.declared.types.Record.{Record}
-use Rattle.state.specs.Good.{newGood, good}
+use Rattle.state.specs.Good.{new_good, good}
 use Rattle.calls.specs.Call.{Call, format, read, view, write, grow, advance, out, begin, continue}
 use Rattle.calls.specs.Call.{status, locate, owner, sweep, restart, feed}
-use Rattle.calls.specs.Health.{isOut, isRebuilding}
-use Rattle.calls.specs.Images.{disksOf, size, sizeWith}
-use Rattle.calls.specs.Table.{Row, badRecord, grownAlready, idle, nothingToMove, formable, badGeometry, images, pastEnd, blockLength, disk}
-use Rattle.calls.specs.Table.{lost, degraded, unmarked, looks, takesMarked, laterRows, terms, table, word, kept, keptWhole, keptLent, refusal}
+use Rattle.calls.specs.Health.{is_out, is_rebuilding}
+use Rattle.calls.specs.Images.{disks_of, size, size_with}
+use Rattle.calls.specs.Table.{Row, bad_record, grown_already, idle, nothing_to_move, formable, bad_geometry, images, past_end, block_length, disk}
+use Rattle.calls.specs.Table.{lost, degraded, unmarked, looks, takes_marked, later_rows, terms, table, word, kept, kept_whole, kept_lent, refusal}
 
 -- a row that is passed
 pub passes : (c : Bool) (k w : ℕ) → cond c (suc k) w ≡ 0 → (c ≡ false) × (w ≡ 0)
@@ -74,73 +74,73 @@ module _ (r : Record) (ys : List Row) {k : ℕ} where
   unfolding Numbered
   kept_on e z = goes_on (kept r) ys (omega arith, (omega arith, tt)) e z
 
-  pub whole-on : k ≡ word (keptWhole r) → k ≡ 0 → word (keptWhole r ++ ys) ≡ word ys
+  pub whole-on : k ≡ word (kept_whole r) → k ≡ 0 → word (kept_whole r ++ ys) ≡ word ys
   unfolding Numbered
-  whole-on e z = goes_on (keptWhole r) ys (omega arith, (omega arith, (omega arith, tt))) e z
+  whole-on e z = goes_on (kept_whole r) ys (omega arith, (omega arith, (omega arith, tt))) e z
 
-  pub lent-on : (len : ℕ) → k ≡ word (keptLent r len) → k ≡ 0 → word (keptLent r len ++ ys) ≡ word ys
+  pub lent-on : (len : ℕ) → k ≡ word (kept_lent r len) → k ≡ 0 → word (kept_lent r len ++ ys) ≡ word ys
   unfolding Numbered
-  lent-on len e z = goes_on (keptLent r len) ys (omega arith, (omega arith, (omega arith, tt))) e z
+  lent-on len e z = goes_on (kept_lent r len) ys (omega arith, (omega arith, (omega arith, tt))) e z
 
 -- ---- the rows of each call, whose capacity is c, lent images of len bytes and a block or scratch of room
 
 module _ (r : Record) (c len room : ℕ) where
-  pub format-rows : (n B T : ℕ) → refusal r c (feed (format n B T) len room) ≡ word (badGeometry (formable n B T) ∷ images (n * (T * B)) len ∷ [])
-  unfolding refusal table laterRows terms
+  pub format-rows : (n B T : ℕ) → refusal r c (feed (format n B T) len room) ≡ word (bad_geometry (formable n B T) ∷ images (n * (T * B)) len ∷ [])
+  unfolding refusal table later_rows terms
   format-rows n B T = refl
 
-  pub read-rows : (b : ℕ) → refusal r c (feed (read b) len room) ≡ word (keptLent r len ++ (pastEnd b c ∷ blockLength r room ∷ []))
-  unfolding refusal table laterRows terms
+  pub read-rows : (b : ℕ) → refusal r c (feed (read b) len room) ≡ word (kept_lent r len ++ (past_end b c ∷ block_length r room ∷ []))
+  unfolding refusal table later_rows terms
   read-rows b = refl
 
   pub view-rows : (b : ℕ) → refusal r c (feed (view b) len room) ≡ refusal r c (feed (read b) len room)
-  unfolding refusal table laterRows terms
+  unfolding refusal table later_rows terms
   view-rows b = refl
 
   pub write-rows : (b : ℕ) (v : List ℕ) → refusal r c (feed (write b v) len room) ≡ refusal r c (feed (read b) len (length v))
-  unfolding refusal table laterRows terms
+  unfolding refusal table later_rows terms
   write-rows b v = refl
 
   pub grow-rows : (m : ℕ) → refusal r c (feed (grow m) len room)
-      ≡ word (keptWhole r ++ (grownAlready r ∷ badGeometry (newGood m) ∷ images (sizeWith r m) len ∷ []))
-  unfolding refusal table laterRows terms
+      ≡ word (kept_whole r ++ (grown_already r ∷ bad_geometry (new_good m) ∷ images (size_with r m) len ∷ []))
+  unfolding refusal table later_rows terms
   grow-rows m = refl
 
-  pub advance-rows : (k : ℕ) → refusal r c (feed (advance k) len room) ≡ word (keptWhole r ++ (nothingToMove r ∷ images (size r) len ∷ []))
-  unfolding refusal table laterRows terms
+  pub advance-rows : (k : ℕ) → refusal r c (feed (advance k) len room) ≡ word (kept_whole r ++ (nothing_to_move r ∷ images (size r) len ∷ []))
+  unfolding refusal table later_rows terms
   advance-rows k = refl
 
-  pub out-rows : (d : ℕ) → refusal r c (feed (out d) len room) ≡ word (kept r ++ (disk (not (ltb d (disksOf r)) || isOut r.health d) ∷ []))
-  unfolding refusal table laterRows terms
+  pub out-rows : (d : ℕ) → refusal r c (feed (out d) len room) ≡ word (kept r ++ (disk (not (ltb d (disks_of r)) || is_out r.health d) ∷ []))
+  unfolding refusal table later_rows terms
   out-rows d = refl
 
-  pub begin-rows : (d : ℕ) → refusal r c (feed (begin d) len room) ≡ word (keptLent r len ++ (disk (not (isOut r.health d)) ∷ []))
-  unfolding refusal table laterRows terms
+  pub begin-rows : (d : ℕ) → refusal r c (feed (begin d) len room) ≡ word (kept_lent r len ++ (disk (not (is_out r.health d)) ∷ []))
+  unfolding refusal table later_rows terms
   begin-rows d = refl
 
-  pub continue-rows : (k : ℕ) → refusal r c (feed (continue k) len room) ≡ word (keptLent r len ++ (disk (not (isRebuilding r.health)) ∷ []))
-  unfolding refusal table laterRows terms
+  pub continue-rows : (k : ℕ) → refusal r c (feed (continue k) len room) ≡ word (kept_lent r len ++ (disk (not (is_rebuilding r.health)) ∷ []))
+  unfolding refusal table later_rows terms
   continue-rows k = refl
 
-  pub status-rows : refusal r c (feed status len room) ≡ word (badRecord (not (good r)) ∷ [])
-  unfolding refusal table laterRows terms
+  pub status-rows : refusal r c (feed status len room) ≡ word (bad_record (not (good r)) ∷ [])
+  unfolding refusal table later_rows terms
   status-rows = refl
 
-  pub locate-rows : (b : ℕ) → refusal r c (feed (locate b) len room) ≡ word (unmarked r ∷ pastEnd b c ∷ [])
-  unfolding refusal table laterRows terms
+  pub locate-rows : (b : ℕ) → refusal r c (feed (locate b) len room) ≡ word (unmarked r ∷ past_end b c ∷ [])
+  unfolding refusal table later_rows terms
   locate-rows b = refl
 
   pub owner-rows : (S d : ℕ) → refusal r c (feed (owner S d) len room)
-      ≡ word (unmarked r ∷ pastEnd S r.stripes ∷ disk (not (ltb d (disksOf r))) ∷ [])
-  unfolding refusal table laterRows terms
+      ≡ word (unmarked r ∷ past_end S r.stripes ∷ disk (not (ltb d (disks_of r))) ∷ [])
+  unfolding refusal table later_rows terms
   owner-rows S d = refl
 
-  pub sweep-rows : refusal r c (feed sweep len room) ≡ word (keptWhole r ++ (images (size r) len ∷ []))
-  unfolding refusal table laterRows terms
+  pub sweep-rows : refusal r c (feed sweep len room) ≡ word (kept_whole r ++ (images (size r) len ∷ []))
+  unfolding refusal table later_rows terms
   sweep-rows = refl
 
-  pub restart-rows : refusal r c (feed restart len room) ≡ word (badRecord (not (good r)) ∷ lost r ∷ degraded r ∷ images (size r) len ∷ [])
-  unfolding refusal table laterRows terms
+  pub restart-rows : refusal r c (feed restart len room) ≡ word (bad_record (not (good r)) ∷ lost r ∷ degraded r ∷ images (size r) len ∷ [])
+  unfolding refusal table later_rows terms
   restart-rows = refl
 
 -- ---- a lost array: a call whose rows from 2 on begin with 2 is given that
@@ -149,8 +149,8 @@ abbrev pub StopsLost : Record → Call → Type 0
 StopsLost r x = (rows : List Row) × ((terms x r).before ≡ lost r ∷ rows)
 
 pub given-2 : (r : Record) (c len room : ℕ) (x : Call) → StopsLost r x → good r ≡ true → r.mark ≡ false → r.health ≡ Lost → refusal r c (feed x len room) ≡ 2
-unfolding refusal table laterRows
-given-2 r c len room x s g clean h = rw (g, s.1, h) (go (looks x) (takesMarked x) r.mark clean)
+unfolding refusal table later_rows
+given-2 r c len room x s g clean h = rw (g, s.1, h) (go (looks x) (takes_marked x) r.mark clean)
   where
     go : (l m k : Bool) → k ≡ false → ◌≡◌ {A = ℕ} (cond (cond l (cond m false k) false) 1 2) 2
     go true true k q = refl
@@ -162,30 +162,30 @@ given-2 r c len room x s g clean h = rw (g, s.1, h) (go (looks x) (takesMarked x
 module _ (g : Geometry) where
   pub some-new : idle g ≡ false → g.new ≢ 0
   unfolding idle
-  some-new e = eqb-false g.new 0 (neither (eqb g.new 0) (eqb g.moves (totalOf g)) e).0
+  some-new e = eqb-false g.new 0 (neither (eqb g.new 0) (eqb g.moves (total_of g)) e).0
 
-  pub not-total : idle g ≡ false → g.moves ≢ totalOf g
+  pub not-total : idle g ≡ false → g.moves ≢ total_of g
   unfolding idle
-  not-total e = eqb-false g.moves (totalOf g) (neither (eqb g.new 0) (eqb g.moves (totalOf g)) e).1
+  not-total e = eqb-false g.moves (total_of g) (neither (eqb g.new 0) (eqb g.moves (total_of g)) e).1
 
-  pub some_left : GoodArray g → idle g ≡ false → g.moves < totalOf g
+  pub some_left : GoodArray g → idle g ≡ false → g.moves < total_of g
   some_left good e =
-      let ne : g.moves ≢ totalOf g = not-total e in
-      let le : g.moves ≤ totalOf g = good.moves in
+      let ne : g.moves ≢ total_of g = not-total e in
+      let le : g.moves ≤ total_of g = good.moves in
       omega arith
 
-  pub none_left : g.new ≢ 0 → idle g ≡ true → g.moves ≡ totalOf g
+  pub none_left : g.new ≢ 0 → idle g ≡ true → g.moves ≡ total_of g
   unfolding idle
   none_left nz e = go (eqb g.new 0) refl e
     where
-      go : (b : Bool) → eqb g.new 0 ≡ b → (b || eqb g.moves (totalOf g)) ≡ true → g.moves ≡ totalOf g
+      go : (b : Bool) → eqb g.new 0 ≡ b → (b || eqb g.moves (total_of g)) ≡ true → g.moves ≡ total_of g
       go true q u = absurd (nz (eqb-true g.new 0 q))
-      go false q u = eqb-true g.moves (totalOf g) u
+      go false q u = eqb-true g.moves (total_of g) u
 
-  pub over : g.moves ≡ totalOf g → idle g ≡ true
+  pub over : g.moves ≡ total_of g → idle g ≡ true
   unfolding idle
   over e = go (eqb g.new 0)
     where
-      go : (b : Bool) → (b || eqb g.moves (totalOf g)) ≡ true
+      go : (b : Bool) → (b || eqb g.moves (total_of g)) ≡ true
       go true = refl
-      go false = eq-eqb g.moves (totalOf g) e
+      go false = eq-eqb g.moves (total_of g) e

@@ -2,13 +2,13 @@
 -- the one table of those marked (P), `Unmarked` has the others; `bench` and `unmarked` of proofs/Cases/Bench.antt compute them.
 use Rattle.std.specs.Prelude.{ℕ, ◌*◌, ◌≡◌, Bool, true, false, []}
 use Rattle.layout.specs.declared.Role.TheVariants.{Data, Parity}
-use Rattle.layout.specs.Home.{standingAt}
+use Rattle.layout.specs.Home.{standing_at}
 use Rattle.layout.specs.Moves.{move_of, total}
 use Rattle.layout.specs.Cases.Paper.{move}
 use Rattle.blocks.specs.Block.{zeros}
 use Rattle.state.specs.declared.types.Health.TheVariants.{Whole}
 use Rattle.state.specs.declared.types.Record.{Record}
-use Rattle.state.specs.Update.{formatted, grownBy, withMoves}
+use Rattle.state.specs.Update.{formatted, grown_by, with_moves}
 use Rattle.calls.specs.Call.{Call, format, grow, advance, status, locate, owner, on, feed}
 use Rattle.calls.specs.Call.{Answer, refused, made, figures, placed, owned}
 use Rattle.calls.specs.Images.{size}
@@ -20,7 +20,7 @@ abbrev pub small : Record
 small = formatted 3 1 15
 
 abbrev pub mill : ℕ → Record
-mill t = withMoves (grownBy small 2) t
+mill t = with_moves (grown_by small 2) t
 
 -- what a call that takes no images answers
 abbrev pub asked : Call → Record → Answer
@@ -31,7 +31,7 @@ located b r = asked (locate b) r
 
 -- on disk d of stripe S, its parity on disk p of that stripe, and whether a move carried it
 abbrev pub at : ℕ → ℕ → ℕ → Bool → Answer
-at S d p moved = placed (standingAt S d p moved)
+at S d p moved = placed (standing_at S d p moved)
 
 abbrev pub owner_at : ℕ → ℕ → Record → Answer
 owner_at S d r = asked (owner S d) r
@@ -45,23 +45,23 @@ pub record Bench : Type 0 where
   -- "(P) Block 5 before growth: stripe 2, disk 0."
   pub block_5 : (located 5 small ≡ at 2 0 2 false) × (located 5 (mill 0) ≡ at 2 0 2 false)
   -- "(P) Move 0: parity of stripe 3, disk 0 to 3."
-  pub move-0 : (move_of 3 2 0 ≡ move 0 3 3 0 3) × (owner_at 3 0 (mill 0) ≡ owned Parity) × (owner_at 3 3 (mill 1) ≡ owned Parity)
+  pub move_0 : (move_of 3 2 0 ≡ move 0 3 3 0 3) × (owner_at 3 0 (mill 0) ≡ owned Parity) × (owner_at 3 3 (mill 1) ≡ owned Parity)
   -- "(P) Move 1: block 4, disk 1 to 3."
-  pub move-1 : (move_of 3 2 1 ≡ move 0 2 2 1 3) × (owner_at 2 1 (mill 1) ≡ owned (Data 4)) × (owner_at 2 3 (mill 2) ≡ owned (Data 4))
+  pub move_1 : (move_of 3 2 1 ≡ move 0 2 2 1 3) × (owner_at 2 1 (mill 1) ≡ owned (Data 4)) × (owner_at 2 3 (mill 2) ≡ owned (Data 4))
   -- "(P) Move 2: block 2, stripe 1, disk 2 to 3."
-  pub move-2 : (move_of 3 2 2 ≡ move 0 1 1 2 3) × (owner_at 1 2 (mill 2) ≡ owned (Data 2)) × (owner_at 1 3 (mill 3) ≡ owned (Data 2))
+  pub move_2 : (move_of 3 2 2 ≡ move 0 1 1 2 3) × (owner_at 1 2 (mill 2) ≡ owned (Data 2)) × (owner_at 1 3 (mill 3) ≡ owned (Data 2))
   -- "(P) After 2 moves block 2 is on disk 2; (P) after 3 on disk 3."
   pub block_2 : (located 2 (mill 2) ≡ at 1 2 1 false) × (located 2 (mill 3) ≡ at 1 3 1 true)
   -- "(P) Block 6 ends on disk 4."
   pub block_6 : located 6 (mill 18) ≡ at 3 4 3 true
   -- "(P) Block 0 never moves."
-  pub block_0 : (t : ℕ) → standing (mill t) 0 ≡ standingAt 0 2 0 false
+  pub block_0 : (t : ℕ) → standing (mill t) 0 ≡ standing_at 0 2 0 false
   -- "(P) After 17 moves block 30 is refused 8" no longer: "after 17 moves block 30 exists, as two zones are done" (document 02, (b)), and
   -- block 50, of the third, is refused; before the sixth move there is no block 30
   pub finished-zones : (located 30 (mill 5) ≡ refused 8) × (located 30 (mill 6) ≡ at 0 3 0 false) × (located 30 (mill 17) ≡ at 0 3 0 false)
       × (located 49 (mill 17) ≡ at 9 3 4 false) × (located 50 (mill 17) ≡ refused 8)
   -- "(P) after 18 it is (0, 3). (P) Block 32: (1, 2). (P) Block 59: (14, 3). Block 60: 8."
-  pub new-blocks : (located 30 (mill 18) ≡ at 0 3 0 false)
+  pub new_blocks : (located 30 (mill 18) ≡ at 0 3 0 false)
       × (located 32 (mill 18) ≡ at 1 2 1 false) × (located 59 (mill 18) ≡ at 14 3 4 false) × (located 60 (mill 18) ≡ refused 8)
 
 -- ---- cases not marked (P)
@@ -79,14 +79,14 @@ advanced k r = (called (on (advance k) (zeros (size r)) []) r).answer
 
 -- 4 disks of 19 stripes, grown by 1
 abbrev pub odd : Record
-odd = grownBy (formatted 4 1 19) 1
+odd = grown_by (formatted 4 1 19) 1
 
 pub record Unmarked : Type 0 where
   -- "n = 4, m = 1, T = 20: total 16."
-  pub one-group : (total 4 1 20 ≡ 16) × (numbered (grow 1) 100 (formatted 4 1 20) 60 ≡ 0)
-      × (asked status (grownBy (formatted 4 1 20) 1) ≡ figures 60 0 16 Whole)
+  pub one_group : (total 4 1 20 ≡ 16) × (numbered (grow 1) 100 (formatted 4 1 20) 60 ≡ 0)
+      × (asked status (grown_by (formatted 4 1 20) 1) ≡ figures 60 0 16 Whole)
   -- "The bench case T = 19 passes now, with total 0." (document 02, (a)): grown, it has all its 76 blocks, and nothing to move
-  pub no-group : (total 4 1 19 ≡ 0) × (numbered (grow 1) 95 (formatted 4 1 19) 57 ≡ 0) × (asked status odd ≡ figures 76 0 0 Whole)
+  pub no_group : (total 4 1 19 ≡ 0) × (numbered (grow 1) 95 (formatted 4 1 19) 57 ≡ 0) × (asked status odd ≡ figures 76 0 0 Whole)
       × (advanced 1 odd ≡ refused 5) × (located 56 odd ≡ at 18 0 2 false) × (located 57 odd ≡ at 0 4 0 false)
       × (located 75 odd ≡ at 18 4 2 false) × (located 76 odd ≡ refused 8)
   -- "n = 2: 6; n = 16 passes; n = 17: 6."

@@ -6,11 +6,11 @@ use Rattle.std.specs.Prelude.{ℕ, suc, ◌-◌, ◌≡◌, Bool, true, cond, Li
 use Rattle.state.specs.declared.types.Health.TheVariants.{Whole, Out, Lost, Rebuilding}
 use Rattle.state.specs.declared.types.Health.{Health}
 use Rattle.state.specs.declared.types.Record.{Record}
-use Rattle.state.specs.Bytes.{recordLength, encode}
-use Rattle.state.specs.Update.{formatted, grownBy, withMoves, withHealth, withMark}
+use Rattle.state.specs.Bytes.{record_length, encode}
+use Rattle.state.specs.Update.{formatted, grown_by, with_moves, with_health, with_mark}
 use Rattle.calls.specs.Call.{Call, column, format, read, view, write, grow, advance, out, begin, continue}
 use Rattle.calls.specs.Call.{status, locate, owner, sweep, feed, restart}
-use Rattle.calls.specs.Table.{Row, table, refusalBytes}
+use Rattle.calls.specs.Table.{Row, table, refusal_bytes}
 
 -- ---- which calls each number is for: the table's last column, a line a number, a column a call (`column` of Call). `rowwise` proves that
 -- the rows of each call are those marked here, whatever it is given.
@@ -56,16 +56,16 @@ of-stripes T = encode (formatted 3 1 T)
 
 -- .. grown by 2, of length 150, with t of 18 moves done, 6 to a zone: capacity 30, then 40, 50, and at last 60
 abbrev pub growing : Health → ℕ → List ℕ
-growing h t = encode (withHealth (withMoves (grownBy fresh 2) t) h)
+growing h t = encode (with_health (with_moves (grown_by fresh 2) t) h)
 
 -- .. and with a mark beside them
 abbrev pub marking : Health → ℕ → List ℕ
-marking h t = encode (withMark (withHealth (withMoves (grownBy fresh 2) t) h) true)
+marking h t = encode (with_mark (with_health (with_moves (grown_by fresh 2) t) h) true)
 
 -- not good, of 2 disks; good but for the health's bytes and bytes 6 and 7, and so for byte 6, a mark with no move done; good but for
 -- health, disk and the stripes done; lost; a byte short and a byte long
 abbrev pub bad : List ℕ
-bad = encode (withHealth (withMoves (grownBy (formatted 2 2 15) 2) 18) Lost)
+bad = encode (with_health (with_moves (grown_by (formatted 2 2 15) 2) 18) Lost)
 
 abbrev pub spoilt : ℕ → ℕ → ℕ → ℕ → List ℕ
 spoilt health disk six seven = 3 ∷ 0 ∷ health ∷ disk ∷ 2 ∷ 0 ∷ six ∷ seven ∷ drop 8 small
@@ -80,14 +80,14 @@ abbrev pub lost : List ℕ
 lost = growing Lost 17
 
 abbrev pub short : List ℕ
-short = take (recordLength - 1) small
+short = take (record_length - 1) small
 
 abbrev pub long : List ℕ
 long = small ++ 0 ∷ []
 
 -- the number of a call on a record, lent images of len bytes and a block or scratch of room
 abbrev pub asks : List ℕ → Call → ℕ → ℕ → ℕ
-asks b c len room = refusalBytes b (feed c len room)
+asks b c len room = refusal_bytes b (feed c len room)
 
 -- a call that would be let through, on each kind of record that 1 is for
 abbrev pub ones : Call → ℕ → ℕ → List ℕ
@@ -131,12 +131,12 @@ bytes len = take len (5 ∷ 5 ∷ 5 ∷ [])
 
 pub record Refusals : Type 0 where
   -- 1: all calls for its length, all but format for a record that is not good
-  pub row-1 :
+  pub row_1 :
       ones (read 29) 90 2 ++ ones (view 29) 90 2 ++ ones (write 29 (bytes 2)) 90 0 ++ ones (grow 2) 150 0 ++ ones (advance 1) 90 0
       ++ ones (out 2) 0 0 ++ ones (begin 2) 90 0 ++ ones (continue 1) 90 0
       ++ ones status 0 0 ++ ones (locate 29) 0 0 ++ ones (owner 14 2) 0 0 ++ ones sweep 90 0 ++ ones restart 90 0
       ≡ replicate 221 1
-  pub row-1-format : ones (format 3 2 15) 90 0 ≡ 1 ∷ 1 ∷ 1 ∷ replicate 14 0
+  pub row_1_format : ones (format 3 2 15) 90 0 ≡ 1 ∷ 1 ∷ 1 ∷ replicate 14 0
   -- 1 for its length alone; 6, 7; health lost, a bad record, m and t are no matter
   pub formats :
       asks short (format 2 2 15) 89 0 ∷ asks small (format 2 2 15) 89 0 ∷ asks small (format 3 2 15) 89 0 ∷ asks small (format 3 2 15) 90 0
@@ -145,11 +145,11 @@ pub record Refusals : Type 0 where
       ∷ asks small (format 17 2 15) 510 0 ∷ asks small (format 3 0 15) 0 0 ∷ asks small (format 3 2 0) 0 0
       ∷ []
       ≡ 1 ∷ 6 ∷ 7 ∷ 0 ∷ 0 ∷ 0 ∷ 0 ∷ 0 ∷ 6 ∷ 6 ∷ 6 ∷ []
-  pub read-cells : reads (λ b len. read b) ≡ read-numbers
-  pub view-cells : reads (λ b len. view b) ≡ read-numbers
-  pub write-cells : reads (λ b len. write b (bytes len)) ≡ read-numbers
+  pub read_cells : reads (λ b len. read b) ≡ read-numbers
+  pub view_cells : reads (λ b len. view b) ≡ read-numbers
+  pub write_cells : reads (λ b len. write b (bytes len)) ≡ read-numbers
   -- a write's room is no matter
-  pub write-room : asks small (write 29 (bytes 2)) 90 1 ≡ 0
+  pub write_room : asks small (write 29 (bytes 2)) 90 1 ≡ 0
   -- 1, 2, 3, 4, 6, 7, none; m of 0 and of 17; a T of no whole group, and of one and a tail, is no matter, for 7 either
   pub grows :
       asks short (grow 0) 89 0 ∷ asks bad (grow 0) 89 0 ∷ asks lost (grow 0) 89 0
@@ -168,7 +168,7 @@ pub record Refusals : Type 0 where
       ∷ asks (growing Whole 17) (advance 1) 149 0 ∷ asks (growing Whole 17) (advance 1) 150 0
       ∷ asks small (advance 1) 90 0 ∷ asks (growing Whole 17) (advance 0) 150 0 ∷ asks (growing Whole 0) (advance 1) 150 0
       ∷ asks (growing Whole 18) (advance 0) 150 0 ∷ asks small (advance 0) 90 0
-      ∷ asks (encode (grownBy (formatted 4 1 19) 1)) (advance 1) 94 0 ∷ asks (encode (grownBy (formatted 4 1 19) 1)) (advance 1) 95 0
+      ∷ asks (encode (grown_by (formatted 4 1 19) 1)) (advance 1) 94 0 ∷ asks (encode (grown_by (formatted 4 1 19) 1)) (advance 1) 95 0
       ∷ asks (growing (Rebuilding 4 14) 18) (advance 1) 149 0
       ∷ []
       ≡ 1 ∷ 1 ∷ 2 ∷ 3 ∷ 5 ∷ 7 ∷ 0 ∷ 5 ∷ 0 ∷ 0 ∷ 5 ∷ 5 ∷ 5 ∷ 5 ∷ 3 ∷ []
@@ -187,7 +187,7 @@ pub record Refusals : Type 0 where
       asks short (begin 3) 149 0 ∷ asks bad (begin 3) 149 0 ∷ asks lost (begin 3) 149 0
       ∷ asks (growing (Out 4) 17) (begin 3) 149 0 ∷ asks (growing (Out 4) 17) (begin 3) 150 0
       ∷ asks (growing (Out 4) 17) (begin 4) 150 0 ∷ asks (growing Whole 17) (begin 0) 150 0
-      ∷ asks (growing (Out 4) 18) (begin 4) 150 0 ∷ asks (encode (withHealth fresh (Out 1))) (begin 1) 90 0
+      ∷ asks (growing (Out 4) 18) (begin 4) 150 0 ∷ asks (encode (with_health fresh (Out 1))) (begin 1) 90 0
       ∷ asks (growing (Rebuilding 4 0) 17) (begin 4) 150 0 ∷ asks (growing (Rebuilding 4 14) 17) (begin 3) 150 0
       ∷ []
       ≡ 1 ∷ 1 ∷ 2 ∷ 7 ∷ 10 ∷ 0 ∷ 10 ∷ 0 ∷ 0 ∷ 10 ∷ 10 ∷ []
@@ -198,7 +198,7 @@ pub record Refusals : Type 0 where
       ∷ asks (growing Whole 17) (continue 1) 150 0 ∷ asks (growing (Out 4) 17) (continue 1) 150 0
       ∷ asks (growing (Out 4) 17) (continue 0) 150 0
       ∷ asks (growing (Rebuilding 4 0) 17) (continue 1) 150 0 ∷ asks (growing (Rebuilding 4 14) 17) (continue 99) 150 0
-      ∷ asks (growing (Rebuilding 0 14) 18) (continue 0) 150 0 ∷ asks (encode (withHealth fresh (Rebuilding 1 3))) (continue 1) 90 0
+      ∷ asks (growing (Rebuilding 0 14) 18) (continue 0) 150 0 ∷ asks (encode (with_health fresh (Rebuilding 1 3))) (continue 1) 90 0
       ∷ []
       ≡ 1 ∷ 1 ∷ 2 ∷ 7 ∷ 7 ∷ 10 ∷ 10 ∷ 10 ∷ 0 ∷ 0 ∷ 0 ∷ 0 ∷ []
   -- 1, and nothing else
@@ -228,7 +228,7 @@ pub record Refusals : Type 0 where
       ∷ asks (growing (Out 4) 17) sweep 149 0 ∷ asks (growing (Rebuilding 4 14) 17) sweep 149 0
       ∷ asks (growing Whole 17) sweep 149 0 ∷ asks (growing Whole 17) sweep 151 0 ∷ asks (growing Whole 17) sweep 150 0
       ∷ asks (growing Whole 0) sweep 150 0 ∷ asks (growing Whole 18) sweep 150 0 ∷ asks (growing Whole 18) sweep 90 0
-      ∷ asks small sweep 90 0 ∷ asks small sweep 150 0 ∷ asks (encode (grownBy (formatted 4 1 19) 1)) sweep 95 0
+      ∷ asks small sweep 90 0 ∷ asks small sweep 150 0 ∷ asks (encode (grown_by (formatted 4 1 19) 1)) sweep 95 0
       ∷ asks (growing (Out 4) 17) sweep 150 0 ∷ asks (growing (Rebuilding 4 0) 18) sweep 150 0
       ∷ []
       ≡ 1 ∷ 1 ∷ 2 ∷ 3 ∷ 3 ∷ 7 ∷ 7 ∷ 0 ∷ 0 ∷ 0 ∷ 7 ∷ 0 ∷ 7 ∷ 0 ∷ 3 ∷ 3 ∷ []
@@ -244,7 +244,7 @@ pub record Refusals : Type 0 where
       ∷ []
       ≡ 1 ∷ 1 ∷ 2 ∷ 2 ∷ 3 ∷ 3 ∷ 3 ∷ 3 ∷ 7 ∷ 7 ∷ 0 ∷ 0 ∷ 0 ∷ 0 ∷ 0 ∷ 0 ∷ 1 ∷ 1 ∷ []
   -- a marked record is good for restart and status only, whatever else the call is lent; format does not look
-  pub marked-others :
+  pub marked_others :
       asks (marking Whole 17) (read 49) 150 2 ∷ asks (marking Whole 17) (view 49) 150 2 ∷ asks (marking Whole 17) (write 49 (bytes 2)) 150 0
       ∷ asks (marking Whole 17) (grow 2) 150 0 ∷ asks (marking Whole 17) (advance 1) 150 0 ∷ asks (marking Whole 17) (out 4) 0 0
       ∷ asks (marking (Out 4) 17) (begin 4) 150 0 ∷ asks (marking (Rebuilding 4 0) 17) (continue 1) 150 0

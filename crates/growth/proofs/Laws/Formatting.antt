@@ -10,14 +10,14 @@ use Rattle.state.specs.declared.types.Record.{Record}
 use Rattle.state.specs.Good.{geometry}
 use Rattle.state.specs.Update.{formatted}
 use Rattle.calls.specs.Call.{format, feed, on, done}
-use Rattle.calls.specs.Images.{zeroDisks}
-use Rattle.calls.specs.Table.{refusalOf}
+use Rattle.calls.specs.Images.{zero_disks}
+use Rattle.calls.specs.Table.{refusal_of}
 use Rattle.calls.specs.Effect.{effect, act}
 use Rattle.calls.proofs.Laws.Stores.{stored_last, recorded-last}
 use Rattle.calls.proofs.Laws.Runs.{zeroed}
 use Rattle.calls.proofs.Laws.Passed.{passed, Formats, formats}
 
-module _ (img : List ℕ) (r : Record) (n B T : ℕ) (z : refusalOf r (feed (format n B T) (length img) 0) ≡ 0) where
+module _ (img : List ℕ) (r : Record) (n B T : ℕ) (z : refusal_of r (feed (format n B T) (length img) 0) ≡ 0) where
   pub format-passed : Formats n B T (length img)
   format-passed = formats r (capacity (geometry r)) (length img) 0 n B T (passed r (capacity (geometry r)) (feed (format n B T) (length img) 0) z)
 
@@ -26,7 +26,7 @@ module _ (img : List ℕ) (r : Record) (n B T : ℕ) (z : refusalOf r (feed (for
   unfolding effect
   format-done = (
     refl,
-    sym (recorded-last (zeroDisks B T 0 n) (formatted n B T) r),
-    sym (stored_last B T (zeroDisks B T 0 n) (formatted n B T) img ∙ zeroed B T 0 img n
+    sym (recorded-last (zero_disks B T 0 n) (formatted n B T) r),
+    sym (stored_last B T (zero_disks B T 0 n) (formatted n B T) img ∙ zeroed B T 0 img n
         ∙ ap₂ (λ (at len : ℕ). store img at (zeros len)) (zero-mul (T * B)) (sym format-passed.long)),
   )

@@ -1,28 +1,28 @@
 -- The sample history, by computation. Assumes nothing.
 use mathlib.Core.Path.{refl}
-use Rattle.layout.specs.Home.{dataDisk, homeStripe, homeDisk, rank_of, homeBlock, homeOwner}
-use Rattle.layout.specs.Moves.{moveZone, moveTo, moveLag, moveWithin, moveStripe, moveFrom, total}
-use Rattle.layout.specs.Closed.{lag, target, turn, isMoved, diskAt, source, taken}
-use Rattle.layout.specs.Blanks.{blanksBelow, blanks, newStripe, newDisk, newBlock}
-use Rattle.layout.specs.Layout.{openStripes, capacity, grownPlace, grownParity, newOwner, grownOwner}
-use Rattle.state.specs.Good.{movesGood, good}
+use Rattle.layout.specs.Home.{data_disk, home_stripe, home_disk, rank_of, home_block, home_owner}
+use Rattle.layout.specs.Moves.{move_zone, move_to, move_lag, move_within, move_stripe, move_from, total}
+use Rattle.layout.specs.Closed.{lag, target, turn, is_moved, disk_at, source, taken}
+use Rattle.layout.specs.Blanks.{blanks_below, blanks, new_stripe, new_disk, new_block}
+use Rattle.layout.specs.Layout.{open_stripes, capacity, grown_place, grown_parity, new_owner, grown_owner}
+use Rattle.state.specs.Good.{moves_good, good}
 use Rattle.state.specs.Bytes.{decode, plain, encode}
-use Rattle.calls.specs.Images.{seen, stored, recorded, fillDisk, zeroDisks}
-use Rattle.calls.specs.Table.{idle, formable, terms, laterRows, table, rowsBytes, refusal, refusalBytes}
-use Rattle.calls.specs.Sound.{seenStripe, blanksZero, isSound, unsoundBelow}
-use Rattle.calls.specs.Effect.{view_of, scratchLeft, writeStores, moveStores, advanceStores, continueStores, effect, calledBytes}
-use Rattle.history.specs.Flat.{flatAct, flatStep}
-use Rattle.history.specs.Lent.{asBytes, next}
-use Rattle.history.specs.Theorem.{outcomes, flatOutcomes}
+use Rattle.calls.specs.Images.{seen, stored, recorded, fill_disk, zero_disks}
+use Rattle.calls.specs.Table.{idle, formable, terms, later_rows, table, rows_bytes, refusal, refusal_bytes}
+use Rattle.calls.specs.Sound.{seen_stripe, blanks_zero, is_sound, unsound_below}
+use Rattle.calls.specs.Effect.{view_of, scratch_left, write_stores, move_stores, advance_stores, continue_stores, effect, called_bytes}
+use Rattle.history.specs.Flat.{flat_act, flat_step}
+use Rattle.history.specs.Lent.{as_bytes, next}
+use Rattle.history.specs.Theorem.{outcomes, flat_outcomes}
 use Rattle.history.specs.Cases.Sample.{junk, play, script, cabinet, list, Sample}
 use Rattle.history.proofs.Laws.Fairness.{same, below, keeps, lends, fairly, fair}
 
 pub sample : Sample
-unfolding dataDisk homeStripe homeDisk rank_of homeBlock homeOwner moveZone moveTo moveLag moveWithin moveStripe moveFrom total
-    lag target turn isMoved diskAt source taken blanksBelow blanks newStripe newDisk newBlock
-    openStripes capacity grownPlace grownParity newOwner grownOwner
-    movesGood good decode plain encode
-    seen stored recorded fillDisk zeroDisks idle formable terms laterRows table rowsBytes refusal refusalBytes
-    seenStripe blanksZero isSound unsoundBelow view_of scratchLeft writeStores moveStores advanceStores continueStores effect calledBytes
-    flatAct flatStep next outcomes flatOutcomes junk play same below keeps lends fairly
-sample = record { lent-fairly = fair asBytes (play script cabinet) cabinet list refl; array = refl; flat-list = refl }
+unfolding data_disk home_stripe home_disk rank_of home_block home_owner move_zone move_to move_lag move_within move_stripe move_from total
+    lag target turn is_moved disk_at source taken blanks_below blanks new_stripe new_disk new_block
+    open_stripes capacity grown_place grown_parity new_owner grown_owner
+    moves_good good decode plain encode
+    seen stored recorded fill_disk zero_disks idle formable terms later_rows table rows_bytes refusal refusal_bytes
+    seen_stripe blanks_zero is_sound unsound_below view_of scratch_left write_stores move_stores advance_stores continue_stores effect called_bytes
+    flat_act flat_step next outcomes flat_outcomes junk play same below keeps lends fairly
+sample = record { lent_fairly = fair as_bytes (play script cabinet) cabinet list refl; array = refl; flat_list = refl }

@@ -12,9 +12,9 @@ use Rattle.state.specs.declared.types.Record.{Record}
 use Rattle.conditions.proofs.Tests.{both, second}
 use Rattle.calls.specs.Call.{Event, fed}
 use Rattle.calls.specs.Health.{absent}
-use Rattle.calls.specs.Images.{disksOf, place_in}
+use Rattle.calls.specs.Images.{disks_of, place_in}
 use Rattle.calls.specs.Table.{Takes, nothing, anything, those}
-use Rattle.history.specs.Flat.{Flat, flatStep}
+use Rattle.history.specs.Flat.{Flat, flat_step}
 use Rattle.history.specs.Lent.{Form, Cabinet, takes, Keeps, Lends, next}
 use Rattle.history.specs.Theorem.{Fair}
 use Rattle.history.proofs.Laws.Lending.{by-asked}
@@ -33,7 +33,7 @@ below zero f = true
 below (suc n) f = f n && below n f
 
 unfoldable pub keeps : Record → List ℕ → List ℕ → Bool
-keeps r left lent = below r.stripes (λ S. below (disksOf r) (λ d. absent r.health S d || same (place_in r lent S d) (place_in r left S d)))
+keeps r left lent = below r.stripes (λ S. below (disks_of r) (λ d. absent r.health S d || same (place_in r lent S d) (place_in r left S d)))
 
 unfoldable pub lends : Takes → Record → List ℕ → List ℕ → Bool
 lends nothing r left lent = true
@@ -42,7 +42,7 @@ lends (those len) r left lent = not (eqb (length lent) len) || keeps r left lent
 
 unfoldable pub fairly : {R : Type 0} → Form R → List Event → Cabinet R → Flat → Bool
 fairly x [] a f = true
-fairly x (e ∷ es) a f = lends (takes e.call f.numbers) f.numbers a.img e.images && fairly x es (next x e a) (flatStep (fed e) f).1
+fairly x (e ∷ es) a f = lends (takes e.call f.numbers) f.numbers a.img e.images && fairly x es (next x e a) (flat_step (fed e) f).1
 
 -- ---- and what they show
 
@@ -63,8 +63,8 @@ each_below (suc n) f q i l =
 is-kept : (r : Record) (left lent : List ℕ) → keeps r left lent ≡ true → Keeps r left lent
 unfolding keeps Keeps
 is-kept r left lent q S d lS ld u =
-    let z = each_below r.stripes (λ s. below (disksOf r) (λ e. absent r.health s e || same (place_in r lent s e) (place_in r left s e))) q S lS in
-    let y = each_below (disksOf r) (λ e. absent r.health S e || same (place_in r lent S e) (place_in r left S e)) z d ld in
+    let z = each_below r.stripes (λ s. below (disks_of r) (λ e. absent r.health s e || same (place_in r lent s e) (place_in r left s e))) q S lS in
+    let y = each_below (disks_of r) (λ e. absent r.health S e || same (place_in r lent S e) (place_in r left S e)) z d ld in
     is_same (place_in r lent S d) (place_in r left S d) (second (absent r.health S d) (same (place_in r lent S d) (place_in r left S d)) y u)
 
 may-lend : (e : Event) (r : Record) (left : List ℕ) → lends (takes e.call r) r left e.images ≡ true → Lends e r left
@@ -79,5 +79,5 @@ pub fair : {R : Type 0} (x : Form R) (es : List Event) (a : Cabinet R) (f : Flat
 unfolding fairly Fair
 fair x [] a f q = tt
 fair x (e ∷ es) a f q =
-    let z = both (lends (takes e.call f.numbers) f.numbers a.img e.images) (fairly x es (next x e a) (flatStep (fed e) f).1) q in
-    (may-lend e f.numbers a.img z.0, fair x es (next x e a) (flatStep (fed e) f).1 z.1)
+    let z = both (lends (takes e.call f.numbers) f.numbers a.img e.images) (fairly x es (next x e a) (flat_step (fed e) f).1) q in
+    (may-lend e f.numbers a.img z.0, fair x es (next x e a) (flat_step (fed e) f).1 z.1)

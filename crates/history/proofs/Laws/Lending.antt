@@ -10,13 +10,13 @@ use lib.Seq.{ext_get_or}
 use borrow.Author.Tests.{eqb-false, eq-eqb}
 use Rattle.layout.proofs.Laws.Basics.{le-or-lt}
 use Rattle.blocks.specs.Stripe.{offset}
-use Rattle.blocks.proofs.Laws.Stripe.{place-in, length-place, getD-place}
+use Rattle.blocks.proofs.Laws.Stripe.{place-in, length-place, get_or-place}
 use Rattle.state.specs.declared.types.Health.TheVariants.{Out, Rebuilding}
 use Rattle.state.specs.declared.types.Health.{Health}
 use Rattle.state.specs.declared.types.Record.{Record}
 use Rattle.calls.specs.Call.{Call, Event}
 use Rattle.calls.specs.Health.{absent}
-use Rattle.calls.specs.Images.{disksOf, size, place_in}
+use Rattle.calls.specs.Images.{disks_of, size, place_in}
 use Rattle.calls.specs.Table.{Takes, nothing, anything, those, terms}
 use Rattle.calls.proofs.Laws.Asked.{turned-away}
 use Rattle.calls.proofs.Laws.Health.{from-count}
@@ -30,14 +30,14 @@ module _ (r : Record) (left behind : List ℕ) (long : length left ≡ size r) w
   unfolding Keeps
   keeps S d lS ld q =
       let more : size r ≤ length (left ++ behind) = rw (length-append left behind, long) (omega arith) in
-      let len : length (place_in r (left ++ behind) S d) ≡ r.block = length-place r.block r.stripes (left ++ behind) S d (disksOf r) lS ld more in
-      let len' : length (place_in r left S d) ≡ r.block = length-place r.block r.stripes left S d (disksOf r) lS ld (rw long (omega arith)) in
+      let len : length (place_in r (left ++ behind) S d) ≡ r.block = length-place r.block r.stripes (left ++ behind) S d (disks_of r) lS ld more in
+      let len' : length (place_in r left S d) ≡ r.block = length-place r.block r.stripes left S d (disks_of r) lS ld (rw long (omega arith)) in
       ext_get_or 0 (place_in r (left ++ behind) S d) (place_in r left S d) (len ∙ sym len')
       (λ j l.
       let lj : j < r.block = rw len at l in
-      getD-place r.block r.stripes (left ++ behind) S d j lj
-      ∙ get_or-append left behind 0 (offset r.block r.stripes S d + j) (omega (arith, place-in r.block r.stripes S d (disksOf r) lS ld))
-      ∙ sym (getD-place r.block r.stripes left S d j lj))
+      get_or-place r.block r.stripes (left ++ behind) S d j lj
+      ∙ get_or-append left behind 0 (offset r.block r.stripes S d + j) (omega (arith, place-in r.block r.stripes S d (disks_of r) lS ld))
+      ∙ sym (get_or-place r.block r.stripes left S d j lj))
 
 module _ (e : Event) (r : Record) (left : List ℕ) where
   -- it is enough that images of the length asked for keep what stands
@@ -82,12 +82,12 @@ module _ (e : Event) (r : Record) (left : List ℕ) where
   unfolding Keeps Lends terms
   free-to-lend =
       record {
-        what-stands = λ behind long q. by-keeping (subst (Keeps r left) (sym q) (keeps r left behind long));
-        any-format = λ n B T q. subst (λ (c : Call). Lent (takes c r) r left e.images) (sym q) tt;
-        any-length = λ len q ne. by_length (λ n p z. ne (z ∙ same_length (sym p ∙ q)));
+        what_stands = λ behind long q. by-keeping (subst (Keeps r left) (sym q) (keeps r left behind long));
+        any_format = λ n B T q. subst (λ (c : Call). Lent (takes c r) r left e.images) (sym q) tt;
+        any_length = λ len q ne. by_length (λ n p z. ne (z ∙ same_length (sym p ∙ q)));
         turned-away = λ c z. by_length (λ n q. turned-away r c (length e.images) (length e.room) n e.call q z);
         any_out = λ o h k. by-keeping (λ S d lS ld u. k S d lS ld (others o h _ d u));
-        any-not-rebuilt = λ o c h k. by-keeping (λ S d lS ld u. k S d lS ld (done-there o c h u));
-        any-lost = λ h. by-keeping (λ S d lS ld u. absurd (let w : ◌≡◌ {A = ℕ} 0 1 = cc (ap (λ (x : Health). absent x S d) h) in omega arith));
-        no-images = λ q. subst (λ (t : Takes). Lent t r left e.images) (sym q) tt;
+        any_not_rebuilt = λ o c h k. by-keeping (λ S d lS ld u. k S d lS ld (done-there o c h u));
+        any_lost = λ h. by-keeping (λ S d lS ld u. absurd (let w : ◌≡◌ {A = ℕ} 0 1 = cc (ap (λ (x : Health). absent x S d) h) in omega arith));
+        no_images = λ q. subst (λ (t : Takes). Lent t r left e.images) (sym q) tt;
       }

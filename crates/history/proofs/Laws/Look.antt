@@ -6,10 +6,10 @@ use mathlib.Core.List.{List}
 use Rattle.state.specs.declared.types.Health.{Health}
 use Rattle.state.specs.declared.types.Record.{Record}
 use Rattle.calls.specs.Call.{Call, format, read, view, write, grow, advance, out, begin, continue, status, locate, owner, sweep, restart}
-use Rattle.state.specs.Update.{withHealth}
+use Rattle.state.specs.Update.{with_health}
 use Rattle.calls.specs.Table.{terms}
 use Rattle.calls.proofs.Laws.Table.{StopsLost}
-use Rattle.history.specs.Flat.{flat, flatAct}
+use Rattle.history.specs.Flat.{flat, flat_act}
 use Rattle.history.specs.Theorem.{tallied}
 
 -- the sum of the moves stays
@@ -22,12 +22,12 @@ pub data Look (r : Record) (bs : List (List ℕ)) : Call → Type 0 where
   grows : (m : ℕ) → StopsLost r (grow m) → Look r bs (grow m)
   moves : (k : ℕ) → StopsLost r (advance k) → Look r bs (advance k)
   -- health alone changes
-  turns : (c : Call) (h : Health) → (flatAct c r bs).1 ≡ flat (withHealth r h) bs → Uncounted c → StopsLost r c → Look r bs c
+  turns : (c : Call) (h : Health) → (flat_act c r bs).1 ≡ flat (with_health r h) bs → Uncounted c → StopsLost r c → Look r bs c
   -- nothing changes
-  tells : (c : Call) → (flatAct c r bs).1 ≡ flat r bs → Uncounted c → Look r bs c
+  tells : (c : Call) → (flat_act c r bs).1 ≡ flat r bs → Uncounted c → Look r bs c
 
 pub look : (r : Record) (bs : List (List ℕ)) (c : Call) → Look r bs c
-unfolding flatAct tallied terms
+unfolding flat_act tallied terms
 look r bs (format n B T) = opens n B T
 look r bs (read b) = tells (read b) refl (λ k sum. refl)
 look r bs (view b) = tells (view b) refl (λ k sum. refl)

@@ -9,12 +9,12 @@ use lib.ListN.{length, get_or, take, drop, take-append-drop, get_or-append}
 use lib.Seq.{ext_get_or, length-take-le}
 use borrow.Author.Tests.{eq-eqb}
 use Rattle.blocks.specs.Stripe.{offset}
-use Rattle.blocks.proofs.Laws.Stripe.{place-in, length-place, getD-place}
+use Rattle.blocks.proofs.Laws.Stripe.{place-in, length-place, get_or-place}
 use Rattle.state.specs.declared.types.Record.{Record}
 use Rattle.calls.specs.Call.{Call, advance, status, Event, feed}
-use Rattle.calls.specs.Images.{disksOf, size, place_in}
-use Rattle.calls.specs.Table.{terms, laterRows, table, refusal}
-use Rattle.history.specs.Flat.{Flat, zeroBlocks, reached, flatAct, flatSettle, flatStep}
+use Rattle.calls.specs.Images.{disks_of, size, place_in}
+use Rattle.calls.specs.Table.{terms, later_rows, table, refusal}
+use Rattle.history.specs.Flat.{Flat, zero_blocks, reached, flat_act, flat_settle, flat_step}
 use Rattle.history.specs.Lent.{Keeps, Lends}
 use Rattle.history.specs.Cuts.{Part, all, none, some, PartIs, PartsAre, FirstDisks, RestartDone}
 use Rattle.history.proofs.Laws.Lost.{quiet}
@@ -23,21 +23,21 @@ use Rattle.history.proofs.Laws.Lending.{keeps, by-keeping}
 module _ (len room : ℕ) (f : Flat) where
   -- the flat list after an advance of j, by its number
   abbrev A : ℕ → ℕ → Flat
-  A j n = (flatSettle n f (flatAct (advance j) f.numbers f.blocks)).1
+  A j n = (flat_settle n f (flat_act (advance j) f.numbers f.blocks)).1
 
   abbrev R : ℕ → ℕ
   R j = refusal f.numbers (length f.blocks) (feed (advance j) len room)
 
   -- and after a call
   abbrev G : Call → Flat
-  G c = (flatStep (feed c len room) f).1
+  G c = (flat_step (feed c len room) f).1
 
   same_number : (j k : ℕ) → R j ≡ R k
-  unfolding refusal table laterRows terms
+  unfolding refusal table later_rows terms
   same_number j k = refl
 
   rises : (j : ℕ) → f.numbers.moves ≤ (G (advance j)).numbers.moves
-  unfolding flatStep flatAct
+  unfolding flat_step flat_act
   rises j = go (R j)
     where
       go : (n : ℕ) → f.numbers.moves ≤ (A j n).numbers.moves
@@ -45,7 +45,7 @@ module _ (len room : ℕ) (f : Flat) where
       go (suc n) = omega arith
 
   grows : (j k : ℕ) → j ≤ k → (G (advance j)).numbers.moves ≤ (G (advance k)).numbers.moves
-  unfolding flatStep flatAct
+  unfolding flat_step flat_act
   grows j k l = subst (λ (n : ℕ). (A j n).numbers.moves ≤ (A k (R k)).numbers.moves) (same_number k j) (go (R k))
     where
       go : (n : ℕ) → (A j n).numbers.moves ≤ (A k n).numbers.moves
@@ -53,18 +53,18 @@ module _ (len room : ℕ) (f : Flat) where
       go (suc n) = omega arith
 
   kept : (j b : ℕ) → b < length f.blocks → get_or (G (advance j)).blocks b [] ≡ get_or f.blocks b []
-  unfolding flatStep flatAct
+  unfolding flat_step flat_act
   kept j b l = go (R j)
     where
       r : Record
-      r = (flatAct (advance j) f.numbers f.blocks).1.numbers
+      r = (flat_act (advance j) f.numbers f.blocks).1.numbers
 
       go : (n : ℕ) → get_or (A j n).blocks b [] ≡ get_or f.blocks b []
-      go zero = get_or-append f.blocks (zeroBlocks (reached r - length f.blocks) r.block) [] b l
+      go zero = get_or-append f.blocks (zero_blocks (reached r - length f.blocks) r.block) [] b l
       go (suc n) = refl
 
   nothing-done : G status ≡ f
-  unfolding flatAct
+  unfolding flat_act
   nothing-done = quiet f (feed status len room) refl
 
   contents : (c p : Call) → Part c p → ((k : ℕ) → c ≢ advance k) → (G p ≡ f) ⊎ (G p ≡ G c)
@@ -105,16 +105,16 @@ unfolding Keeps
 keeps-first r left more S d lS ld u =
     let n : ℕ = size r in
     let long : length (take n left) ≡ n = length-take-le n left more in
-    let len : length (place_in r (take n left) S d) ≡ r.block = length-place r.block r.stripes (take n left) S d (disksOf r) lS ld (rw long (omega arith)) in
-    let len' : length (place_in r left S d) ≡ r.block = length-place r.block r.stripes left S d (disksOf r) lS ld more in
+    let len : length (place_in r (take n left) S d) ≡ r.block = length-place r.block r.stripes (take n left) S d (disks_of r) lS ld (rw long (omega arith)) in
+    let len' : length (place_in r left S d) ≡ r.block = length-place r.block r.stripes left S d (disks_of r) lS ld more in
     ext_get_or 0 (place_in r (take n left) S d) (place_in r left S d) (len ∙ sym len')
     (λ j l.
     let lj : j < r.block = rw len at l in
     let at : ℕ = offset r.block r.stripes S d + j in
-    getD-place r.block r.stripes (take n left) S d j lj
-    ∙ sym (get_or-append (take n left) (drop n left) 0 at (rw long (omega (arith, place-in r.block r.stripes S d (disksOf r) lS ld))))
+    get_or-place r.block r.stripes (take n left) S d j lj
+    ∙ sym (get_or-append (take n left) (drop n left) 0 at (rw long (omega (arith, place-in r.block r.stripes S d (disks_of r) lS ld))))
     ∙ ap (λ (x : List ℕ). get_or x at 0) (take-append-drop n left)
-    ∙ sym (getD-place r.block r.stripes left S d j lj))
+    ∙ sym (get_or-place r.block r.stripes left S d j lj))
 
 -- with any bytes after them
 pub lends_first : (e : Event) (r : Record) (left behind : List ℕ) → size r ≤ length left → e.images ≡ take (size r) left ++ behind → Lends e r left
@@ -130,5 +130,5 @@ first-disks e r left more q = lends_first e r left [] more (q ∙ sym (append-ni
 -- ---- a restart that is not refused
 
 pub restart-done : RestartDone
-unfolding flatStep flatAct refusal table laterRows terms
+unfolding flat_step flat_act refusal table later_rows terms
 restart-done f room g h = rw (g, h, eq-eqb (size f.numbers) (size f.numbers) refl) refl

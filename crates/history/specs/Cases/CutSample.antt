@@ -5,9 +5,9 @@
 use Rattle.std.specs.Prelude.{ℕ, ◌≡◌, List, [], ◌∷◌, ◌++◌, length, take}
 use Rattle.state.specs.declared.types.Health.TheVariants.{Whole}
 use Rattle.calls.specs.Call.{Call, format, read, write, grow, advance, out, begin, continue, status, sweep, restart}
-use Rattle.calls.specs.Call.{feed, Answer, done, bytes, allSound, figures}
-use Rattle.history.specs.Lent.{asBytes, Cabinet, next}
-use Rattle.history.specs.Cuts.{Happening, whole, cut, broken, answers, Fate, answered, taken, flatAnswers}
+use Rattle.calls.specs.Call.{feed, Answer, done, bytes, all_sound, figures}
+use Rattle.history.specs.Lent.{as_bytes, Cabinet, next}
+use Rattle.history.specs.Cuts.{Happening, whole, cut, broken, answers, Fate, answered, taken, flat_answers}
 use Rattle.history.specs.Cases.Sample.{Step, plain, longer, spoilt, rebuilt, lent, cabinet, list}
 
 -- a step of a script, made whole or cut after c stores, and what the flat list takes it for
@@ -17,17 +17,17 @@ pub data Turn : Type 0 where
 
 unfoldable pub happens : List Turn → Cabinet (List ℕ) → List Happening
 happens [] a = []
-happens (made s ∷ ts) a = let e = lent s a.img in whole e ∷ happens ts (next asBytes e a)
-happens (lost c p s ∷ ts) a = let e = lent s a.img in cut c e ∷ happens ts (broken asBytes c e a)
+happens (made s ∷ ts) a = let e = lent s a.img in whole e ∷ happens ts (next as_bytes e a)
+happens (lost c p s ∷ ts) a = let e = lent s a.img in cut c e ∷ happens ts (broken as_bytes c e a)
 
 unfoldable pub fates : List Turn → Cabinet (List ℕ) → List Fate
 fates [] a = []
 fates (made s ∷ ts) a =
     let e = lent s a.img in
-    answered (feed e.call (length e.images) (length e.room)) ∷ fates ts (next asBytes e a)
+    answered (feed e.call (length e.images) (length e.room)) ∷ fates ts (next as_bytes e a)
 fates (lost c p s ∷ ts) a =
     let e = lent s a.img in
-    taken (feed p (length e.images) (length e.room)) ∷ fates ts (broken asBytes c e a)
+    taken (feed p (length e.images) (length e.room)) ∷ fates ts (broken as_bytes c e a)
 
 abbrev pub calls : Call → Turn
 calls c = made (plain c)
@@ -168,9 +168,9 @@ expected =
     -- writing
     done ∷ done ∷ done ∷ done
     ∷ done ∷ bytes (17 ∷ 34 ∷ [])
-    ∷ figures 24 0 0 Whole ∷ done ∷ allSound 12 ∷ bytes (17 ∷ 34 ∷ [])
+    ∷ figures 24 0 0 Whole ∷ done ∷ all_sound 12 ∷ bytes (17 ∷ 34 ∷ [])
     ∷ done ∷ bytes (66 ∷ 77 ∷ []) ∷ bytes (0 ∷ 0 ∷ [])
-    ∷ done ∷ allSound 12
+    ∷ done ∷ all_sound 12
     -- growing
     ∷ done ∷ figures 24 0 0 Whole ∷ figures 24 0 9 Whole ∷ done
     -- moving
@@ -179,16 +179,16 @@ expected =
     ∷ figures 28 3 9 Whole ∷ done ∷ bytes (9 ∷ 9 ∷ []) ∷ bytes (0 ∷ 0 ∷ [])
     -- opening
     ∷ done ∷ done ∷ done ∷ figures 28 5 9 Whole ∷ done ∷ bytes (70 ∷ 71 ∷ [])
-    ∷ figures 32 6 9 Whole ∷ done ∷ figures 32 6 9 Whole ∷ allSound 12
+    ∷ figures 32 6 9 Whole ∷ done ∷ figures 32 6 9 Whole ∷ all_sound 12
     ∷ bytes (80 ∷ 81 ∷ []) ∷ bytes (70 ∷ 71 ∷ []) ∷ bytes (72 ∷ 73 ∷ []) ∷ bytes (0 ∷ 0 ∷ [])
     ∷ done ∷ bytes (0 ∷ 0 ∷ []) ∷ bytes (0 ∷ 0 ∷ []) ∷ done ∷ Answer.made 12 ∷ done
     -- ending
     ∷ Answer.made 2 ∷ figures 36 9 9 Whole ∷ done ∷ bytes (0 ∷ 0 ∷ []) ∷ bytes (3 ∷ 4 ∷ [])
     ∷ done ∷ bytes (0 ∷ 0 ∷ []) ∷ done ∷ Answer.made 12 ∷ done
     ∷ done ∷ done ∷ done ∷ Answer.made 5 ∷ figures 36 9 9 Whole ∷ done
-    ∷ bytes (5 ∷ 6 ∷ []) ∷ bytes (9 ∷ 9 ∷ []) ∷ bytes (90 ∷ 91 ∷ []) ∷ allSound 12
+    ∷ bytes (5 ∷ 6 ∷ []) ∷ bytes (9 ∷ 9 ∷ []) ∷ bytes (90 ∷ 91 ∷ []) ∷ all_sound 12
     ∷ []
 
 pub record CutSample : Type 0 where
-  pub array : answers asBytes (happens script cabinet) cabinet ≡ expected
-  pub flat-list : flatAnswers (fates script cabinet) list ≡ expected
+  pub array : answers as_bytes (happens script cabinet) cabinet ≡ expected
+  pub flat_list : flat_answers (fates script cabinet) list ≡ expected

@@ -5,15 +5,15 @@
 -- proofs/Cases/Sample.antt computes both machines.
 use Rattle.std.specs.Prelude.{ℕ, zero, suc, ◌+◌, ◌-◌, ◌*◌, ◌%◌, ◌≡◌, true, false, List, [], ◌∷◌, ◌++◌, map, take, drop}
 use Rattle.layout.specs.declared.Role.TheVariants.{Data, Parity, Blank}
-use Rattle.layout.specs.Home.{standingAt}
+use Rattle.layout.specs.Home.{standing_at}
 use Rattle.state.specs.declared.types.Health.TheVariants.{Whole, Out, Lost, Rebuilding}
-use Rattle.state.specs.Bytes.{recordLength, decode}
+use Rattle.state.specs.Bytes.{record_length, decode}
 use Rattle.calls.specs.Call.{Call, format, read, view, write, grow, advance, out, begin, continue}
 use Rattle.calls.specs.Call.{status, locate, owner, sweep, on, Event, fed}
-use Rattle.calls.specs.Call.{Answer, refused, done, bytes, made, allSound, figures, placed, owned}
+use Rattle.calls.specs.Call.{Answer, refused, done, bytes, made, all_sound, figures, placed, owned}
 use Rattle.history.specs.Flat.{Flat, flat}
-use Rattle.history.specs.Lent.{asBytes, Cabinet, next}
-use Rattle.history.specs.Theorem.{Fair, outcomes, flatOutcomes}
+use Rattle.history.specs.Lent.{as_bytes, Cabinet, next}
+use Rattle.history.specs.Theorem.{Fair, outcomes, flat_outcomes}
 
 -- ---- a script
 
@@ -63,7 +63,7 @@ lent s img = on s.call (s.change img) s.room
 -- the events of a script, each lent what the ones before left, changed as the script says
 unfoldable pub play : List Step → Cabinet (List ℕ) → List Event
 play [] a = []
-play (s ∷ ss) a = let e = lent s a.img in e ∷ play ss (next asBytes e a)
+play (s ∷ ss) a = let e = lent s a.img in e ∷ play ss (next as_bytes e a)
 
 -- ---- the script
 
@@ -166,8 +166,8 @@ rebuilding =
 
 -- whole again: the last move of zone 0, and its four blanks are blocks. One of them is written in mid-growth, between two moves of zone 1,
 -- and again with its disk out, which is then rebuilt
-abbrev pub handedOut : List Step
-handedOut =
+abbrev pub handed_out : List Step
+handed_out =
     plain (read 6)
     ∷ plain (read 4)
     ∷ plain (read 7)
@@ -220,8 +220,8 @@ finished =
     ∷ []
 
 -- past the end, wrong lengths
-abbrev pub turnedAway : List Step
-turnedAway =
+abbrev pub turned_away : List Step
+turned_away =
     plain (read 36)
     ∷ room 3 (read 35)  -- a block of 3 bytes
     ∷ plain (write 35 (1 ∷ []))  -- data of 1 byte
@@ -279,26 +279,26 @@ odd =
 
 -- all of it
 abbrev pub script : List Step
-script = begun ++ growing ++ degraded ++ rebuilding ++ handedOut ++ finished ++ turnedAway ++ lost ++ anew ++ odd
+script = begun ++ growing ++ degraded ++ rebuilding ++ handed_out ++ finished ++ turned_away ++ lost ++ anew ++ odd
 
 -- ---- both machines before the first format
 
 -- the array: nonsense, of the lengths that the format asks for
 abbrev pub cabinet : Cabinet (List ℕ)
-cabinet = record { rec = junk 91 recordLength; img = junk 57 72 }
+cabinet = record { rec = junk 91 record_length; img = junk 57 72 }
 
 -- the flat list: the same nonsense as numbers, and no blocks
 abbrev pub list : Flat
-list = flat (decode (junk 91 recordLength)) []
+list = flat (decode (junk 91 record_length)) []
 
 -- ---- the answers
 
 -- the record's bytes: n, m, health with its disk, B = 2, T = 12, t, and the stripes done
-abbrev pub afterSteps : ℕ → ℕ → ℕ → ℕ → ℕ → ℕ → List ℕ
-afterSteps n m h d t c = n ∷ m ∷ h ∷ d ∷ 2 ∷ 0 ∷ 0 ∷ 0 ∷ 12 ∷ 0 ∷ 0 ∷ 0 ∷ t ∷ 0 ∷ 0 ∷ 0 ∷ c ∷ 0 ∷ 0 ∷ 0 ∷ []
+abbrev pub after_steps : ℕ → ℕ → ℕ → ℕ → ℕ → ℕ → List ℕ
+after_steps n m h d t c = n ∷ m ∷ h ∷ d ∷ 2 ∷ 0 ∷ 0 ∷ 0 ∷ 12 ∷ 0 ∷ 0 ∷ 0 ∷ t ∷ 0 ∷ 0 ∷ 0 ∷ c ∷ 0 ∷ 0 ∷ 0 ∷ []
 
 abbrev pub after : ℕ → ℕ → ℕ → ℕ → ℕ → List ℕ
-after n m h d t = afterSteps n m h d t 0
+after n m h d t = after_steps n m h d t 0
 
 -- what each call answers, and the record's bytes after it
 abbrev pub expected : List (Answer × List ℕ)
@@ -314,10 +314,10 @@ expected =
     ∷ (done, after 3 0 0 0 0)  -- write 4 (66 ∷ 77 ∷ [])
     ∷ (bytes (66 ∷ 77 ∷ []), after 3 0 0 0 0)  -- read 4
     ∷ (bytes (1 ∷ 2 ∷ []), after 3 0 0 0 0)  -- view 6
-    ∷ (allSound 12, after 3 0 0 0 0)  -- sweep
+    ∷ (all_sound 12, after 3 0 0 0 0)  -- sweep
     -- growing
     ∷ (refused 5, after 3 0 0 0 0)  -- advance 1
-    ∷ (placed (standingAt 2 1 2 false), after 3 0 0 0 0)  -- locate 4
+    ∷ (placed (standing_at 2 1 2 false), after 3 0 0 0 0)  -- locate 4
     ∷ (owned Parity, after 3 0 0 0 0)  -- owner 3 0
     ∷ (refused 10, after 3 0 0 0 0)  -- owner 3 3
     ∷ (refused 6, after 3 0 0 0 0)  -- grow 17
@@ -325,8 +325,8 @@ expected =
     ∷ (done, after 3 1 0 0 0)  -- grow 1
     ∷ (owned Blank, after 3 1 0 0 0)  -- owner 3 3
     ∷ (made 2, after 3 1 0 0 2)  -- advance 2
-    ∷ (placed (standingAt 2 3 2 true), after 3 1 0 0 2)  -- locate 4
-    ∷ (placed (standingAt 1 2 1 false), after 3 1 0 0 2)  -- locate 2
+    ∷ (placed (standing_at 2 3 2 true), after 3 1 0 0 2)  -- locate 4
+    ∷ (placed (standing_at 1 2 1 false), after 3 1 0 0 2)  -- locate 2
     ∷ (owned (Data 4), after 3 1 0 0 2)  -- owner 2 3
     ∷ (owned Parity, after 3 1 0 0 2)  -- owner 3 3
     ∷ (owned Blank, after 3 1 0 0 2)  -- owner 3 0
@@ -335,7 +335,7 @@ expected =
     ∷ (done, after 3 1 0 0 2)  -- write 7 (200 ∷ 100 ∷ [])
     ∷ (bytes (200 ∷ 100 ∷ []), after 3 1 0 0 2)  -- read 7
     ∷ (refused 8, after 3 1 0 0 2)  -- read 24
-    ∷ (allSound 12, after 3 1 0 0 2)  -- sweep
+    ∷ (all_sound 12, after 3 1 0 0 2)  -- sweep
     -- degraded
     ∷ (done, after 3 1 1 2 2)  -- out 2
     ∷ (figures 24 2 9 (Out 2), after 3 1 1 2 2)  -- status
@@ -354,44 +354,44 @@ expected =
     ∷ (refused 10, after 3 1 1 2 2)  -- out 2
     ∷ (refused 10, after 3 1 1 2 2)  -- begin 1
     ∷ (refused 10, after 3 1 1 2 2)  -- continue 1
-    ∷ (done, afterSteps 3 1 3 2 2 0)  -- begin 2
+    ∷ (done, after_steps 3 1 3 2 2 0)  -- begin 2
     -- rebuilding
-    ∷ (bytes (250 ∷ 251 ∷ []), afterSteps 3 1 3 2 2 0)  -- read 0
-    ∷ (made 3, afterSteps 3 1 3 2 2 3)  -- continue 3
-    ∷ (figures 24 2 9 (Rebuilding 2 3), afterSteps 3 1 3 2 2 3)  -- status
-    ∷ (bytes (250 ∷ 251 ∷ []), afterSteps 3 1 3 2 2 3)  -- read 0
-    ∷ (done, afterSteps 3 1 3 2 2 3)  -- write 0 (14 ∷ 15 ∷ [])
-    ∷ (done, afterSteps 3 1 3 2 2 3)  -- write 4 (16 ∷ 17 ∷ [])
-    ∷ (bytes (40 ∷ 50 ∷ []), afterSteps 3 1 3 2 2 3)  -- view 6
-    ∷ (done, afterSteps 3 1 3 2 2 3)  -- write 6 (18 ∷ 19 ∷ [])
-    ∷ (made 1, afterSteps 3 1 3 2 2 4)  -- continue 1
-    ∷ (bytes (18 ∷ 19 ∷ []), afterSteps 3 1 3 2 2 4)  -- read 6
-    ∷ (done, afterSteps 3 1 3 2 2 4)  -- write 6 (20 ∷ 21 ∷ [])
-    ∷ (refused 3, afterSteps 3 1 3 2 2 4)  -- advance 1
-    ∷ (refused 3, afterSteps 3 1 3 2 2 4)  -- grow 1
-    ∷ (refused 3, afterSteps 3 1 3 2 2 4)  -- sweep
-    ∷ (refused 10, afterSteps 3 1 3 2 2 4)  -- begin 2
+    ∷ (bytes (250 ∷ 251 ∷ []), after_steps 3 1 3 2 2 0)  -- read 0
+    ∷ (made 3, after_steps 3 1 3 2 2 3)  -- continue 3
+    ∷ (figures 24 2 9 (Rebuilding 2 3), after_steps 3 1 3 2 2 3)  -- status
+    ∷ (bytes (250 ∷ 251 ∷ []), after_steps 3 1 3 2 2 3)  -- read 0
+    ∷ (done, after_steps 3 1 3 2 2 3)  -- write 0 (14 ∷ 15 ∷ [])
+    ∷ (done, after_steps 3 1 3 2 2 3)  -- write 4 (16 ∷ 17 ∷ [])
+    ∷ (bytes (40 ∷ 50 ∷ []), after_steps 3 1 3 2 2 3)  -- view 6
+    ∷ (done, after_steps 3 1 3 2 2 3)  -- write 6 (18 ∷ 19 ∷ [])
+    ∷ (made 1, after_steps 3 1 3 2 2 4)  -- continue 1
+    ∷ (bytes (18 ∷ 19 ∷ []), after_steps 3 1 3 2 2 4)  -- read 6
+    ∷ (done, after_steps 3 1 3 2 2 4)  -- write 6 (20 ∷ 21 ∷ [])
+    ∷ (refused 3, after_steps 3 1 3 2 2 4)  -- advance 1
+    ∷ (refused 3, after_steps 3 1 3 2 2 4)  -- grow 1
+    ∷ (refused 3, after_steps 3 1 3 2 2 4)  -- sweep
+    ∷ (refused 10, after_steps 3 1 3 2 2 4)  -- begin 2
     ∷ (done, after 3 1 1 2 2)  -- out 2
     ∷ (figures 24 2 9 (Out 2), after 3 1 1 2 2)  -- status
     ∷ (bytes (14 ∷ 15 ∷ []), after 3 1 1 2 2)  -- read 0
     ∷ (bytes (20 ∷ 21 ∷ []), after 3 1 1 2 2)  -- read 6
     ∷ (refused 10, after 3 1 1 2 2)  -- continue 1
-    ∷ (done, afterSteps 3 1 3 2 2 0)  -- begin 2
-    ∷ (made 0, afterSteps 3 1 3 2 2 0)  -- continue 0
-    ∷ (made 11, afterSteps 3 1 3 2 2 11)  -- continue 11
-    ∷ (bytes (20 ∷ 21 ∷ []), afterSteps 3 1 3 2 2 11)  -- read 6
+    ∷ (done, after_steps 3 1 3 2 2 0)  -- begin 2
+    ∷ (made 0, after_steps 3 1 3 2 2 0)  -- continue 0
+    ∷ (made 11, after_steps 3 1 3 2 2 11)  -- continue 11
+    ∷ (bytes (20 ∷ 21 ∷ []), after_steps 3 1 3 2 2 11)  -- read 6
     ∷ (made 1, after 3 1 0 0 2)  -- continue 100
     ∷ (refused 10, after 3 1 0 0 2)  -- continue 1
     ∷ (bytes (14 ∷ 15 ∷ []), after 3 1 0 0 2)  -- read 0
-    ∷ (allSound 12, after 3 1 0 0 2)  -- sweep
-    -- handedOut
+    ∷ (all_sound 12, after 3 1 0 0 2)  -- sweep
+    -- handed_out
     ∷ (bytes (20 ∷ 21 ∷ []), after 3 1 0 0 2)  -- read 6
     ∷ (bytes (16 ∷ 17 ∷ []), after 3 1 0 0 2)  -- read 4
     ∷ (bytes (99 ∷ 98 ∷ []), after 3 1 0 0 2)  -- read 7
     ∷ (refused 8, after 3 1 0 0 2)  -- read 24
     ∷ (made 1, after 3 1 0 0 3)  -- advance 1
     ∷ (figures 28 3 9 Whole, after 3 1 0 0 3)  -- status
-    ∷ (placed (standingAt 2 1 2 false), after 3 1 0 0 3)  -- locate 26
+    ∷ (placed (standing_at 2 1 2 false), after 3 1 0 0 3)  -- locate 26
     ∷ (owned (Data 26), after 3 1 0 0 3)  -- owner 2 1
     ∷ (owned Blank, after 3 1 0 0 3)  -- owner 4 3
     ∷ (bytes (0 ∷ 0 ∷ []), after 3 1 0 0 3)  -- read 26
@@ -404,13 +404,13 @@ expected =
     ∷ (done, after 3 1 1 1 4)  -- write 26 (45 ∷ 46 ∷ [])
     ∷ (bytes (45 ∷ 46 ∷ []), after 3 1 1 1 4)  -- view 26
     ∷ (done, after 3 1 1 1 4)  -- write 24 (61 ∷ 62 ∷ [])
-    ∷ (done, afterSteps 3 1 3 1 4 0)  -- begin 1
+    ∷ (done, after_steps 3 1 3 1 4 0)  -- begin 1
     ∷ (made 12, after 3 1 0 0 4)  -- continue 12
     ∷ (bytes (45 ∷ 46 ∷ []), after 3 1 0 0 4)  -- read 26
-    ∷ (allSound 12, after 3 1 0 0 4)  -- sweep
+    ∷ (all_sound 12, after 3 1 0 0 4)  -- sweep
     ∷ (made 2, after 3 1 0 0 6)  -- advance 2
     ∷ (figures 32 6 9 Whole, after 3 1 0 0 6)  -- status
-    ∷ (placed (standingAt 2 1 2 false), after 3 1 0 0 6)  -- locate 26
+    ∷ (placed (standing_at 2 1 2 false), after 3 1 0 0 6)  -- locate 26
     ∷ (bytes (45 ∷ 46 ∷ []), after 3 1 0 0 6)  -- read 26
     ∷ (bytes (0 ∷ 0 ∷ []), after 3 1 0 0 6)  -- read 31
     -- finished
@@ -420,17 +420,17 @@ expected =
     ∷ (figures 36 9 9 Whole, after 3 1 0 0 9)  -- status
     ∷ (bytes (9 ∷ 90 ∷ []), after 3 1 0 0 9)  -- read 2
     ∷ (bytes (3 ∷ 4 ∷ []), after 3 1 0 0 9)  -- read 19
-    ∷ (placed (standingAt 2 1 2 false), after 3 1 0 0 9)  -- locate 26
+    ∷ (placed (standing_at 2 1 2 false), after 3 1 0 0 9)  -- locate 26
     ∷ (owned (Data 26), after 3 1 0 0 9)  -- owner 2 1
     ∷ (bytes (45 ∷ 46 ∷ []), after 3 1 0 0 9)  -- read 26
     ∷ (bytes (61 ∷ 62 ∷ []), after 3 1 0 0 9)  -- read 24
     ∷ (bytes (0 ∷ 0 ∷ []), after 3 1 0 0 9)  -- read 27
-    ∷ (placed (standingAt 11 2 3 false), after 3 1 0 0 9)  -- locate 35
+    ∷ (placed (standing_at 11 2 3 false), after 3 1 0 0 9)  -- locate 35
     ∷ (bytes (0 ∷ 0 ∷ []), after 3 1 0 0 9)  -- read 35
     ∷ (done, after 3 1 0 0 9)  -- write 26 (5 ∷ 6 ∷ [])
     ∷ (bytes (5 ∷ 6 ∷ []), after 3 1 0 0 9)  -- read 26
-    ∷ (allSound 12, after 3 1 0 0 9)  -- sweep
-    -- turnedAway
+    ∷ (all_sound 12, after 3 1 0 0 9)  -- sweep
+    -- turned_away
     ∷ (refused 8, after 3 1 0 0 9)  -- read 36
     ∷ (refused 9, after 3 1 0 0 9)  -- read 35
     ∷ (refused 9, after 3 1 0 0 9)  -- write 35 (1 ∷ [])
@@ -439,16 +439,16 @@ expected =
     -- lost
     ∷ (done, after 3 1 1 1 9)  -- out 1
     ∷ (bytes (5 ∷ 6 ∷ []), after 3 1 1 1 9)  -- view 26
-    ∷ (done, afterSteps 3 1 3 1 9 0)  -- begin 1
-    ∷ (made 5, afterSteps 3 1 3 1 9 5)  -- continue 5
-    ∷ (bytes (5 ∷ 6 ∷ []), afterSteps 3 1 3 1 9 5)  -- view 26
+    ∷ (done, after_steps 3 1 3 1 9 0)  -- begin 1
+    ∷ (made 5, after_steps 3 1 3 1 9 5)  -- continue 5
+    ∷ (bytes (5 ∷ 6 ∷ []), after_steps 3 1 3 1 9 5)  -- view 26
     ∷ (done, after 3 1 2 0 9)  -- out 3
     ∷ (refused 2, after 3 1 2 0 9)  -- read 4
     ∷ (refused 2, after 3 1 2 0 9)  -- begin 1
     ∷ (refused 2, after 3 1 2 0 9)  -- continue 1
     ∷ (refused 2, after 3 1 2 0 9)  -- sweep
     ∷ (figures 36 9 9 Lost, after 3 1 2 0 9)  -- status
-    ∷ (placed (standingAt 2 1 2 false), after 3 1 2 0 9)  -- locate 26
+    ∷ (placed (standing_at 2 1 2 false), after 3 1 2 0 9)  -- locate 26
     -- anew
     ∷ (refused 7, after 3 1 2 0 9)  -- format 3 2 12
     ∷ (done, after 4 0 0 0 0)  -- format 4 2 12
@@ -458,8 +458,8 @@ expected =
     ∷ (done, after 4 1 0 0 0)  -- grow 1
     ∷ (refused 5, after 4 1 0 0 0)  -- advance 1
     ∷ (figures 48 0 0 Whole, after 4 1 0 0 0)  -- status
-    ∷ (placed (standingAt 0 4 0 false), after 4 1 0 0 0)  -- locate 36
-    ∷ (placed (standingAt 11 1 3 false), after 4 1 0 0 0)  -- locate 34
+    ∷ (placed (standing_at 0 4 0 false), after 4 1 0 0 0)  -- locate 36
+    ∷ (placed (standing_at 11 1 3 false), after 4 1 0 0 0)  -- locate 34
     ∷ (owned (Data 47), after 4 1 0 0 0)  -- owner 11 4
     ∷ (owned Parity, after 4 1 0 0 0)  -- owner 11 3
     ∷ (bytes (0 ∷ 0 ∷ []), after 4 1 0 0 0)  -- read 47
@@ -467,17 +467,17 @@ expected =
     ∷ (done, after 4 1 1 4 0)  -- out 4
     ∷ (bytes (8 ∷ 9 ∷ []), after 4 1 1 4 0)  -- read 47
     ∷ (bytes (31 ∷ 32 ∷ []), after 4 1 1 4 0)  -- read 34
-    ∷ (done, afterSteps 4 1 3 4 0 0)  -- begin 4
+    ∷ (done, after_steps 4 1 3 4 0 0)  -- begin 4
     ∷ (made 12, after 4 1 0 0 0)  -- continue 12
     ∷ (bytes (8 ∷ 9 ∷ []), after 4 1 0 0 0)  -- read 47
     ∷ (refused 8, after 4 1 0 0 0)  -- read 48
-    ∷ (allSound 12, after 4 1 0 0 0)  -- sweep
+    ∷ (all_sound 12, after 4 1 0 0 0)  -- sweep
     ∷ []
 
 pub record Sample : Type 0 where
   -- what is lent is what may be lent: the theorem speaks of this history
-  pub lent-fairly : Fair asBytes (play script cabinet) cabinet list
+  pub lent_fairly : Fair as_bytes (play script cabinet) cabinet list
   -- the array, on its bytes
-  pub array : outcomes asBytes (play script cabinet) cabinet ≡ expected
+  pub array : outcomes as_bytes (play script cabinet) cabinet ≡ expected
   -- the flat list, fed the calls and the lengths
-  pub flat-list : flatOutcomes asBytes (map fed (play script cabinet)) list ≡ expected
+  pub flat_list : flat_outcomes as_bytes (map fed (play script cabinet)) list ≡ expected

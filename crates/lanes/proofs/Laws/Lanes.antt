@@ -6,8 +6,8 @@ use native.Mathlib.Omega.{arith}
 use lib.Bits.{bit_xor}
 use lib.ListN.{length, get_or, set}
 use Rattle.blocks.specs.Block.{block_at, store}
-use Rattle.blocks.specs.Xor.{xorB}
-use Rattle.blocks.proofs.Laws.Block.{store-append, store-one, blockAt-cons, blockAt-split}
+use Rattle.blocks.specs.Xor.{xor_b}
+use Rattle.blocks.proofs.Laws.Block.{store-append, store-one, block_at-cons, block_at-split}
 
 -- the n bytes from at + k on, read one by one
 abbrev pub reads : List ℕ → ℕ → ℕ → ℕ → List ℕ
@@ -19,22 +19,22 @@ reads-block l at k zero h = refl
 reads-block l at k (suc n) h =
     let e : at + suc k ≡ at + k + 1 = omega arith in
     ap (λ (r : List ℕ). get_or l (at + k) 0 ∷ r) (reads-block l at (suc k) n (omega arith) ∙ ap (λ (i : ℕ). block_at l i n) e)
-    ∙ sym (blockAt-cons l (at + k) n (omega arith))
+    ∙ sym (block_at-cons l (at + k) n (omega arith))
 
 -- sixteen of them, the first without a sum
 pub sixteen-reads : (l : List ℕ) (at : ℕ) → at + 16 ≤ length l → get_or l at 0 ∷ reads l at 1 15 ≡ block_at l at 16
-sixteen-reads l at h = ap (λ (r : List ℕ). get_or l at 0 ∷ r) (reads-block l at 1 15 (omega arith)) ∙ sym (blockAt-cons l at 15 (omega arith))
+sixteen-reads l at h = ap (λ (r : List ℕ). get_or l at 0 ∷ r) (reads-block l at 1 15 (omega arith)) ∙ sym (block_at-cons l at 15 (omega arith))
 
 pub blocks-four : (l : List ℕ) (at : ℕ) → block_at l at 16 ++ (block_at l (at + 16) 16 ++ (block_at l (at + 32) 16 ++ block_at l (at + 48) 16)) ≡ block_at l at 64
 blocks-four l at =
     let e : at + 16 + 16 ≡ at + 32 = omega arith in
     let f : at + 32 + 16 ≡ at + 48 = omega arith in
     sym
-    (blockAt-split l at 16 48
+    (block_at-split l at 16 48
     ∙ ap (λ (r : List ℕ). block_at l at 16 ++ r)
-    (blockAt-split l (at + 16) 16 32
+    (block_at-split l (at + 16) 16 32
     ∙ ap (λ (r : List ℕ). block_at l (at + 16) 16 ++ r)
-    (ap (λ (i : ℕ). block_at l i 32) e ∙ blockAt-split l (at + 32) 16 16 ∙ ap (λ (i : ℕ). block_at l (at + 32) 16 ++ block_at l i 16) f)))
+    (ap (λ (i : ℕ). block_at l i 32) e ∙ block_at-split l (at + 32) 16 16 ∙ ap (λ (i : ℕ). block_at l (at + 32) 16 ++ block_at l i 16) f)))
 
 -- four stores, each after the one before
 pub stores-four : (l : List ℕ) {l₁ l₂ l₃ l₄ : List ℕ} (at : ℕ) {i j m : ℕ} (a b c d : List ℕ) → l₁ ≡ store l at a → l₂ ≡ store l₁ i b → l₃ ≡ store l₂ j c → l₄ ≡ store l₃ m d
@@ -56,7 +56,7 @@ sets-four l at a b c d =
 
 -- a block of one byte
 pub block_one : (l : List ℕ) (at : ℕ) → at < length l → get_or l at 0 ∷ [] ≡ block_at l at 1
-block_one l at h = sym (blockAt-cons l at 0 h)
+block_one l at h = sym (block_at-cons l at 0 h)
 
-pub xor-one : (l : List ℕ) (x at : ℕ) → at < length l → xorB (x ∷ []) (block_at l at 1) ≡ bit_xor x (get_or l at 0) ∷ []
-xor-one l x at h = ap (xorB (x ∷ [])) (sym (block_one l at h))
+pub xor-one : (l : List ℕ) (x at : ℕ) → at < length l → xor_b (x ∷ []) (block_at l at 1) ≡ bit_xor x (get_or l at 0) ∷ []
+xor-one l x at h = ap (xor_b (x ∷ [])) (sym (block_one l at h))

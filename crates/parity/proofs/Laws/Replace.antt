@@ -6,8 +6,8 @@ use native.Mathlib.Nat.{le_antisymm, add-zero}
 use native.Mathlib.Omega.{arith}
 use lib.ListN.{length}
 use lib.Seq.{take_all}
-use Rattle.blocks.specs.Block.{block_at, store, copiedTo}
-use Rattle.blocks.proofs.Laws.Block.{blockAt-split, length-blockAt, length-store, store-nil, store-append}
+use Rattle.blocks.specs.Block.{block_at, store, copied_to}
+use Rattle.blocks.proofs.Laws.Block.{block_at-split, length-block_at, length-store, store-nil, store-append}
 
 -- F l₀, the parity that the images l₀ are to have from `to` on, has n bytes; bytes stored there do not change those that are to follow them
 pub record Steady (F : List ℕ → List ℕ) (to n : ℕ) (l₀ : List ℕ) : Type 0 where
@@ -17,7 +17,7 @@ pub record Steady (F : List ℕ → List ℕ) (to n : ℕ) (l₀ : List ℕ) : T
 
 -- from `first` to before at the new parity is stored in l, which was l₀
 pub record Replaced (F : List ℕ → List ℕ) (to n : ℕ) (l₀ : List ℕ) (first : ℕ) (l : List ℕ) (at : ℕ) : Type 0 where
-  pub is : l ≡ copiedTo l₀ (to + first) (F l₀) first (at - first)
+  pub is : l ≡ copied_to l₀ (to + first) (F l₀) first (at - first)
   pub size : length l ≡ length l₀
   pub behind : first ≤ at
   pub within : at ≤ n
@@ -27,7 +27,7 @@ module _ {F : List ℕ → List ℕ} {to n : ℕ} where
   replaced-none {l} {first} h =
       let e : first - first ≡ 0 = omega arith in
       record {
-        is = sym (ap (λ (m : ℕ). copiedTo l (to + first) (F l) first m) e ∙ store-nil l (to + first));
+        is = sym (ap (λ (m : ℕ). copied_to l (to + first) (F l) first m) e ∙ store-nil l (to + first));
         size = refl;
         behind = omega arith;
         within = h;
@@ -35,28 +35,28 @@ module _ {F : List ℕ → List ℕ} {to n : ℕ} where
 
   -- to the end
   pub replaced-end : {l₀ : List ℕ} {first : ℕ} {l : List ℕ} {at : ℕ} → Replaced F to n l₀ first l at → n ≤ at
-      → l ≡ copiedTo l₀ (to + first) (F l₀) first (n - first)
-  replaced-end {l₀} {first} f h = f.is ∙ ap (λ (i : ℕ). copiedTo l₀ (to + first) (F l₀) first (i - first)) (le_antisymm f.within h)
+      → l ≡ copied_to l₀ (to + first) (F l₀) first (n - first)
+  replaced-end {l₀} {first} f h = f.is ∙ ap (λ (i : ℕ). copied_to l₀ (to + first) (F l₀) first (i - first)) (le_antisymm f.within h)
 
   module _ {l₀ : List ℕ} (w : Steady F to n l₀) where
     -- a part more, from at to before end
     pub replaced-on : {first : ℕ} {l l' : List ℕ} {at : ℕ} → Replaced F to n l₀ first l at → (end : ℕ) → at ≤ end → end ≤ n
-        → l' ≡ copiedTo l (to + at) (F l) at (end - at) → Replaced F to n l₀ first l' end
+        → l' ≡ copied_to l (to + at) (F l) at (end - at) → Replaced F to n l₀ first l' end
     replaced-on {first} {l} {l'} {at} f end h k q =
         let p : List ℕ = F l₀ in
         let m : ℕ = end - at in
         let v : List ℕ = block_at p first (at - first) in
-        let size : length v ≡ at - first = length-blockAt p first (at - first) (omega (arith, w.long, f.behind, f.within)) in
+        let size : length v ≡ at - first = length-block_at p first (at - first) (omega (arith, w.long, f.behind, f.within)) in
         let reach : at ≡ first + length v = omega (arith, f.behind) in
         let room : first + length v + m ≤ n = omega arith in
         let flat : to + (first + length v) ≡ to + first + length v = omega arith in
         let sum : at - first + m ≡ end - first = omega (arith, f.behind) in
         record {
           is =
-              q ∙ ap₂ (λ (r : List ℕ) (i : ℕ). copiedTo r (to + i) (F r) i m) f.is reach
+              q ∙ ap₂ (λ (r : List ℕ) (i : ℕ). copied_to r (to + i) (F r) i m) f.is reach
               ∙ ap₂ (store (store l₀ (to + first) v)) flat (w.kept first v m room ∙ ap (λ (i : ℕ). block_at p (first + i) m) size)
               ∙ sym (store-append l₀ (to + first) v (block_at p (first + (at - first)) m))
-              ∙ ap (store l₀ (to + first)) (sym (blockAt-split p first (at - first) m) ∙ ap (block_at p first) sum);
+              ∙ ap (store l₀ (to + first)) (sym (block_at-split p first (at - first) m) ∙ ap (block_at p first) sum);
           size = ap length q ∙ length-store l (to + at) (block_at (F l) at m) ∙ f.size;
           behind = omega (arith, f.behind);
           within = k;

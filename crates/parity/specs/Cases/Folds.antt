@@ -2,7 +2,7 @@
 -- `folds` of proofs/Cases/Folds.antt computes that the definitions say the same.
 use Rattle.std.specs.Prelude.{ℕ, ◌≡◌, List, [], ◌∷◌}
 use Rattle.parity.specs.declared.types.Gapped.{Gapped}
-use Rattle.parity.specs.Fold.{foldedOthers, gapped, newParity, partFolded}
+use Rattle.parity.specs.Fold.{folded_others, gapped, new_parity, part_folded}
 
 abbrev pub four : Gapped
 four = record { disks = 4; stripes = 1; len = 2; stripe = 0; out = 1; parity = 3 }
@@ -17,9 +17,9 @@ bytes = 64 ∷ 128 ∷ []
 pub record Folds : Type 0 where
   -- 1 xor 4, 2 xor 8
   pub summed : gapped four images ≡ 5 ∷ 10 ∷ []
-  pub parity : newParity four images bytes ≡ 69 ∷ 138 ∷ []
+  pub parity : new_parity four images bytes ≡ 69 ∷ 138 ∷ []
   -- its bytes one by one
-  pub first : partFolded four images bytes 0 1 ≡ 1 ∷ 2 ∷ 99 ∷ 99 ∷ 4 ∷ 8 ∷ 69 ∷ 10 ∷ []
-  pub second : partFolded four (1 ∷ 2 ∷ 99 ∷ 99 ∷ 4 ∷ 8 ∷ 69 ∷ 10 ∷ []) bytes 1 1 ≡ 1 ∷ 2 ∷ 99 ∷ 99 ∷ 4 ∷ 8 ∷ 69 ∷ 138 ∷ []
+  pub first : part_folded four images bytes 0 1 ≡ 1 ∷ 2 ∷ 99 ∷ 99 ∷ 4 ∷ 8 ∷ 69 ∷ 10 ∷ []
+  pub second : part_folded four (1 ∷ 2 ∷ 99 ∷ 99 ∷ 4 ∷ 8 ∷ 69 ∷ 10 ∷ []) bytes 1 1 ≡ 1 ∷ 2 ∷ 99 ∷ 99 ∷ 4 ∷ 8 ∷ 69 ∷ 138 ∷ []
   -- and at once, by the old parity xor the old block xor the bytes
-  pub whole : foldedOthers 1 images 0 4 1 3 bytes ≡ 1 ∷ 2 ∷ 99 ∷ 99 ∷ 4 ∷ 8 ∷ 69 ∷ 138 ∷ []
+  pub whole : folded_others 1 images 0 4 1 3 bytes ≡ 1 ∷ 2 ∷ 99 ∷ 99 ∷ 4 ∷ 8 ∷ 69 ∷ 138 ∷ []

@@ -9,8 +9,8 @@ points =
     record {
       there = refl;
       back = refl;
-      edges-there = refl;
-      edges-back = refl;
+      edges_there = refl;
+      edges_back = refl;
       one = refl;
       none = refl;
       alike = refl;
@@ -18,6 +18,6 @@ points =
       odd = refl;
       shorter = refl;
       longer = refl;
-      filled-all = refl;
+      filled_all = refl;
       left_alone = refl;
     }

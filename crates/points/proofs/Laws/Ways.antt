@@ -7,7 +7,7 @@ use lib.ListN.{length, get_or, take, drop, length-append, length-map, length-dro
 use lib.Seq.{take_at, drop_at, length-take-le}
 use Rattle.blocks.specs.Block.{AreBytes}
 use Rattle.blocks.proofs.Laws.Number.{two_back, two-low, two-high}
-use Rattle.points.specs.Points.{points_of, minus, differencesFrom, low, high, side_by_side, joined, half, fromSides, plus, sumsFrom, bytes_of}
+use Rattle.points.specs.Points.{points_of, minus, differences_from, low, high, side_by_side, joined, half, from_sides, plus, sums_from, bytes_of}
 
 -- each number of l is below m
 abbrev pub Below : ℕ → List ℕ → Type 0
@@ -59,30 +59,30 @@ bytes_below (p ∷ ps) h (suc (suc i)) = bytes_below ps (λ j. h (suc j)) i
 
 -- ---- points and differences
 
-pub sums-differences : (q : ℕ) (ps : List ℕ) → q < 65536 → Below 65536 ps → sumsFrom q (differencesFrom q ps) ≡ ps
+pub sums-differences : (q : ℕ) (ps : List ℕ) → q < 65536 → Below 65536 ps → sums_from q (differences_from q ps) ≡ ps
 sums-differences q [] k h = refl
 sums-differences q (p ∷ ps) k h =
     let e : plus q (minus p q) ≡ p = plus-minus p q (h 0) k in
-    ap₂ ◌∷◌ e (ap (λ (x : ℕ). sumsFrom x (differencesFrom p ps)) e ∙ sums-differences p ps (h 0) (λ i. h (suc i)))
+    ap₂ ◌∷◌ e (ap (λ (x : ℕ). sums_from x (differences_from p ps)) e ∙ sums-differences p ps (h 0) (λ i. h (suc i)))
 
-pub differences-sums : (q : ℕ) (ds : List ℕ) → q < 65536 → Below 65536 ds → differencesFrom q (sumsFrom q ds) ≡ ds
+pub differences-sums : (q : ℕ) (ds : List ℕ) → q < 65536 → Below 65536 ds → differences_from q (sums_from q ds) ≡ ds
 differences-sums q [] k h = refl
 differences-sums q (d ∷ ds) k h = ap₂ ◌∷◌ (minus_plus d q (h 0) k) (differences-sums (plus q d) ds (omega arith) (λ i. h (suc i)))
 
-pub length-differences : (q : ℕ) (ps : List ℕ) → length (differencesFrom q ps) ≡ length ps
+pub length-differences : (q : ℕ) (ps : List ℕ) → length (differences_from q ps) ≡ length ps
 length-differences q [] = refl
 length-differences q (p ∷ ps) = ap suc (length-differences p ps)
 
-pub length-sums : (q : ℕ) (ds : List ℕ) → length (sumsFrom q ds) ≡ length ds
+pub length-sums : (q : ℕ) (ds : List ℕ) → length (sums_from q ds) ≡ length ds
 length-sums q [] = refl
 length-sums q (d ∷ ds) = ap suc (length-sums (plus q d) ds)
 
-pub differences-below : (q : ℕ) (ps : List ℕ) → Below 65536 (differencesFrom q ps)
+pub differences-below : (q : ℕ) (ps : List ℕ) → Below 65536 (differences_from q ps)
 differences-below q [] i = omega arith
 differences-below q (p ∷ ps) zero = omega arith
 differences-below q (p ∷ ps) (suc i) = differences-below p ps i
 
-pub sums-below : (q : ℕ) (ds : List ℕ) → Below 65536 (sumsFrom q ds)
+pub sums-below : (q : ℕ) (ds : List ℕ) → Below 65536 (sums_from q ds)
 sums-below q [] i = omega arith
 sums-below q (d ∷ ds) zero = omega arith
 sums-below q (d ∷ ds) (suc i) = sums-below (plus q d) ds i
@@ -144,12 +144,12 @@ length-second l e = length-drop (half l) l ∙ omega arith
 pub length-sides : (ds : List ℕ) → length (side_by_side ds) ≡ length ds + length ds
 length-sides ds = length-append (map low ds) (map high ds) ∙ ap₂ ◌+◌ (length-map ds low) (length-map ds high)
 
-pub from-sides : (ds : List ℕ) → fromSides (side_by_side ds) ≡ ds
+pub from-sides : (ds : List ℕ) → from_sides (side_by_side ds) ≡ ds
 from-sides ds =
     let e : length (map low ds) ≡ half (side_by_side ds) = length-map ds low ∙ omega (arith, length-sides ds) in
     ap₂ joined (take_at (map low ds) (map high ds) (half (side_by_side ds)) e) (drop_at (map low ds) (map high ds) (half (side_by_side ds)) e) ∙ joined-sides ds
 
-pub to-sides : (l : List ℕ) → AreBytes l → length l % 2 ≡ 0 → side_by_side (fromSides l) ≡ l
+pub to-sides : (l : List ℕ) → AreBytes l → length l % 2 ≡ 0 → side_by_side (from_sides l) ≡ l
 to-sides l h e =
     let n : ℕ = half l in
     let a : List ℕ = take n l in
@@ -158,10 +158,10 @@ to-sides l h e =
     let ha : AreBytes a = take_below n l (omega arith) h in
     ap₂ ◌++◌ (lows-joined a b ha k) (highs-joined a b ha k) ∙ take-append-drop n l
 
-pub length-from-sides : (l : List ℕ) → length l % 2 ≡ 0 → length (fromSides l) ≡ half l
+pub length-from-sides : (l : List ℕ) → length l % 2 ≡ 0 → length (from_sides l) ≡ half l
 length-from-sides l e = length-joined (take (half l) l) (drop (half l) l) (length-first l ∙ sym (length-second l e)) ∙ length-first l
 
-pub from-sides-below : (l : List ℕ) → AreBytes l → Below 65536 (fromSides l)
+pub from-sides-below : (l : List ℕ) → AreBytes l → Below 65536 (from_sides l)
 from-sides-below l h = joined-below (take (half l) l) (drop (half l) l) (take_below (half l) l (omega arith) h) (drop-below (half l) l h)
 
 lows-below : (ds : List ℕ) → AreBytes (map low ds)

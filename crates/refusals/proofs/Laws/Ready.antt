@@ -10,30 +10,30 @@ use Rattle.state.specs.declared.types.Record.{Record}
 use Rattle.state.specs.Good.{good, GoodRecord}
 use Rattle.state.proofs.Laws.Good.{limits}
 use Rattle.calls.specs.Images.{size}
-use Rattle.calls.specs.Table.{Row, unfitRecord, unmarked, lost, degraded, images, disk, word, kept, keptWhole, keptLent}
+use Rattle.calls.specs.Table.{Row, unfit_record, unmarked, lost, degraded, images, disk, word, kept, kept_whole, kept_lent}
 use Rattle.calls.proofs.Laws.Table.{passes, stops, given, skipped, lent-on}
 
 -- k is the number of these rows
 module _ (r : Record) {k : ℕ} where
   ready : (rows : List Row) → k ≡ word (unmarked r ∷ rows) → k ≡ 0 → GoodRecord r
-  ready rows e z = limits r (not-false _ (neither (not (good r)) r.mark (passes (unfitRecord r) 0 (word rows) (sym e ∙ z)).0).0)
+  ready rows e z = limits r (not-false _ (neither (not (good r)) r.mark (passes (unfit_record r) 0 (word rows) (sym e ∙ z)).0).0)
 
   pub ready-kept : k ≡ word (kept r) → k ≡ 0 → GoodRecord r
   ready-kept e z = ready (lost r ∷ []) e z
 
-  pub ready-whole : k ≡ word (keptWhole r) → k ≡ 0 → GoodRecord r
+  pub ready-whole : k ≡ word (kept_whole r) → k ≡ 0 → GoodRecord r
   ready-whole e z = ready (lost r ∷ degraded r ∷ []) e z
 
-  pub ready-lent : (len : ℕ) → k ≡ word (keptLent r len) → k ≡ 0 → GoodRecord r
+  pub ready-lent : (len : ℕ) → k ≡ word (kept_lent r len) → k ≡ 0 → GoodRecord r
   ready-lent len e z = ready (lost r ∷ images (size r) len ∷ []) e z
 
 -- 1, 2 and 7, and then 10 if the disk is wrong
-module _ (r : Record) (len : ℕ) (wrong : Bool) {k : ℕ} (e : k ≡ word (keptLent r len)) where
+module _ (r : Record) (len : ℕ) (wrong : Bool) {k : ℕ} (e : k ≡ word (kept_lent r len)) where
   abbrev rows : List Row
-  rows = keptLent r len ++ (disk wrong ∷ [])
+  rows = kept_lent r len ++ (disk wrong ∷ [])
 
   pub lent-stopped : k ≢ 0 → k ≡ word rows
-  lent-stopped nz = stops (keptLent r len) (disk wrong ∷ []) e nz
+  lent-stopped nz = stops (kept_lent r len) (disk wrong ∷ []) e nz
 
   pub lent-wrong : k ≡ 0 → wrong ≡ true → 10 ≡ word rows
   lent-wrong z w = sym (lent-on r (disk wrong ∷ []) len e z ∙ given 10 [] w)

@@ -8,7 +8,7 @@ use lib.ListN.{length, take, length-append}
 use lib.Seq.{take_all, take-nil, take-append-le}
 use Rattle.layout.proofs.Laws.Basics.{le-or-lt}
 use Rattle.state.specs.declared.types.Record.{Record}
-use Rattle.calls.specs.Images.{Store, block, header, stored, recorded, fillDisk}
+use Rattle.calls.specs.Images.{Store, block, header, stored, recorded, fill_disk}
 use Rattle.calls.proofs.Laws.Stores.{stored_last, recorded-last}
 use Rattle.calls.proofs.Laws.Blocks.{Blocks, Any, blocks-take, blocks-recorded}
 use Rattle.calls.proofs.Laws.Few.{length-fill}
@@ -51,14 +51,14 @@ module _ (c : ℕ) (x r : Record) where
 
 module _ (S d : ℕ) (f : ℕ → List ℕ) where
   -- the first c of k stripes
-  pub take-fill : (c k : ℕ) → take c (fillDisk S k d f) ≡ fillDisk S (min c k) d f
-  unfolding fillDisk
-  take-fill c zero = let q : 0 ≡ min c 0 = omega arith in take-nil c ∙ ap (λ (n : ℕ). fillDisk S n d f) q
+  pub take-fill : (c k : ℕ) → take c (fill_disk S k d f) ≡ fill_disk S (min c k) d f
+  unfolding fill_disk
+  take-fill c zero = let q : 0 ≡ min c 0 = omega arith in take-nil c ∙ ap (λ (n : ℕ). fill_disk S n d f) q
   take-fill c (suc k) = elim (le-or-lt c k) [
     | inl l ↦ (
         let q : min c k ≡ min c (suc k) = omega (arith, l) in
-        take-append-le c (fillDisk S k d f) (block (S + k) d (f (S + k)) ∷ []) (rw (length-fill S k d f) l) ∙ take-fill c k ∙ ap (λ (n : ℕ). fillDisk S n d f) q)
+        take-append-le c (fill_disk S k d f) (block (S + k) d (f (S + k)) ∷ []) (rw (length-fill S k d f) l) ∙ take-fill c k ∙ ap (λ (n : ℕ). fill_disk S n d f) q)
     | inr l ↦ (
         let q : suc k ≡ min c (suc k) = omega (arith, l) in
-        take_all c (fillDisk S (suc k) d f) (rw (length-fill S (suc k) d f) l) ∙ ap (λ (n : ℕ). fillDisk S n d f) q)
+        take_all c (fill_disk S (suc k) d f) (rw (length-fill S (suc k) d f) l) ∙ ap (λ (n : ℕ). fill_disk S n d f) q)
   ]

@@ -12,26 +12,26 @@ use lib.ListN.{length}
 use borrow.Author.Tests.{lt-ltb, le-ltb, not-true, not-false}
 use Rattle.layout.specs.declared.Geometry.{Geometry}
 use Rattle.layout.specs.declared.Stripe.{Stripe}
-use Rattle.layout.specs.Closed.{taken, stripeOf}
-use Rattle.layout.specs.Layout.{openStripes, isBlank, layout}
+use Rattle.layout.specs.Closed.{taken, stripe_of}
+use Rattle.layout.specs.Layout.{open_stripes, is_blank, layout}
 use Rattle.layout.proofs.Laws.Basics.{le-or-lt}
 use Rattle.layout.proofs.Laws.Vacant.{open_full, closed-blank, far-taken}
-use Rattle.blocks.specs.Block.{block_at, zeros, isZeros}
-use Rattle.blocks.specs.Xor.{xorB, xorAll}
+use Rattle.blocks.specs.Block.{block_at, zeros, is_zeros}
+use Rattle.blocks.specs.Xor.{xor_b, xor_all}
 use Rattle.blocks.specs.declared.types.Group.{Group}
 use Rattle.blocks.specs.Stripe.{offset, others, stripe}
 use Rattle.blocks.specs.Sum.{sum_to, GroupBegun}
-use Rattle.blocks.proofs.Laws.Xor.{xorB-zeros, xorAll-snoc}
+use Rattle.blocks.proofs.Laws.Xor.{xor_b-zeros, xor_all-snoc}
 use Rattle.blocks.proofs.Laws.Stripe.{length-others}
 use Rattle.blocks.proofs.Laws.Zero.{is-zeros}
 use Rattle.conditions.proofs.Tests.{both, and-true, and-false, and_no, and_yes, went_on, returned}
 use Rattle.state.specs.declared.types.Health.TheVariants.{Whole}
 use Rattle.state.specs.declared.types.Record.{Record}
 use Rattle.state.specs.Good.{geometry, GoodRecord}
-use Rattle.calls.specs.Images.{disksOf, size, place_in, seen}
-use Rattle.calls.specs.Call.{allSound, unsoundAt}
-use Rattle.calls.specs.Sound.{seenStripe, blanksZero, isSound, unsoundBelow, unsoundStripes}
-use Rattle.calls.specs.Effect.{sweptTo}
+use Rattle.calls.specs.Images.{disks_of, size, place_in, seen}
+use Rattle.calls.specs.Call.{all_sound, unsound_at}
+use Rattle.calls.specs.Sound.{seen_stripe, blanks_zero, is_sound, unsound_below, unsound_stripes}
+use Rattle.calls.specs.Effect.{swept_to}
 use Rattle.calls.proofs.Laws.Unsound.{seen-whole, summed-whole, length-summed, more-sound, first_below}
 
 module _ (r : Record) (img : List ℕ) (S : ℕ) where
@@ -39,46 +39,46 @@ module _ (r : Record) (img : List ℕ) (S : ℕ) where
   B = r.block
 
   abbrev N : ℕ
-  N = disksOf r
+  N = disks_of r
 
   -- place d passes: it is not blank, or zero
   abbrev free : ℕ → Bool
-  free d = not (isBlank ((layout (geometry r)).owner S d)) || isZeros B (seen r img S d)
+  free d = not (is_blank ((layout (geometry r)).owner S d)) || is_zeros B (seen r img S d)
 
   -- the sum of the first k disks
   abbrev summed : ℕ → List ℕ
-  summed k = xorAll B (seenStripe r img S k)
+  summed k = xor_all B (seen_stripe r img S k)
 
   -- ---- the blanks, disk by disk
 
-  blanks-on : (d : ℕ) → blanksZero r img S d ≡ true → free d ≡ true → blanksZero r img S (suc d) ≡ true
-  unfolding blanksZero
+  blanks-on : (d : ℕ) → blanks_zero r img S d ≡ true → free d ≡ true → blanks_zero r img S (suc d) ≡ true
+  unfolding blanks_zero
   blanks-on d p q = rw (p, q) refl
 
-  blanks-stop : (d : ℕ) → free d ≡ false → blanksZero r img S (suc d) ≡ false
-  unfolding blanksZero
-  blanks-stop d q = rw q (and_no (blanksZero r img S d))
+  blanks-stop : (d : ℕ) → free d ≡ false → blanks_zero r img S (suc d) ≡ false
+  unfolding blanks_zero
+  blanks-stop d q = rw q (and_no (blanks_zero r img S d))
 
   -- what is not zero stays so, whatever disks come after it
-  never-again : (d k : ℕ) → blanksZero r img S d ≡ false → blanksZero r img S (k + d) ≡ false
-  unfolding blanksZero
+  never-again : (d k : ℕ) → blanks_zero r img S d ≡ false → blanks_zero r img S (k + d) ≡ false
+  unfolding blanks_zero
   never-again d zero q = rw (let e : 0 + d ≡ d = omega arith in e) q
   never-again d (suc k) q = rw (let e : suc k + d ≡ suc (k + d) = omega arith in e) (rw (never-again d k q) refl)
 
   module _ (whole : r.health ≡ Whole) where
-    module _ (closed : openStripes (geometry r) ≤ S) (d : ℕ) where
+    module _ (closed : open_stripes (geometry r) ≤ S) (d : ℕ) where
       abbrev there : Bool
       there = taken r.old r.new r.moves S d
 
-      asks : free d ≡ (not (not there) || isZeros B (place_in r img S d))
-      asks = λ i. not (closed-blank (geometry r) S d closed i) || isZeros B (seen-whole r img S whole d i)
+      asks : free d ≡ (not (not there) || is_zeros B (place_in r img S d))
+      asks = λ i. not (closed-blank (geometry r) S d closed i) || is_zeros B (seen-whole r img S whole d i)
 
       -- a place where something stands need not be zero ..
-      taken-on : there ≡ true → blanksZero r img S d ≡ true → blanksZero r img S (suc d) ≡ true
+      taken-on : there ≡ true → blanks_zero r img S d ≡ true → blanks_zero r img S (suc d) ≡ true
       taken-on t p = blanks-on d p (asks ∙ rw t refl)
 
       -- .. nor one that is ..
-      zero-on : isZeros B (place_in r img S d) ≡ true → blanksZero r img S d ≡ true → blanksZero r img S (suc d) ≡ true
+      zero-on : is_zeros B (place_in r img S d) ≡ true → blanks_zero r img S d ≡ true → blanks_zero r img S (suc d) ≡ true
       zero-on z p = blanks-on d p (asks ∙ rw z (go (not (not there))))
         where
           go : (b : Bool) → (b || true) ≡ true
@@ -86,56 +86,56 @@ module _ (r : Record) (img : List ℕ) (S : ℕ) where
           go false = refl
 
       -- .. and another shows that the stripe's blanks are not
-      stops : there ≡ false → isZeros B (place_in r img S d) ≡ false → d < N → blanksZero r img S N ≡ false
+      stops : there ≡ false → is_zeros B (place_in r img S d) ≡ false → d < N → blanks_zero r img S N ≡ false
       stops t z l =
           rw (let e : N ≡ N - suc d + suc d = omega arith in e) (never-again (suc d) (N - suc d) (blanks-stop d (asks ∙ rw (t, z) refl)))
 
 -- ---- a loop over the disks of a stripe: the blanks on the first d of them are zero
 
 -- what the code asks of a stripe that it has taken apart is asked of the stripe
-pub taken-there : (r : Record) (S d : ℕ) {t : Bool} (g : Geometry) (x : Stripe) → g ≡ geometry r → x ≡ stripeOf g.old g.new S
+pub taken-there : (r : Record) (S d : ℕ) {t : Bool} (g : Geometry) (x : Stripe) → g ≡ geometry r → x ≡ stripe_of g.old g.new S
     → t ≡ taken g.old g.new g.moves x.number d → t ≡ taken r.old r.new r.moves S d
 taken-there r S d g x eg ex q =
     q ∙ ap (λ (y : Stripe). taken g.old g.new g.moves y.number d) ex ∙ ap (λ (h : Geometry). taken h.old h.new h.moves S d) eg
 
 pub record Looked (r : Record) (img : List ℕ) (S d : ℕ) : Type 0 where
-  pub are : blanksZero r img S d ≡ true
-  pub within : d ≤ disksOf r
+  pub are : blanks_zero r img S d ≡ true
+  pub within : d ≤ disks_of r
 
 pub looked-none : (r : Record) (img : List ℕ) (S : ℕ) → Looked r img S 0
-unfolding blanksZero
+unfolding blanks_zero
 looked-none r img S = record { are = refl; within = omega arith }
 
-pub looked-all : {r : Record} {img : List ℕ} {S d : ℕ} → Looked r img S d → disksOf r ≤ d → true ≡ blanksZero r img S (disksOf r)
-looked-all {r} {img} {S} {d} h l = sym h.are ∙ ap (blanksZero r img S) (let e : d ≡ disksOf r = omega (arith, h.within, l) in e)
+pub looked-all : {r : Record} {img : List ℕ} {S d : ℕ} → Looked r img S d → disks_of r ≤ d → true ≡ blanks_zero r img S (disks_of r)
+looked-all {r} {img} {S} {d} h l = sym h.are ∙ ap (blanks_zero r img S) (let e : d ≡ disks_of r = omega (arith, h.within, l) in e)
 
-module _ {r : Record} {img : List ℕ} {S d : ℕ} (whole : r.health ≡ Whole) (closed : openStripes (geometry r) ≤ S) (h : Looked r img S d) (l : d < disksOf r) where
-  one_more : blanksZero r img S (suc d) ≡ true → Looked r img S (d + 1)
-  one_more q = record { are = ap (blanksZero r img S) (let e : d + 1 ≡ suc d = omega arith in e) ∙ q; within = omega arith }
+module _ {r : Record} {img : List ℕ} {S d : ℕ} (whole : r.health ≡ Whole) (closed : open_stripes (geometry r) ≤ S) (h : Looked r img S d) (l : d < disks_of r) where
+  one_more : blanks_zero r img S (suc d) ≡ true → Looked r img S (d + 1)
+  one_more q = record { are = ap (blanks_zero r img S) (let e : d + 1 ≡ suc d = omega arith in e) ∙ q; within = omega arith }
 
   pub looked-taken : {t : Bool} → t ≡ taken r.old r.new r.moves S d → not t ≡ false → Looked r img S (d + 1)
   looked-taken q u = one_more (taken-on r img S whole closed d (went_on q u) h.are)
 
-  module _ {z : Bool} {at : ℕ} (is : at ≡ offset r.block r.stripes S d) (q : z ≡ isZeros r.block (block_at img at r.block)) where
-    of-place : z ≡ isZeros r.block (place_in r img S d)
-    of-place = q ∙ ap (λ (a : ℕ). isZeros r.block (block_at img a r.block)) is
+  module _ {z : Bool} {at : ℕ} (is : at ≡ offset r.block r.stripes S d) (q : z ≡ is_zeros r.block (block_at img at r.block)) where
+    of-place : z ≡ is_zeros r.block (place_in r img S d)
+    of-place = q ∙ ap (λ (a : ℕ). is_zeros r.block (block_at img a r.block)) is
 
     pub looked-zero : not z ≡ false → Looked r img S (d + 1)
     looked-zero u = one_more (zero-on r img S whole closed d (went_on of-place u) h.are)
 
-    pub looked-stop : {t : Bool} → t ≡ taken r.old r.new r.moves S d → not t ≡ true → not z ≡ true → false ≡ blanksZero r img S (disksOf r)
+    pub looked-stop : {t : Bool} → t ≡ taken r.old r.new r.moves S d → not t ≡ true → not z ≡ true → false ≡ blanks_zero r img S (disks_of r)
     looked-stop e v u = sym (stops r img S whole closed d (returned e v) (returned of-place u) l)
 
 -- ---- a zone further on, where the blanks are the new disks
 
-module _ (r : Record) (img : List ℕ) (S : ℕ) (limits : GoodRecord r) (whole : r.health ≡ Whole) (far : openStripes (geometry r) + disksOf r ≤ S) (inside : S < r.stripes) where
-  closed : openStripes (geometry r) ≤ S
+module _ (r : Record) (img : List ℕ) (S : ℕ) (limits : GoodRecord r) (whole : r.health ≡ Whole) (far : open_stripes (geometry r) + disks_of r ≤ S) (inside : S < r.stripes) where
+  closed : open_stripes (geometry r) ≤ S
   closed = omega arith
 
   pub new-free : (d : ℕ) → r.old ≤ d → false ≡ taken r.old r.new r.moves S d
   new-free d l = sym (far-taken (geometry r) limits.array S far inside d ∙ le-ltb d r.old l)
 
-  old-looked : (d : ℕ) → d ≤ r.old → blanksZero r img S d ≡ true
+  old-looked : (d : ℕ) → d ≤ r.old → blanks_zero r img S d ≡ true
   old-looked zero l = (looked-none r img S).are
   old-looked (suc d) l =
       taken-on r img S whole closed d (far-taken (geometry r) limits.array S far inside d ∙ lt-ltb d r.old (omega arith)) (old-looked d (omega arith))
@@ -144,46 +144,46 @@ module _ (r : Record) (img : List ℕ) (S : ℕ) (limits : GoodRecord r) (whole 
   looked-old = record { are = old-looked r.old (omega arith); within = omega arith }
 
   -- zeroes there add nothing to the sum of the old ones
-  new-adds-none : (k : ℕ) → blanksZero r img S (k + r.old) ≡ true → summed r img S (k + r.old) ≡ summed r img S r.old
-  unfolding blanksZero seenStripe
+  new-adds-none : (k : ℕ) → blanks_zero r img S (k + r.old) ≡ true → summed r img S (k + r.old) ≡ summed r img S r.old
+  unfolding blanks_zero seen_stripe
   new-adds-none zero q = ap (summed r img S) (let e : 0 + r.old ≡ r.old = omega arith in e)
   new-adds-none (suc k) q =
       let d : ℕ = k + r.old in
       let e : suc k + r.old ≡ suc (k + r.old) = omega arith in
-      let q' : (blanksZero r img S d && free r img S d) ≡ true = rw e at q in
-      let (p, z) = both (blanksZero r img S d) (free r img S d) q' in
-      let free-is : free r img S d ≡ isZeros r.block (place_in r img S d) =
-      asks r img S whole closed d ∙ ap (λ (t : Bool). not (not t) || isZeros r.block (place_in r img S d)) (sym (new-free d (omega arith))) in
+      let q' : (blanks_zero r img S d && free r img S d) ≡ true = rw e at q in
+      let (p, z) = both (blanks_zero r img S d) (free r img S d) q' in
+      let free-is : free r img S d ≡ is_zeros r.block (place_in r img S d) =
+      asks r img S whole closed d ∙ ap (λ (t : Bool). not (not t) || is_zeros r.block (place_in r img S d)) (sym (new-free d (omega arith))) in
       let zero-there : place_in r img S d ≡ zeros r.block = is-zeros r.block (place_in r img S d) (sym free-is ∙ z) in
       ap (summed r img S) e
-      ∙ xorAll-snoc r.block (seenStripe r img S d) (seen r img S d)
-      ∙ ap (xorB (summed r img S d)) (seen-whole r img S whole d ∙ zero-there)
-      ∙ xorB-zeros (summed r img S d) r.block (omega (arith, length-summed r img S whole d))
+      ∙ xor_all-snoc r.block (seen_stripe r img S d) (seen r img S d)
+      ∙ ap (xor_b (summed r img S d)) (seen-whole r img S whole d ∙ zero-there)
+      ∙ xor_b-zeros (summed r img S d) r.block (omega (arith, length-summed r img S whole d))
       ∙ new-adds-none k p
 
   -- so the stripe is sound if the old ones xor to zero and the new ones are
-  far-sound : isSound r img S ≡ (isZeros r.block (summed r img S r.old) && blanksZero r img S (disksOf r))
-  unfolding isSound
-  far-sound = go (blanksZero r img S (disksOf r)) refl
+  far-sound : is_sound r img S ≡ (is_zeros r.block (summed r img S r.old) && blanks_zero r img S (disks_of r))
+  unfolding is_sound
+  far-sound = go (blanks_zero r img S (disks_of r)) refl
     where
-      go : (b : Bool) → blanksZero r img S (disksOf r) ≡ b
-          → (isZeros r.block (summed r img S (disksOf r)) && b) ≡ (isZeros r.block (summed r img S r.old) && b)
+      go : (b : Bool) → blanks_zero r img S (disks_of r) ≡ b
+          → (is_zeros r.block (summed r img S (disks_of r)) && b) ≡ (is_zeros r.block (summed r img S r.old) && b)
       go true q =
-          let e : disksOf r ≡ r.new + r.old = omega arith in
-          let s : summed r img S (disksOf r) ≡ summed r img S r.old = ap (summed r img S) e ∙ new-adds-none r.new (ap (blanksZero r img S) (sym e) ∙ q) in
-          ap (λ (v : List ℕ). isZeros r.block v && true) s
-      go false q = and_no (isZeros r.block (summed r img S (disksOf r))) ∙ sym (and_no (isZeros r.block (summed r img S r.old)))
+          let e : disks_of r ≡ r.new + r.old = omega arith in
+          let s : summed r img S (disks_of r) ≡ summed r img S r.old = ap (summed r img S) e ∙ new-adds-none r.new (ap (blanks_zero r img S) (sym e) ∙ q) in
+          ap (λ (v : List ℕ). is_zeros r.block v && true) s
+      go false q = and_no (is_zeros r.block (summed r img S (disks_of r))) ∙ sym (and_no (is_zeros r.block (summed r img S r.old)))
 
 -- ---- where a stripe's blanks are blocks there is nothing to look at
 
-full-blanks : (r : Record) (img : List ℕ) (S k : ℕ) → S < openStripes (geometry r) → blanksZero r img S k ≡ true
-unfolding blanksZero
+full-blanks : (r : Record) (img : List ℕ) (S k : ℕ) → S < open_stripes (geometry r) → blanks_zero r img S k ≡ true
+unfolding blanks_zero
 full-blanks r img S zero l = refl
 full-blanks r img S (suc k) l = rw (full-blanks r img S k l, open_full (geometry r) S k l) refl
 
-full-sound : (r : Record) (img : List ℕ) (S : ℕ) → S < openStripes (geometry r) → isSound r img S ≡ isZeros r.block (summed r img S (disksOf r))
-unfolding isSound
-full-sound r img S l = rw (full-blanks r img S (disksOf r) l) (and_yes (isZeros r.block (summed r img S (disksOf r))))
+full-sound : (r : Record) (img : List ℕ) (S : ℕ) → S < open_stripes (geometry r) → is_sound r img S ≡ is_zeros r.block (summed r img S (disks_of r))
+unfolding is_sound
+full-sound r img S l = rw (full-blanks r img S (disks_of r) l) (and_yes (is_zeros r.block (summed r img S (disks_of r))))
 
 -- ---- the sum of the first k disks: those before the last group have left theirs in block
 
@@ -203,19 +203,19 @@ made-ahead r img S k b {first} {g} {block} lb is l q =
 abbrev rest_of : Record → ℕ → ℕ → ℕ → Group
 rest_of r S k first = record { stripes = r.stripes; stripe = S; out = k; first = first; last = k }
 
-module _ {r : Record} {img : List ℕ} {S k first : ℕ} {block : List ℕ} (limits : GoodRecord r) (whole : r.health ≡ Whole) (few : k ≤ disksOf r) (inside : S < r.stripes)
+module _ {r : Record} {img : List ℕ} {S k first : ℕ} {block : List ℕ} (limits : GoodRecord r) (whole : r.health ≡ Whole) (few : k ≤ disks_of r) (inside : S < r.stripes)
     (long : length img ≡ size r) (h : Ahead r img S k first block) where
   pub last-asked : GroupBegun (rest_of r S k first) img block
   last-asked = (
-    record { long = rw h.long limits.block-low; stripe-lt = inside; order = h.order; within = rw (h.long, long) (mul-le-mul few (le_refl (r.stripes * r.block))) },
+    record { long = rw h.long limits.block_low; stripe_lt = inside; order = h.order; within = rw (h.long, long) (mul-le-mul few (le_refl (r.stripes * r.block))) },
     subst (λ (n : ℕ). (first ≡ 0) ⊎ (block ≡ others n r.stripes img S first k)) (sym h.long) h.begun,
   )
 
-  pub last-shows : {z : Bool} → z ≡ isZeros (length block) (sum_to (length block) img (rest_of r S k first) k) → z ≡ isZeros r.block (summed r img S k)
-  last-shows q = q ∙ ap (λ (n : ℕ). isZeros n (others n r.stripes img S k k)) h.long ∙ ap (isZeros r.block) (summed-whole r img S whole k)
+  pub last-shows : {z : Bool} → z ≡ is_zeros (length block) (sum_to (length block) img (rest_of r S k first) k) → z ≡ is_zeros r.block (summed r img S k)
+  last-shows q = q ∙ ap (λ (n : ℕ). is_zeros n (others n r.stripes img S k k)) h.long ∙ ap (is_zeros r.block) (summed-whole r img S whole k)
 
 -- no more are summed than there are
-pub summed-le : (r : Record) {k : ℕ} (S full : ℕ) → k ≡ cond (ltb S full) (disksOf r) r.old → k ≤ disksOf r
+pub summed-le : (r : Record) {k : ℕ} (S full : ℕ) → k ≡ cond (ltb S full) (disks_of r) r.old → k ≤ disks_of r
 summed-le r S full q = elim (le-or-lt full S) [
   | inl l ↦ omega (arith, (rw (le-ltb S full l) at q))
   | inr l ↦ omega (arith, (rw (lt-ltb S full l) at q))
@@ -224,50 +224,50 @@ summed-le r S full q = elim (le-or-lt full S) [
 -- ---- a stripe, by what its sum is and where it stands: k is how many disks are summed, N of them up to a zone past the open stripes
 
 module _ (r : Record) (img : List ℕ) (S : ℕ) {k : ℕ} {z : Bool} (limits : GoodRecord r) (whole : r.health ≡ Whole) (inside : S < r.stripes)
-    (is : k ≡ cond (ltb S (openStripes (geometry r) + disksOf r)) (disksOf r) r.old) (q : z ≡ isZeros r.block (summed r img S k)) where
-  near : S < openStripes (geometry r) + disksOf r → z ≡ isZeros r.block (summed r img S (disksOf r))
-  near l = q ∙ ap (λ (n : ℕ). isZeros r.block (summed r img S n)) (is ∙ rw (lt-ltb _ _ l) refl)
+    (is : k ≡ cond (ltb S (open_stripes (geometry r) + disks_of r)) (disks_of r) r.old) (q : z ≡ is_zeros r.block (summed r img S k)) where
+  near : S < open_stripes (geometry r) + disks_of r → z ≡ is_zeros r.block (summed r img S (disks_of r))
+  near l = q ∙ ap (λ (n : ℕ). is_zeros r.block (summed r img S n)) (is ∙ rw (lt-ltb _ _ l) refl)
 
-  beyond : openStripes (geometry r) + disksOf r ≤ S → z ≡ isZeros r.block (summed r img S r.old)
-  beyond l = q ∙ ap (λ (n : ℕ). isZeros r.block (summed r img S n)) (is ∙ rw (le-ltb _ _ l) refl)
+  beyond : open_stripes (geometry r) + disks_of r ≤ S → z ≡ is_zeros r.block (summed r img S r.old)
+  beyond l = q ∙ ap (λ (n : ℕ). is_zeros r.block (summed r img S n)) (is ∙ rw (le-ltb _ _ l) refl)
 
-  by_both : isSound r img S ≡ (z && blanksZero r img S (disksOf r))
-  unfolding isSound
-  by_both = elim (le-or-lt (openStripes (geometry r) + disksOf r) S) [
-    | inr l ↦ ap (λ (b : Bool). b && blanksZero r img S (disksOf r)) (sym (near l))
-    | inl l ↦ far-sound r img S limits whole l inside ∙ ap (λ (b : Bool). b && blanksZero r img S (disksOf r)) (sym (beyond l))
+  by_both : is_sound r img S ≡ (z && blanks_zero r img S (disks_of r))
+  unfolding is_sound
+  by_both = elim (le-or-lt (open_stripes (geometry r) + disks_of r) S) [
+    | inr l ↦ ap (λ (b : Bool). b && blanks_zero r img S (disks_of r)) (sym (near l))
+    | inl l ↦ far-sound r img S limits whole l inside ∙ ap (λ (b : Bool). b && blanks_zero r img S (disks_of r)) (sym (beyond l))
   ]
 
-  pub odd : not z ≡ true → false ≡ isSound r img S
-  odd u = sym (by_both ∙ and-false z (blanksZero r img S (disksOf r)) (not-true z u))
+  pub odd : not z ≡ true → false ≡ is_sound r img S
+  odd u = sym (by_both ∙ and-false z (blanks_zero r img S (disks_of r)) (not-true z u))
 
-  pub even-full : not z ≡ false → S < openStripes (geometry r) → true ≡ isSound r img S
+  pub even-full : not z ≡ false → S < open_stripes (geometry r) → true ≡ is_sound r img S
   even-full u l = sym (full-sound r img S l ∙ sym (near (omega arith)) ∙ not-false z u)
 
-  pub even : not z ≡ false → {b : Bool} → b ≡ blanksZero r img S (disksOf r) → b ≡ isSound r img S
-  even u e = e ∙ sym (by_both ∙ and-true z (blanksZero r img S (disksOf r)) (not-false z u))
+  pub even : not z ≡ false → {b : Bool} → b ≡ blanks_zero r img S (disks_of r) → b ≡ is_sound r img S
+  even u e = e ∙ sym (by_both ∙ and-true z (blanks_zero r img S (disks_of r)) (not-false z u))
 
 -- ---- the loop over the stripes: none of the first s is unsound
 
 pub record None (r : Record) (img : List ℕ) (s : ℕ) (block : List ℕ) : Type 0 where
-  pub none : unsoundBelow r img s ≡ []
+  pub none : unsound_below r img s ≡ []
   pub within : s ≤ r.stripes
   pub long : length block ≡ r.block
 
 pub none_first : (r : Record) (img : List ℕ) {block : List ℕ} → length block ≡ r.block → None r img 0 block
-unfolding unsoundBelow
+unfolding unsound_below
 none_first r img l = record { none = refl; within = omega arith; long = l }
 
 module _ {r : Record} {img : List ℕ} {s : ℕ} {block : List ℕ} (h : None r img s block) where
-  pub none_more : {z : Bool} (block' : List ℕ) → s < r.stripes → z ≡ isSound r img s → not z ≡ false → length block' ≡ length block → None r img (s + 1) block'
+  pub none_more : {z : Bool} (block' : List ℕ) → s < r.stripes → z ≡ is_sound r img s → not z ≡ false → length block' ≡ length block → None r img (s + 1) block'
   none_more block' l q u same =
       let e : s + 1 ≡ suc s = omega arith in
-      record { none = ap (unsoundBelow r img) e ∙ more-sound r img s (went_on q u) ∙ ap (λ (l' : List ℕ). l' ++ []) h.none; within = omega arith; long = same ∙ h.long }
+      record { none = ap (unsound_below r img) e ∙ more-sound r img s (went_on q u) ∙ ap (λ (l' : List ℕ). l' ++ []) h.none; within = omega arith; long = same ∙ h.long }
 
-  pub found : {z : Bool} → s < r.stripes → z ≡ isSound r img s → not z ≡ true → unsoundAt s (s + 1) ≡ sweptTo r.stripes (unsoundStripes r img)
-  found l q u = let (more, e) = first_below r img r.stripes s l h.none (returned q u) in ap (sweptTo r.stripes) (sym e)
+  pub found : {z : Bool} → s < r.stripes → z ≡ is_sound r img s → not z ≡ true → unsound_at s (s + 1) ≡ swept_to r.stripes (unsound_stripes r img)
+  found l q u = let (more, e) = first_below r img r.stripes s l h.none (returned q u) in ap (swept_to r.stripes) (sym e)
 
-  pub all_read : r.stripes ≤ s → allSound s ≡ sweptTo r.stripes (unsoundStripes r img)
+  pub all_read : r.stripes ≤ s → all_sound s ≡ swept_to r.stripes (unsound_stripes r img)
   all_read l =
       let e : s ≡ r.stripes = omega (arith, h.within, l) in
-      ap allSound e ∙ ap (sweptTo r.stripes) (sym h.none ∙ ap (unsoundBelow r img) e)
+      ap all_sound e ∙ ap (swept_to r.stripes) (sym h.none ∙ ap (unsound_below r img) e)

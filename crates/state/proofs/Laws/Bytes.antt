@@ -14,44 +14,44 @@ use Rattle.state.specs.declared.types.Health.TheVariants.{Whole, Out, Lost, Rebu
 use Rattle.state.specs.declared.types.Health.{Health}
 use Rattle.state.specs.declared.types.Record.{Record}
 use Rattle.state.specs.Good.{HealthWithin}
-use Rattle.state.specs.Bytes.{recordLength, doneFrom, healthOf, decode, healthPlain, plain, healthByte, diskByte, stripesDone, markByte, encode}
+use Rattle.state.specs.Bytes.{record_length, done_from, health_of, decode, health_plain, plain, health_byte, disk_byte, stripes_done, mark_byte, encode}
 use Rattle.conditions.proofs.Tests.{both}
 
 -- ---- from the record to its bytes and back
 
-health-back : (h : Health) → healthOf (healthByte h) (diskByte h) (stripesDone h) ≡ h
+health-back : (h : Health) → health_of (health_byte h) (disk_byte h) (stripes_done h) ≡ h
 health-back Whole = refl
 health-back (Out d) = refl
 health-back Lost = refl
 health-back (Rebuilding d c) = refl
 
-mark-back : (m : Bool) → eqb (markByte m) 1 ≡ m
+mark-back : (m : Bool) → eqb (mark_byte m) 1 ≡ m
 mark-back true = refl
 mark-back false = refl
 
 pub decode-encode : (r : Record) → decode (encode r) ≡ r
 unfolding decode encode
-decode-encode r = simp (two_back r.block, four-back r.stripes, four-back r.moves, four-back (stripesDone r.health), health-back r.health, mark-back r.mark)
+decode-encode r = simp (two_back r.block, four-back r.stripes, four-back r.moves, four-back (stripes_done r.health), health-back r.health, mark-back r.mark)
 
 -- ---- what the bytes of a record are
 
-pub length-encode : (r : Record) → length (encode r) ≡ recordLength
+pub length-encode : (r : Record) → length (encode r) ≡ record_length
 unfolding encode
 length-encode r = refl
 
-plain-health : (h : Health) → healthPlain (healthByte h) (diskByte h) (stripesDone h) ≡ true
+plain-health : (h : Health) → health_plain (health_byte h) (disk_byte h) (stripes_done h) ≡ true
 plain-health Whole = refl
 plain-health (Out d) = refl
 plain-health Lost = refl
 plain-health (Rebuilding d c) = refl
 
-plain-mark : (m : Bool) → leb (markByte m) 1 ≡ true
+plain-mark : (m : Bool) → leb (mark_byte m) 1 ≡ true
 plain-mark true = refl
 plain-mark false = refl
 
 pub plain-encode : (r : Record) → plain (encode r) ≡ true
 unfolding plain encode
-plain-encode r = simp (four-back (stripesDone r.health), plain-health r.health, plain-mark r.mark)
+plain-encode r = simp (four-back (stripes_done r.health), plain-health r.health, plain-mark r.mark)
 
 -- each field fits its bytes
 pub record Fits (r : Record) : Type 0 where
@@ -72,13 +72,13 @@ small none i = omega arith
 small (more h t) zero = h
 small (more h t) (suc i) = small t i
 
-health-fits : (h : Health) → HealthWithin 256 4294967296 h → (healthByte h < 256) × (diskByte h < 256) × (stripesDone h < 4294967296)
+health-fits : (h : Health) → HealthWithin 256 4294967296 h → (health_byte h < 256) × (disk_byte h < 256) × (stripes_done h < 4294967296)
 health-fits Whole o = (omega arith, omega arith, omega arith)
 health-fits (Out d) o = (omega arith, o, omega arith)
 health-fits Lost o = (omega arith, omega arith, omega arith)
 health-fits (Rebuilding d c) o = (omega arith, o.0, o.1)
 
-mark-fits : (m : Bool) → markByte m < 256
+mark-fits : (m : Bool) → mark_byte m < 256
 mark-fits true = omega arith
 mark-fits false = omega arith
 
@@ -101,7 +101,7 @@ unfolding encode
 bytes-encode r f =
     let h = health-fits r.health f.health-fits in
     let zero-fits : 0 < 256 = omega arith in
-    let done = four-fits (stripesDone r.health) h.2 none in
+    let done = four-fits (stripes_done r.health) h.2 none in
     let counts = four-fits r.stripes f.stripes-fits (four-fits r.moves f.moves-fits done) in
     let sizes = two_fits r.block f.block-fits (more (mark-fits r.mark) (more zero-fits counts)) in
     small (more f.old-fits (more f.new-fits (more h.0 (more h.1 sizes))))
@@ -117,8 +117,8 @@ spell-drop : (n i : ℕ) (b : List ℕ) → length b ≡ i + n → spell i n b �
 spell-drop zero i b e = let q : i ≡ length b = omega arith in sym (ap (λ k. drop k b) q ∙ drop-length b)
 spell-drop (suc n) i b e = ap (λ t. get_or b i 0 ∷ t) (spell-drop n (suc i) b (omega arith)) ∙ sym (drop-cons b i 0 (omega arith))
 
-pub spelled : (b : List ℕ) → length b ≡ recordLength → spell 0 recordLength b ≡ b
-spelled b e = spell-drop recordLength 0 b e
+pub spelled : (b : List ℕ) → length b ≡ record_length → spell 0 record_length b ≡ b
+spelled b e = spell-drop record_length 0 b e
 
 -- a health byte is one of four
 data Told (h : ℕ) : Type 0 where
@@ -135,10 +135,10 @@ told (suc (suc (suc zero))) l = is-rebuilding refl
 told (suc (suc (suc (suc h)))) l = absurd (omega (arith, l))
 
 abbrev SpellsBack : ℕ → ℕ → ℕ → Type 0
-SpellsBack h d c = let x = healthOf h d c in (healthByte x ≡ h) × (diskByte x ≡ d) × (stripesDone x ≡ c)
+SpellsBack h d c = let x = health_of h d c in (health_byte x ≡ h) × (disk_byte x ≡ d) × (stripes_done x ≡ c)
 
-health-bytes : (h d c : ℕ) → healthPlain h d c ≡ true → SpellsBack h d c
-health-bytes h d c e =
+health_bytes : (h d c : ℕ) → health_plain h d c ≡ true → SpellsBack h d c
+health_bytes h d c e =
     let p = both _ _ e in
     let q = both _ _ p.1 in
     go (told h (leb-true h 3 p.0)) q.0 q.1
@@ -149,22 +149,22 @@ health-bytes h d c e =
     go (is_lost z) u v = let u' = rw z at u in let v' = rw z at v in rw z (refl, sym (eqb-true d 0 v'), sym (eqb-true c 0 u'))
     go (is-rebuilding z) u v = rw z (refl, refl, refl)
 
-mark-bytes : (x : ℕ) → leb x 1 ≡ true → markByte (eqb x 1) ≡ x
-mark-bytes zero e = refl
-mark-bytes (suc zero) e = refl
-mark-bytes (suc (suc x)) e = absurd (let l : suc (suc x) ≤ 1 = leb-true (suc (suc x)) 1 e in omega arith)
+mark_bytes : (x : ℕ) → leb x 1 ≡ true → mark_byte (eqb x 1) ≡ x
+mark_bytes zero e = refl
+mark_bytes (suc zero) e = refl
+mark_bytes (suc (suc x)) e = absurd (let l : suc (suc x) ≤ 1 = leb-true (suc (suc x)) 1 e in omega arith)
 
-spelt : (b : List ℕ) → AreBytes b → plain b ≡ true → encode (decode b) ≡ spell 0 recordLength b
+spelt : (b : List ℕ) → AreBytes b → plain b ≡ true → encode (decode b) ≡ spell 0 record_length b
 unfolding encode decode plain
 spelt b by e =
-    let p = both (healthPlain (get_or b 2 0) (get_or b 3 0) (doneFrom b)) (leb (get_or b 6 0) 1 && eqb (get_or b 7 0) 0) e in
+    let p = both (health_plain (get_or b 2 0) (get_or b 3 0) (done_from b)) (leb (get_or b 6 0) 1 && eqb (get_or b 7 0) 0) e in
     let q = both (leb (get_or b 6 0) 1) (eqb (get_or b 7 0) 0) p.1 in
-    let h = health-bytes (get_or b 2 0) (get_or b 3 0) (doneFrom b) p.0 in
+    let h = health_bytes (get_or b 2 0) (get_or b 3 0) (done_from b) p.0 in
     cc (
       h.0,
       h.1,
       h.2,
-      mark-bytes (get_or b 6 0) q.0,
+      mark_bytes (get_or b 6 0) q.0,
       eqb-true (get_or b 7 0) 0 q.1,
       two_bytes (get_or b 4 0) (get_or b 5 0) (by 4),
       four_bytes (get_or b 8 0) (get_or b 9 0) (get_or b 10 0) (get_or b 11 0) (by 8) (by 9) (by 10),
@@ -172,5 +172,5 @@ spelt b by e =
       four_bytes (get_or b 16 0) (get_or b 17 0) (get_or b 18 0) (get_or b 19 0) (by 16) (by 17) (by 18),
     )
 
-pub encode-decode : (b : List ℕ) → AreBytes b → length b ≡ recordLength → plain b ≡ true → encode (decode b) ≡ b
+pub encode-decode : (b : List ℕ) → AreBytes b → length b ≡ record_length → plain b ≡ true → encode (decode b) ≡ b
 encode-decode b by l e = spelt b by e ∙ spelled b l

@@ -7,12 +7,12 @@ use native.Mathlib.Omega.{arith}
 use lib.Dec.{leb, ltb, eqb}
 use borrow.Author.Tests.{ltb-true, leb-true, lt-ltb, le-leb, eq-eqb, ne_eqb}
 use Rattle.layout.specs.declared.Geometry.{Geometry}
-use Rattle.layout.specs.Layout.{totalOf}
+use Rattle.layout.specs.Layout.{total_of}
 use Rattle.state.specs.declared.types.Health.TheVariants.{Whole, Out, Lost, Rebuilding}
 use Rattle.state.specs.declared.types.Health.{Health}
 use Rattle.state.specs.declared.types.Record.{Record}
-use Rattle.state.specs.Update.{withHealth}
-use Rattle.state.specs.Good.{geometry, within, newGood, addedGood, movesGood, healthGood, markGood, good, HealthWithin, GoodRecord}
+use Rattle.state.specs.Update.{with_health}
+use Rattle.state.specs.Good.{geometry, within, new_good, added_good, moves_good, health_good, mark_good, good, HealthWithin, GoodRecord}
 use Rattle.conditions.proofs.Tests.{both, and-true, and-false, second}
 
 -- ---- between two bounds
@@ -25,43 +25,43 @@ true-within low x high p q = and-true _ _ (le-leb _ _ p) ∙ le-leb _ _ q
 
 -- ---- new disks
 
-pub added-high : (m : ℕ) → addedGood m ≡ true → m ≤ 16
-added-high m e = elim (ℕ_discrete m 0) [ yes z ↦ omega arith | no z ↦ (within-true 1 m 16 (second (eqb m 0) (newGood m) e (ne_eqb m 0 z))).1 ]
+pub added-high : (m : ℕ) → added_good m ≡ true → m ≤ 16
+added-high m e = elim (ℕ_discrete m 0) [ yes z ↦ omega arith | no z ↦ (within-true 1 m 16 (second (eqb m 0) (new_good m) e (ne_eqb m 0 z))).1 ]
 
-high-added : (m : ℕ) → m ≤ 16 → addedGood m ≡ true
+high-added : (m : ℕ) → m ≤ 16 → added_good m ≡ true
 high-added m h = elim (ℕ_discrete m 0) [ yes z ↦ rw (eq-eqb m 0 z) refl | no z ↦ rw (ne_eqb m 0 z) (true-within 1 m 16 (omega arith) h) ]
 
 -- ---- moves
 
 module _ (g : Geometry) where
-  moves-good : movesGood g ≡ true → (g.new ≤ 16) × (g.moves ≤ totalOf g)
-  unfolding movesGood
+  moves-good : moves_good g ≡ true → (g.new ≤ 16) × (g.moves ≤ total_of g)
+  unfolding moves_good
   moves-good e = let p = both _ _ e in (added-high g.new p.0, leb-true _ _ p.1)
 
-  good-moves : g.new ≤ 16 → g.moves ≤ totalOf g → movesGood g ≡ true
-  unfolding movesGood
+  good-moves : g.new ≤ 16 → g.moves ≤ total_of g → moves_good g ≡ true
+  unfolding moves_good
   good-moves p q = and-true _ _ (high-added g.new p) ∙ le-leb _ _ q
 
   -- what a program says that asks for new disks, and then for the count
 
-  pub new-refused : addedGood g.new ≡ false → false ≡ movesGood g
-  unfolding movesGood
+  pub new-refused : added_good g.new ≡ false → false ≡ moves_good g
+  unfolding moves_good
   new-refused h = sym (and-false _ _ h)
 
-  pub count-asked : addedGood g.new ≡ true → leb g.moves (totalOf g) ≡ movesGood g
-  unfolding movesGood
+  pub count-asked : added_good g.new ≡ true → leb g.moves (total_of g) ≡ moves_good g
+  unfolding moves_good
   count-asked h = sym (and-true _ _ h)
 
 -- ---- health
 
 module _ (N T : ℕ) where
-  health-within : (h : Health) → healthGood N T h ≡ true → HealthWithin N T h
+  health-within : (h : Health) → health_good N T h ≡ true → HealthWithin N T h
   health-within Whole e = tt
   health-within (Out d) e = ltb-true d N e
   health-within Lost e = tt
   health-within (Rebuilding d c) e = let p = both _ _ e in (ltb-true d N p.0, ltb-true c T p.1)
 
-  within-health : (h : Health) → HealthWithin N T h → healthGood N T h ≡ true
+  within-health : (h : Health) → HealthWithin N T h → health_good N T h ≡ true
   within-health Whole o = refl
   within-health (Out d) o = lt-ltb d N o
   within-health Lost o = refl
@@ -72,16 +72,16 @@ module _ (N T : ℕ) where
 pub no-mark : {A : Type 0} → false ≡ true → A
 no-mark q = absurd (true≢false (sym q))
 
-mark-marked : (m : Bool) (t : ℕ) → markGood m t ≡ true → m ≡ true → 0 < t
+mark-marked : (m : Bool) (t : ℕ) → mark_good m t ≡ true → m ≡ true → 0 < t
 mark-marked true t e q = ltb-true 0 t e
 mark-marked false t e q = no-mark q
 
-marked-mark : (m : Bool) (t : ℕ) → (m ≡ true → 0 < t) → markGood m t ≡ true
+marked-mark : (m : Bool) (t : ℕ) → (m ≡ true → 0 < t) → mark_good m t ≡ true
 marked-mark true t f = lt-ltb 0 t (f refl)
 marked-mark false t f = refl
 
 -- what a program says that asks for the mark, and then for the moves
-pub mark-asked : (m : Bool) (t : ℕ) → m ≡ true → markGood m t ≡ ltb 0 t
+pub mark-asked : (m : Bool) (t : ℕ) → m ≡ true → mark_good m t ≡ ltb 0 t
 mark-asked m t q = rw q refl
 
 -- ---- the record
@@ -100,13 +100,13 @@ limits r e =
     let v = moves-good (geometry r) d.0 in
     record {
       array = record {
-        disks = record { n-low = n.0; n-high = n.1; m-high = v.0 };
-        stripes-low = s.0;
-        stripes-high = s.1;
+        disks = record { n_low = n.0; n_high = n.1; m_high = v.0 };
+        stripes_low = s.0;
+        stripes_high = s.1;
         moves = v.1;
       };
-      block-low = l.0;
-      block-high = l.1;
+      block_low = l.0;
+      block_high = l.1;
       health = health-within (r.old + r.new) r.stripes r.health h.0;
       marked = mark-marked r.mark r.moves h.1;
     }
@@ -115,10 +115,10 @@ pub within-limits : (r : Record) → GoodRecord r → good r ≡ true
 unfolding good
 within-limits r l =
     let a = l.array in
-    and-true _ _ (true-within 3 r.old 16 a.disks.n-low a.disks.n-high)
-    ∙ and-true _ _ (true-within 1 r.block 4096 l.block-low l.block-high)
-    ∙ and-true _ _ (true-within 1 r.stripes 1048576 a.stripes-low a.stripes-high)
-    ∙ and-true _ _ (good-moves (geometry r) a.disks.m-high a.moves)
+    and-true _ _ (true-within 3 r.old 16 a.disks.n_low a.disks.n_high)
+    ∙ and-true _ _ (true-within 1 r.block 4096 l.block_low l.block_high)
+    ∙ and-true _ _ (true-within 1 r.stripes 1048576 a.stripes_low a.stripes_high)
+    ∙ and-true _ _ (good-moves (geometry r) a.disks.m_high a.moves)
     ∙ and-true _ _ (within-health (r.old + r.new) r.stripes r.health l.health)
     ∙ marked-mark r.mark r.moves l.marked
 
@@ -131,5 +131,5 @@ pub rebuilding-lt : (r : Record) (d c : ℕ) → GoodRecord r → r.health ≡ R
 rebuilding-lt r d c l e = subst (λ (x : Health). HealthWithin (r.old + r.new) r.stripes x) e l.health
 
 -- another health
-pub turned : (r : Record) (h : Health) → GoodRecord r → HealthWithin (r.old + r.new) r.stripes h → GoodRecord (withHealth r h)
-turned r h l o = record { array = l.array; block-low = l.block-low; block-high = l.block-high; health = o; marked = no-mark }
+pub turned : (r : Record) (h : Health) → GoodRecord r → HealthWithin (r.old + r.new) r.stripes h → GoodRecord (with_health r h)
+turned r h l o = record { array = l.array; block_low = l.block_low; block_high = l.block_high; health = o; marked = no-mark }

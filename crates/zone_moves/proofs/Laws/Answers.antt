@@ -8,8 +8,8 @@ use lib.ListN.{length}
 use Rattle.layout.specs.Limits.{Disks}
 use Rattle.zone_moves.specs.declared.parse.Request.TheVariants.{Zone, Refused}
 use Rattle.zone_moves.specs.declared.parse.Request.{Request}
-use Rattle.zone_moves.specs.Request.{Limited, requestOf}
-use Rattle.zone_moves.specs.Listing.{lines_of, indices, zoneMoves, refusal, answered, answer, written, Stored}
+use Rattle.zone_moves.specs.Request.{Limited, request_of}
+use Rattle.zone_moves.specs.Listing.{lines_of, indices, zone_moves, refusal, answered, answer, written, Stored}
 use Rattle.io.specs.Counts.{IsPrefixLen}
 use Rattle.zone_moves.proofs.Laws.Storing.{length-written}
 use Rattle.zone_moves.proofs.Laws.Fields.{limited, Line, asks, other, look-line}
@@ -28,13 +28,13 @@ pub record Sized (n m z : ℕ) : Type 0 where
 
 pub sized : {n m z : ℕ} → Limited n m z → Sized n m z
 sized {n} {m} {z} l =
-    let t : z * m ≤ 16 * 16 = times {a = z} {b = m} 16 16 (omega arith) l.disks.m-high in
+    let t : z * m ≤ 16 * 16 = times {a = z} {b = m} 16 16 (omega arith) l.disks.m_high in
     record {
       disks = l.disks;
       new = l.new;
-      moves = times {a = m} {b = n} 16 16 l.disks.m-high l.disks.n-high;
+      moves = times {a = m} {b = n} 16 16 l.disks.m_high l.disks.n_high;
       turns = t;
-      before = times {a = z * m} {b = n} 256 16 t l.disks.n-high;
+      before = times {a = z * m} {b = n} 256 16 t l.disks.n_high;
       room = omega (arith, times {a = (z + 1) * m} {b = n} (n * m) n (times {a = z + 1} {b = m} n m (omega arith) (omega arith)) (omega arith));
     }
 
@@ -47,19 +47,19 @@ line-limited {n = n} {m} {z} (asks n' a m' b z' c e h k l) q =
     rw (x, y, w) (limited n' m' z' l)
 line-limited other q = let i : ◌≡◌ {A = ℕ} 0 1 = cc in absurd (omega arith)
 
-pub zone-sized : (s : List ℕ) {n m z : ℕ} → requestOf s ≡ Zone n m z → Sized n m z
+pub zone-sized : (s : List ℕ) {n m z : ℕ} → request_of s ≡ Zone n m z → Sized n m z
 zone-sized s e = sized (line-limited (look-line s) e)
 
-pub answer-zone : (s : List ℕ) {n m z : ℕ} → requestOf s ≡ Zone n m z → answer s ≡ lines_of n m (indices (z * m * n) (m * n))
-unfolding answer answered zoneMoves
+pub answer-zone : (s : List ℕ) {n m z : ℕ} → request_of s ≡ Zone n m z → answer s ≡ lines_of n m (indices (z * m * n) (m * n))
+unfolding answer answered zone_moves
 answer-zone s e = ap answered e
 
-pub answer-refused : (s : List ℕ) → requestOf s ≡ Refused → answer s ≡ refusal
+pub answer-refused : (s : List ℕ) → request_of s ≡ Refused → answer s ≡ refusal
 unfolding answer answered
 answer-refused s e = ap answered e
 
 answered-short : {s : List ℕ} {r : Request} → Line s r → length (answered r) ≤ 4352
-unfolding answered zoneMoves
+unfolding answered zone_moves
 answered-short (asks n a m b z c e h k l) =
     let t : Sized n m z = sized (limited n m z l) in
     omega (arith, length-lines n m (z * m * n) (m * n) t.disks t.new t.room)

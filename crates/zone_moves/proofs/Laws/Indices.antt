@@ -8,8 +8,8 @@ use native.Mathlib.Omega.{arith}
 use lib.Arith.{digits_lt}
 use lib.ListN.{length, get_or, length-append, get_or-append}
 use lib.Seq.{get_or_at}
-use Rattle.layout.specs.Moves.{moveZone, moveTo, moveLag}
-use Rattle.zone_moves.specs.Listing.{indices, zoneMoves}
+use Rattle.layout.specs.Moves.{move_zone, move_to, move_lag}
+use Rattle.zone_moves.specs.Listing.{indices, zone_moves}
 use Rattle.zone_moves.specs.Exact.{ZoneMoves}
 use Rattle.layout.proofs.Laws.Basics.{le-or-lt}
 use Rattle.layout.proofs.Laws.Lag.{index, to-above, to_below, lag-below}
@@ -35,26 +35,26 @@ nth-index first (suc count) j h =
 
 module _ (n m z : ℕ) (pn : 0 < n) (pm : 0 < m) where
   -- the m * n indices from z * m * n on have zone z ..
-  zone-from : (j : ℕ) → j < m * n → moveZone n m (z * m * n + j) ≡ z
+  zone-from : (j : ℕ) → j < m * n → move_zone n m (z * m * n + j) ≡ z
   zone-from j h =
       let q : j / n < m = (div-lt_iff_lt-mul pn).1 h in
       let e : n + j / n - n ≡ j / n = omega arith in
       let f : (z * m + (n + j / n - n)) * n + j % n ≡ z * m * n + j = rw e (omega (arith, div-add-mod' j n)) in
-      ap (moveZone n m) (sym f) ∙ zone-of n m pn pm z (n + j / n) (j % n) (omega arith) (omega arith) (mod-lt j pn)
+      ap (move_zone n m) (sym f) ∙ zone-of n m pn pm z (n + j / n) (j % n) (omega arith) (omega arith) (mod-lt j pn)
 
   -- .. and no others have it
-  from-zone : (k : ℕ) → moveZone n m k ≡ z → (j : ℕ) × (j < m * n) × (z * m * n + j ≡ k)
+  from-zone : (k : ℕ) → move_zone n m k ≡ z → (j : ℕ) × (j < m * n) × (z * m * n + j ≡ k)
   from-zone k e =
-      let l : (moveTo n m k - n) * n + moveLag n k < m * n =
+      let l : (move_to n m k - n) * n + move_lag n k < m * n =
       digits_lt (omega (arith, to-above n m pn pm k, to_below n m pn pm k)) (lag-below n m pn pm k) in
-      let f : k ≡ (z * m + (moveTo n m k - n)) * n + moveLag n k = rw e at (index n m pn pm k) in
-      ((moveTo n m k - n) * n + moveLag n k, l, omega arith)
+      let f : k ≡ (z * m + (move_to n m k - n)) * n + move_lag n k = rw e at (index n m pn pm k) in
+      ((move_to n m k - n) * n + move_lag n k, l, omega arith)
 
   listed : (first count : ℕ) → first ≡ z * m * n → count ≡ m * n → ZoneMoves n m z (indices first count)
   listed first count e c =
       let l = length-indices first count in
       record {
-        of-zone =
+        of_zone =
             λ j h.
             (let i : j < count = omega arith in
             rw (nth-index first count j i, e) (zone-from j (omega arith)));
@@ -69,6 +69,6 @@ module _ (n m z : ℕ) (pn : 0 < n) (pm : 0 < m) where
             omega (arith, nth-index first count i (omega arith), nth-index first count j a));
       }
 
-  pub zone-moves : ZoneMoves n m z (zoneMoves n m z)
-  unfolding zoneMoves
+  pub zone-moves : ZoneMoves n m z (zone_moves n m z)
+  unfolding zone_moves
   zone-moves = listed _ _ (omega arith) (omega arith)

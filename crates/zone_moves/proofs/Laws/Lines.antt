@@ -6,7 +6,7 @@ use native.Mathlib.Numerals.{add-one}
 use native.Mathlib.Omega.{arith}
 use lib.ListN.{length, length-append}
 use Rattle.layout.specs.declared.Move.{Move}
-use Rattle.layout.specs.Moves.{moveWithin, moveTo, move_of}
+use Rattle.layout.specs.Moves.{move_within, move_to, move_of}
 use Rattle.layout.specs.Limits.{Disks}
 use Rattle.zone_moves.specs.Listing.{column, move_line, lines_of, indices, Listed, Stored}
 use Rattle.zone_moves.proofs.Laws.Storing.{stored-nil, stored-as, stored-append}
@@ -17,10 +17,10 @@ use Rattle.layout.proofs.Laws.Zones.{zone-in}
 
 -- the zones of a growth have at most 4,096 moves together
 pub few : {n m k : ℕ} → Listed n m k → k < 4096
-few {n} {m} l = omega (arith, l.index, times 256 16 (times {a = n} {b = m} 16 16 l.disks.n-high l.disks.m-high) l.disks.n-high)
+few {n} {m} l = omega (arith, l.index, times 256 16 (times {a = n} {b = m} 16 16 l.disks.n_high l.disks.m_high) l.disks.n_high)
 
-within-small : (n m k : ℕ) → moveTo n m k < n + m → moveWithin n m k < n + m
-unfolding moveWithin
+within-small : (n m k : ℕ) → move_to n m k < n + m → move_within n m k < n + m
+unfolding move_within
 within-small n m k h = omega arith
 
 -- the columns of move k, which is r
@@ -33,10 +33,10 @@ pub record Columns (k : ℕ) (r : Move) : Type 0 where
 
 pub columns : {n m k : ℕ} {r : Move} → Listed n m k → r ≡ move_of n m k → Columns k r
 columns {n} {m} {k} l e =
-    let pn : 0 < n = omega (arith, l.disks.n-low) in
+    let pn : 0 < n = omega (arith, l.disks.n_low) in
     let p = to_below n m pn l.new k in
-    let h = l.disks.n-high in
-    let g = l.disks.m-high in
+    let h = l.disks.n_high in
+    let g = l.disks.m_high in
     subst⁻¹ (Columns k) e
     (record {
       index = omega (arith, few l);

@@ -10,7 +10,7 @@ use lib.ListN.{length, get_or, drop, get_or-eq_default}
 use lib.Seq.{drop-cons, drop-drop, drop-append_seam, get_or-drop}
 use Rattle.zone_moves.specs.declared.parse.Field.TheVariants.{Number}
 use Rattle.zone_moves.specs.declared.parse.Field.{Field}
-use Rattle.zone_moves.specs.Request.{field_of, fieldAt}
+use Rattle.zone_moves.specs.Request.{field_of, field_at}
 use Rattle.zone_moves.specs.Listing.{column}
 use Rattle.zone_moves.proofs.Laws.Digits.{decimal-one, decimal-two}
 use Rattle.zone_moves.proofs.Laws.Fields.{Digit, digit-passes, field-one, field-two, Seen, one, two, none, look}
@@ -71,8 +71,8 @@ module _ (s : List ℕ) (at stop : ℕ) (p : 0 < stop) where
       rw (x, y) (text-two d nz d' e)
   seen-text none q = let i : ◌≡◌ {A = ℕ} 0 1 = cc in absurd (omega arith)
 
-  pub field-text : {v next : ℕ} → fieldAt s at stop ≡ Number v next → drop at s ≡ column v stop ++ drop next s
-  unfolding fieldAt
+  pub field-text : {v next : ℕ} → field_at s at stop ≡ Number v next → drop at s ≡ column v stop ++ drop next s
+  unfolding field_at
   field-text e = seen-text (look (get_or s at 0) (get_or s (at + 1) 0) (get_or s (at + 2) 0) at stop) e
 
 -- ---- where a field stands, it is read
@@ -95,8 +95,8 @@ module _ (a b c at stop v : ℕ) where
 byte : (s : List ℕ) (at i : ℕ) {t : List ℕ} → drop at s ≡ t → get_or s (at + i) 0 ≡ get_or t i 0
 byte s at i e = sym (get_or-drop at s i 0) ∙ ap (λ (l : List ℕ). get_or l i 0) e
 
-pub field-reads : (s : List ℕ) (at v stop : ℕ) (rest : List ℕ) → v < 100 → stop < 48 → drop at s ≡ column v stop ++ rest → fieldAt s at stop ≡ Number v (at + length (column v stop))
-unfolding fieldAt
+pub field-reads : (s : List ℕ) (at v stop : ℕ) (rest : List ℕ) → v < 100 → stop < 48 → drop at s ≡ column v stop ++ rest → field_at s at stop ≡ Number v (at + length (column v stop))
+unfolding field_at
 field-reads s at v stop rest h p e =
     elim (le-or-lt 10 v) [
       | inl k ↦

@@ -24,10 +24,10 @@ is-absent-requires : tie.Need-is-absent-requires
 is-absent-requires c κs = search rules
 
 sum-others-requires : tie.Need-sum-others-requires
-sum-others-requires c κs = let x = stands c.before.before.before in (x.limits, x.stripe-lt, x.long, x.whole)
+sum-others-requires c κs = let x = stands c.before.before.before in (x.limits, x.stripe_lt, x.long, x.whole)
 
 place-at-requires : tie.Need-place-at-requires
-place-at-requires c κs = let x = stands c.before.before in (x.limits, x.stripe-lt, x.disk-lt)
+place-at-requires c κs = let x = stands c.before.before in (x.limits, x.stripe_lt, x.disk_lt)
 
 copy-out-requires : tie.Need-copy-out-requires
 copy-out-requires c κs = let x = stands c.before.before.before.before in (short x, inside x c.before.place_at.ensures)

@@ -25,7 +25,7 @@ is-absent-requires : tie.Need-is-absent-requires
 is-absent-requires c κs = search rules
 
 sum-others-requires : tie.Need-sum-others-requires
-sum-others-requires c κs = let x = stands c.before.before.before in (x.limits, x.stripe-lt, x.long, x.whole)
+sum-others-requires c κs = let x = stands c.before.before.before in (x.limits, x.stripe_lt, x.long, x.whole)
 
 same_length : tie.Need-same-length
 same_length c = search rules
@@ -39,7 +39,7 @@ returns c =
     (x, c1.sum-others.ensures ∙ s)
 
 place-at-requires : tie.Need-place-at-requires
-place-at-requires c κs = let x = stands c.before.before in (x.limits, x.stripe-lt, x.disk-lt)
+place-at-requires c κs = let x = stands c.before.before in (x.limits, x.stripe_lt, x.disk_lt)
 
 returns-2 : tie.Need-returns-2
 returns-2 c =

@@ -4,7 +4,7 @@ use mathlib.Core.Path.{◌∙◌, ap, refl}
 use mathlib.Core.List.{List}
 use borrow.Author.Rules.{rules}
 use Rattle.access.specs.declared.types.Choice.{Choice}
-use Rattle.access.specs.Viewing.{choiceAnswer, begins}
+use Rattle.access.specs.Viewing.{choice_answer, begins}
 use Rattle.calls.specs.Call.{number, shown}
 use Rattle.access.proofs.Laws.Viewing.{shows}
 use Rattle.access.proofs.viewing.view.Statement.{statement}
@@ -31,7 +31,7 @@ returns c =
     let x = c1.view-choice.result in
     let o = c1.view-choice.ensures in
     let e = c.part_of.ensures in
-    let q = ap (λ (l : List ℕ). choiceAnswer x a.r.block a.images.now l) o.1 ∙ (shows a.r a.images.now a.scratch.now a.b x o.0).1 in
+    let q = ap (λ (l : List ℕ). choice_answer x a.r.block a.images.now l) o.1 ∙ (shows a.r a.images.now a.scratch.now a.b x o.0).1 in
     (e.0 ∙ ap shown q, (e.1.0 ∙ ap (λ (y : Choice). begins y a.images.ptr a.scratch.ptr) o.0, (e.1.1 ∙ ap number q, (o.1, refl))))
 
 pub view-spec : {M : Type 1} → statement M

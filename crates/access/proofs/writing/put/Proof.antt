@@ -8,7 +8,7 @@ use borrow.Author.Rules.{rules}
 use Rattle.blocks.specs.Block.{store}
 use Rattle.conditions.proofs.Tests.{went_on, returned}
 use Rattle.calls.specs.Images.{stored}
-use Rattle.calls.specs.Effect.{writeStores}
+use Rattle.calls.specs.Effect.{write_stores}
 use Rattle.conditions.proofs.Asked.{told}
 use Rattle.calls.proofs.Laws.Table.{write-rows}
 use Rattle.access.proofs.Laws.Reaching.{asked, asked-slot, reached, inside}
@@ -17,7 +17,7 @@ use Rattle.access.proofs.writing.put.Statement.{statement}
 use Rattle.access.proofs.writing.put.Tie as tie
 
 returns : tie.Need-returns
-returns c = let a = c.before.before.before.args in none_made a.r a.c (writeStores a.r a.images.now a.b a.bytes.now) a.images.now c.if1.true
+returns c = let a = c.before.before.before.args in none_made a.r a.c (write_stores a.r a.images.now a.b a.bytes.now) a.images.now c.if1.true
 
 geometry-of-requires : tie.Need-geometry-of-requires
 geometry-of-requires c κs = search rules
@@ -61,7 +61,7 @@ cast-fold-others-3 c = search rules
 cast-fold-others-4 : tie.Need-overflow-cast-fold-others-4
 cast-fold-others-4 c =
     let x = (stands c.before.before.before.before.before.before.before).reach in
-    omega (arith, x.parity-lt, x.limits.array.disks)
+    omega (arith, x.parity_lt, x.limits.array.disks)
 
 fold-others-requires : tie.Need-fold-others-requires
 fold-others-requires c κs = let c1 = c.before.before.before in sums (stands c1.before.before.before.before) c1.disks-of.ensures
@@ -79,13 +79,13 @@ returns-2 c =
     c1.fold-others.ensures ∙ data-out a _ c2.disks-of.ensures u ∙ one-made a _ (inr u) (some c3.before)
 
 place-at-requires : tie.Need-place-at-requires
-place-at-requires c κs = let x = (stands c.before.before).reach in (x.limits, x.stripe-lt, x.disk-lt)
+place-at-requires c κs = let x = (stands c.before.before).reach in (x.limits, x.stripe_lt, x.disk_lt)
 
 is-absent-requires-2 : tie.Need-is-absent-requires-2
 is-absent-requires-2 c κs = search rules
 
 place-at-requires-2 : tie.Need-place-at-requires-2
-place-at-requires-2 c κs = let x = (stands c.before.before.before.before.before.before).reach in (x.limits, x.stripe-lt, x.parity-lt)
+place-at-requires-2 c κs = let x = (stands c.before.before.before.before.before.before).reach in (x.limits, x.stripe_lt, x.parity_lt)
 
 fold-parity-requires : tie.Need-fold-parity-requires
 fold-parity-requires c κs =
@@ -110,7 +110,7 @@ lays : (c : tie.Joined3) →
     let c1 = c.before.before in
     let a = c1.before.before.before.before.before.before.before.before.before.before.args in
     (length c.if3.images ≡ length a.images.now)
-    × (store c.if3.images c1.place_at.result a.bytes.now ≡ stored a.r.block a.r.stripes (take a.c (writeStores a.r a.images.now a.b a.bytes.now)) a.images.now)
+    × (store c.if3.images c1.place_at.result a.bytes.now ≡ stored a.r.block a.r.stripes (take a.c (write_stores a.r a.images.now a.b a.bytes.now)) a.images.now)
 lays c =
     let c1 = c.before.before in
     let c2 = c1.before.before in

@@ -16,7 +16,7 @@ returns : tie.Need-returns
 returns c =
     let made = c.before.before in
     let a = made.before.before.before.before.args in
-    rw (← begun-is.never-used-up (on (write a.b a.bytes.now) a.images.now []) a.r) made.write-cut.ensures
+    rw (← begun-is.never_used_up (on (write a.b a.bytes.now) a.images.now []) a.r) made.write-cut.ensures
 
 pub write_spec : {M : Type 1} → statement M
 write_spec = tie.close (tie.spec write-cut-requires same_length returns)

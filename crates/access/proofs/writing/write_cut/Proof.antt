@@ -6,7 +6,7 @@ use lib.ListN.{length}
 use Rattle.layout.specs.Layout.{capacity}
 use Rattle.state.specs.Good.{geometry}
 use Rattle.calls.specs.Call.{read, write, feed, on}
-use Rattle.calls.specs.Table.{refusalOf}
+use Rattle.calls.specs.Table.{refusal_of}
 use Rattle.calls.specs.Effect.{effect}
 use Rattle.refusals.proofs.Laws.Called.{begun-refused, begun-done}
 use Rattle.calls.proofs.Laws.Table.{write-rows}
@@ -22,10 +22,10 @@ of-reach-requires c κs = c.of-lent.ensures
 -- the number is the table's
 numbered : (c : tie.After-of-reach) →
     let a = c.before.before.before.before.args in
-    refusalOf a.r (feed (write a.b a.bytes.now) (length a.images.now) 0) ≡ c.of-reach.result
+    refusal_of a.r (feed (write a.b a.bytes.now) (length a.images.now) 0) ≡ c.of-reach.result
 numbered c =
     let a = c.before.before.before.before.args in
-    let n : c.of-reach.result ≡ refusalOf a.r (feed (read a.b) (length a.images.now) (length a.bytes.now)) = c.of-reach.ensures in
+    let n : c.of-reach.result ≡ refusal_of a.r (feed (read a.b) (length a.images.now) (length a.bytes.now)) = c.of-reach.ensures in
     write-rows a.r (capacity (geometry a.r)) (length a.images.now) 0 a.b a.bytes.now ∙ sym n
 
 returns : tie.Need-returns

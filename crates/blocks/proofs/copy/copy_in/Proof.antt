@@ -5,7 +5,7 @@ use native.Mathlib.Omega.{arith}
 use borrow.Author.Rules.{rules}
 use lib.ListN.{length}
 use lib.Seq.{take-length}
-use Rattle.blocks.specs.Block.{store, copiedTo}
+use Rattle.blocks.specs.Block.{store, copied_to}
 use Rattle.blocks.proofs.Laws.Block.{length-prefix}
 use Rattle.blocks.proofs.copy.copy_in.Statement.{statement}
 use Rattle.blocks.proofs.copy.copy_in.Tie as tie
@@ -32,7 +32,7 @@ returns c =
     let st = c.before.before.before.before.before.before.before.before in
     let bytes = st.args.bytes.now in
     c.before.before.before.copy-through.ensures
-    ∙ ap (λ (n : ℕ). copiedTo st.args.images.now st.args.at bytes 0 n) (length-prefix (length bytes) 4096 st.requires.0)
+    ∙ ap (λ (n : ℕ). copied_to st.args.images.now st.args.at bytes 0 n) (length-prefix (length bytes) 4096 st.requires.0)
     ∙ ap (store st.args.images.now st.args.at) (take-length bytes)
 
 pub copy_in_spec : {M : Type 1} → statement M

@@ -4,8 +4,8 @@ use mathlib.Core.Path.{sym, ap, ◌∙◌, subst}
 use native.Mathlib.Omega.{arith}
 use borrow.Author.Rules.{rules}
 use lib.ListN.{length}
-use Rattle.blocks.specs.Block.{block_at, copiedTo}
-use Rattle.blocks.proofs.Laws.Block.{length-prefix, length-blockAt, store-whole}
+use Rattle.blocks.specs.Block.{block_at, copied_to}
+use Rattle.blocks.proofs.Laws.Block.{length-prefix, length-block_at, store-whole}
 use Rattle.blocks.proofs.copy.copy_out.Statement.{statement}
 use Rattle.blocks.proofs.copy.copy_out.Tie as tie
 
@@ -32,8 +32,8 @@ returns c =
     let block = st.args.block.now in
     let images = st.args.images.now in
     c.before.before.before.copy-through.ensures
-    ∙ ap (λ (n : ℕ). copiedTo block 0 images st.args.at n) (length-prefix (length block) 4096 st.requires.0)
-    ∙ store-whole block (block_at images st.args.at (length block)) (length-blockAt images st.args.at (length block) st.requires.1)
+    ∙ ap (λ (n : ℕ). copied_to block 0 images st.args.at n) (length-prefix (length block) 4096 st.requires.0)
+    ∙ store-whole block (block_at images st.args.at (length block)) (length-block_at images st.args.at (length block) st.requires.1)
 
 pub copy-out-spec : {M : Type 1} → statement M
 copy-out-spec =

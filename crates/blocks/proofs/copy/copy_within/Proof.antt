@@ -3,7 +3,7 @@ use Prim.Native.Nat.{ℕ, ◌+◌, ◌≤◌}
 use mathlib.Core.Path.{sym, ap, ◌∙◌, subst}
 use borrow.Author.Rules.{rules}
 use lib.ListN.{length}
-use Rattle.blocks.specs.Block.{copiedTo}
+use Rattle.blocks.specs.Block.{copied_to}
 use Rattle.blocks.proofs.Laws.Block.{length-prefix}
 use Rattle.blocks.proofs.copy.copy_within.Statement.{statement}
 use Rattle.blocks.proofs.copy.copy_within.Tie as tie
@@ -29,7 +29,7 @@ returns c =
     let st = c.before.before.before.before.before.before.before in
     let images = st.args.images.now in
     c.before.before.before.copy-within-through.ensures
-    ∙ ap (λ (n : ℕ). copiedTo images st.args.to images st.args.from n) (length-prefix st.args.len 4096 st.requires.0)
+    ∙ ap (λ (n : ℕ). copied_to images st.args.to images st.args.from n) (length-prefix st.args.len 4096 st.requires.0)
 
 pub copy-within-spec : {M : Type 1} → statement M
 copy-within-spec =

@@ -4,7 +4,7 @@ use Prim.Native.Nat.{◌-◌}
 use mathlib.Core.Path.{refl}
 use lib.ListN.{length}
 use Rattle.blocks.specs.Block.{block_at}
-use Rattle.blocks.proofs.Laws.Block.{length-blockAt}
+use Rattle.blocks.proofs.Laws.Block.{length-block_at}
 use Rattle.blocks.proofs.Laws.Fill.{Filled, filled_none, copied-out-more, filled-all₀}
 use Rattle.blocks.proofs.copy.load_bytes.Statement.{statement}
 use Rattle.blocks.proofs.copy.load_bytes.Tie as tie
@@ -16,7 +16,7 @@ abbrev decreases-loop : tie.decreases-loop
 decreases-loop source at block₀ i₀ block i = length block₀ - i
 
 loop-holds : tie.Need-loop-init invariant-loop decreases-loop
-loop-holds c = filled_none (length-blockAt c.args.source.now c.args.at _ c.requires)
+loop-holds c = filled_none (length-block_at c.args.source.now c.args.at _ c.requires)
 
 add-block : tie.Need-overflow-add-block invariant-loop decreases-loop
 add-block c = omega arith

@@ -3,7 +3,7 @@ use native.Mathlib.Omega.{arith}
 use Prim.Native.Nat.{◌-◌}
 use mathlib.Core.Path.{refl}
 use lib.ListN.{length}
-use Rattle.blocks.proofs.Laws.Fill.{Filled, filled_none, filled_more, filled-all}
+use Rattle.blocks.proofs.Laws.Fill.{Filled, filled_none, filled_more, filled_all}
 use Rattle.blocks.proofs.copy.store_bytes.Statement.{statement}
 use Rattle.blocks.proofs.copy.store_bytes.Tie as tie
 
@@ -38,7 +38,7 @@ same_length : tie.Need-same-length invariant-loop decreases-loop
 same_length c = c.before.loop.invariant.size
 
 returns : tie.Need-returns invariant-loop decreases-loop
-returns c = filled-all c.before.loop.invariant c.loop-test.false
+returns c = filled_all c.before.loop.invariant c.loop-test.false
 
 pub store-bytes-spec : {M : Type 1} → statement M
 store-bytes-spec =

@@ -4,7 +4,7 @@ use Prim.Native.Nat.{◌-◌}
 use mathlib.Core.Path.{sym}
 use lib.ListN.{length-replicate, get_or-replicate}
 use Rattle.blocks.specs.Block.{zeros}
-use Rattle.blocks.proofs.Laws.Fill.{Filled, filled_none, filled_more, filled-all}
+use Rattle.blocks.proofs.Laws.Fill.{Filled, filled_none, filled_more, filled_all}
 use Rattle.blocks.proofs.copy.zero_block.Statement.{statement}
 use Rattle.blocks.proofs.copy.zero_block.Tie as tie
 
@@ -36,7 +36,7 @@ same_length : tie.Need-same-length invariant-loop decreases-loop
 same_length c = c.before.loop.invariant.size
 
 returns : tie.Need-returns invariant-loop decreases-loop
-returns c = filled-all c.before.loop.invariant c.loop-test.false
+returns c = filled_all c.before.loop.invariant c.loop-test.false
 
 pub zero-block-spec : {M : Type 1} → statement M
 zero-block-spec =

@@ -22,7 +22,7 @@ ends : (c : tie.In-loop invariant-loop decreases-loop) →
     offset a.len a.x.stripes a.x.stripe c.before.loop.d + a.len ≤ a.x.last * (a.x.stripes * a.len)
 ends c =
     let st = c.before.before.before.before in
-    place-in _ _ _ _ st.args.x.last st.requires.0.stripe-lt c.loop-test.true
+    place-in _ _ _ _ st.args.x.last st.requires.0.stripe_lt c.loop-test.true
 
 loop-holds : tie.Need-loop-init invariant-loop decreases-loop
 loop-holds c = record { is = c.before.before.requires.2; size = refl; within = c.before.before.requires.0.order }

@@ -5,8 +5,8 @@ use mathlib.Core.List.{List}
 use native.Mathlib.Omega.{arith}
 use borrow.Author.Rules.{rules}
 use lib.ListN.{length, take}
-use Rattle.blocks.specs.Block.{copiedTo}
-use Rattle.blocks.specs.Sum.{sum_to, PartBegun, partAdded}
+use Rattle.blocks.specs.Block.{copied_to}
+use Rattle.blocks.specs.Sum.{sum_to, PartBegun, part_added}
 use Rattle.blocks.proofs.Laws.Block.{length-store}
 use Rattle.blocks.proofs.Laws.Stripe.{length-others}
 use Rattle.blocks.proofs.Laws.Fill.{Filled, filled-all₀, run_more, begun_kept}
@@ -33,8 +33,8 @@ module _ (c : tie.Start) {b : List ℕ} {at : ℕ} (f : Done c b at) (n : ℕ) (
   asked : n ≤ 64 → (n ≤ 64) × PartBegun c.args.x c.args.images.now b at n
   asked k = (k, rw f.size (c.requires.0, h, begun_kept c.args.x c.requires.1 f n))
 
-  given : {b' : List ℕ} → b' ≡ partAdded c.args.x c.args.images.now b at n → Done c b' (at + n)
-  given e = run_more f n h (e ∙ ap (λ (m : ℕ). copiedTo b at (sum c m c.args.x.last) at n) f.size)
+  given : {b' : List ℕ} → b' ≡ part_added c.args.x c.args.images.now b at n → Done c b' (at + n)
+  given e = run_more f n h (e ∙ ap (λ (m : ℕ). copied_to b at (sum c m c.args.x.last) at n) f.size)
 
 -- after half a piece more
 half : (c : tie.After-add-less) → Done c.before.before.before.before.before.before.before.before.before c.add-less.new.1.1.1.1.0 (c.before.before.before.before.before.add-pieces.result + 64)

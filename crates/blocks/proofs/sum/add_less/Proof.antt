@@ -2,7 +2,7 @@
 use Prim.Native.Nat.{ℕ}
 use mathlib.Core.Path.{sym, ap, ◌∙◌, subst}
 use borrow.Author.Rules.{rules}
-use Rattle.blocks.specs.Sum.{PartBegun, partAdded}
+use Rattle.blocks.specs.Sum.{PartBegun, part_added}
 use Rattle.blocks.proofs.Laws.Block.{length-prefix}
 use Rattle.blocks.proofs.sum.add_less.Statement.{statement}
 use Rattle.blocks.proofs.sum.add_less.Tie as tie
@@ -28,7 +28,7 @@ returns c =
     let st = c.before.before.before.before.before.before.before.before in
     let a = st.args in
     c.before.before.before.add-through.ensures
-    ∙ ap (λ (n : ℕ). partAdded a.x a.images.now a.block.now a.at n) (length-prefix a.count 64 st.requires.0)
+    ∙ ap (λ (n : ℕ). part_added a.x a.images.now a.block.now a.at n) (length-prefix a.count 64 st.requires.0)
 
 pub add-less-spec : {M : Type 1} → statement M
 add-less-spec =

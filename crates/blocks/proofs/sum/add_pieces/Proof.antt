@@ -3,7 +3,7 @@ use Prim.Native.Nat.{ℕ, ◌-◌}
 use mathlib.Core.Path.{◌≡◌, ap, ◌∙◌}
 use native.Mathlib.Omega.{arith}
 use lib.ListN.{length}
-use Rattle.blocks.specs.Block.{copiedTo}
+use Rattle.blocks.specs.Block.{copied_to}
 use Rattle.blocks.specs.Sum.{sum_to}
 use Rattle.blocks.proofs.Laws.Stripe.{length-others}
 use Rattle.blocks.proofs.Laws.Fill.{Filled, filled_none, run_more, begun_kept}
@@ -41,7 +41,7 @@ loop-again : tie.Need-loop-preserved invariant-loop decreases-loop
 loop-again c =
     let a = c.before.before.before.before.before.before.before.before.args in
     let l = c.before.before.before.before.before.loop in
-    run_more l.invariant 128 (omega arith) (c.before.before.add-piece.ensures ∙ ap (λ (n : ℕ). copiedTo l.block l.at (sum_to n a.images.now a.x a.x.last) l.at 128) l.invariant.size)
+    run_more l.invariant 128 (omega arith) (c.before.before.add-piece.ensures ∙ ap (λ (n : ℕ). copied_to l.block l.at (sum_to n a.images.now a.x a.x.last) l.at 128) l.invariant.size)
 
 same_length : tie.Need-same-length invariant-loop decreases-loop
 same_length c = c.before.loop.invariant.size

@@ -29,7 +29,7 @@ add-group-requires c κs =
     let e = c.before.group-end in
     let size : length l.block ≡ length a.block.now = l.invariant.size in
     let end : e.result * (a.stripes * length a.block.now) ≤ length a.images.now = omega (arith, mul-le-mul_right (a.stripes * length a.block.now) e.ensures.1) in
-    rw size (record { long = st.requires.0; stripe-lt = st.requires.2; order = omega arith; within = end }, l.invariant.is)
+    rw size (record { long = st.requires.0; stripe_lt = st.requires.2; order = omega arith; within = end }, l.invariant.is)
 
 loop-less : tie.Need-loop-smaller invariant-loop decreases-loop
 loop-less c = omega arith

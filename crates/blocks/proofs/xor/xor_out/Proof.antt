@@ -4,21 +4,21 @@ use Prim.Native.Nat.{◌-◌}
 use mathlib.Core.Path.{refl}
 use lib.ListN.{length}
 use Rattle.blocks.specs.Block.{block_at}
-use Rattle.blocks.specs.Xor.{xorB}
-use Rattle.blocks.proofs.Laws.Block.{length-blockAt}
-use Rattle.blocks.proofs.Laws.Xor.{length-xorB}
+use Rattle.blocks.specs.Xor.{xor_b}
+use Rattle.blocks.proofs.Laws.Block.{length-block_at}
+use Rattle.blocks.proofs.Laws.Xor.{length-xor_b}
 use Rattle.blocks.proofs.Laws.Fill.{Filled, filled_none, xored-out-more, filled-all₀}
 use Rattle.blocks.proofs.xor.xor_out.Statement.{statement}
 use Rattle.blocks.proofs.xor.xor_out.Tie as tie
 
 abbrev invariant-loop : tie.invariant-loop
-invariant-loop images at block₀ i₀ block i = Filled block₀ 0 (xorB block₀ (block_at images at (length block₀))) (length block₀) block i
+invariant-loop images at block₀ i₀ block i = Filled block₀ 0 (xor_b block₀ (block_at images at (length block₀))) (length block₀) block i
 
 abbrev decreases-loop : tie.decreases-loop
 decreases-loop images at block₀ i₀ block i = length block₀ - i
 
 loop-holds : tie.Need-loop-init invariant-loop decreases-loop
-loop-holds c = filled_none (length-xorB c.args.block.now (block_at c.args.images.now c.args.at (length c.args.block.now)) (length c.args.block.now) refl (length-blockAt c.args.images.now c.args.at _ c.requires))
+loop-holds c = filled_none (length-xor_b c.args.block.now (block_at c.args.images.now c.args.at (length c.args.block.now)) (length c.args.block.now) refl (length-block_at c.args.images.now c.args.at _ c.requires))
 
 slice-read-block : tie.Need-slice-read-block invariant-loop decreases-loop
 slice-read-block c = omega arith

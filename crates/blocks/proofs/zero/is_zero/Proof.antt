@@ -4,13 +4,13 @@ use native.Mathlib.Nat.{le_antisymm}
 use Prim.Native.Nat.{ℕ, ◌-◌, ◌≤◌}
 use mathlib.Core.Path.{◌≡◌, refl, ap, ◌∙◌}
 use lib.Dec.{eqb}
-use Rattle.blocks.specs.Block.{block_at, isZeros}
+use Rattle.blocks.specs.Block.{block_at, is_zeros}
 use Rattle.blocks.proofs.Laws.Zero.{or-more}
 use Rattle.blocks.proofs.zero.is_zero.Statement.{statement}
 use Rattle.blocks.proofs.zero.is_zero.Tie as tie
 
 abbrev invariant-loop : tie.invariant-loop
-invariant-loop source at len any₀ i₀ any i = (i ≤ len) × (eqb any 0 ≡ isZeros i (block_at source at i))
+invariant-loop source at len any₀ i₀ any i = (i ≤ len) × (eqb any 0 ≡ is_zeros i (block_at source at i))
 
 abbrev decreases-loop : tie.decreases-loop
 decreases-loop source at len any₀ i₀ any i = len - i
@@ -40,7 +40,7 @@ returns : tie.Need-returns invariant-loop decreases-loop
 returns c =
     let a = c.before.before.args in
     let inv = c.before.loop.invariant in
-    inv.1 ∙ ap (λ (k : ℕ). isZeros k (block_at a.source.now a.at k)) (le_antisymm inv.0 c.loop-test.false)
+    inv.1 ∙ ap (λ (k : ℕ). is_zeros k (block_at a.source.now a.at k)) (le_antisymm inv.0 c.loop-test.false)
 
 pub is-zero-spec : {M : Type 1} → statement M
 is-zero-spec =

@@ -3,7 +3,7 @@ use Prim.Native.Nat.{ℕ}
 use mathlib.Core.Path.{sym, ap, ◌∙◌, subst}
 use borrow.Author.Rules.{rules}
 use lib.ListN.{length}
-use Rattle.blocks.specs.Block.{block_at, isZeros}
+use Rattle.blocks.specs.Block.{block_at, is_zeros}
 use Rattle.blocks.specs.Sum.{sum_to, PartBegun}
 use Rattle.blocks.proofs.Laws.Block.{length-prefix}
 use Rattle.blocks.proofs.zero.less_cancels.Statement.{statement}
@@ -27,7 +27,7 @@ returns c =
     let st = c.before.before.before.before.before in
     let a = st.args in
     c.before.part-cancels.ensures
-    ∙ ap (λ (n : ℕ). isZeros n (block_at (sum_to (length a.block.now) a.images.now a.x a.x.last) a.at n)) (length-prefix a.count 64 st.requires.0)
+    ∙ ap (λ (n : ℕ). is_zeros n (block_at (sum_to (length a.block.now) a.images.now a.x a.x.last) a.at n)) (length-prefix a.count 64 st.requires.0)
 
 pub less-cancels-spec : {M : Type 1} → statement M
 less-cancels-spec =

@@ -6,7 +6,7 @@ use lib.ListN.{length}
 use Rattle.blocks.specs.Block.{block_at}
 use Rattle.blocks.specs.Sum.{sum_to}
 use Rattle.blocks.proofs.Laws.Summed.{begun}
-use Rattle.blocks.proofs.Laws.Zero.{isZeros-whole}
+use Rattle.blocks.proofs.Laws.Zero.{is_zeros-whole}
 use Rattle.blocks.proofs.zero.part_cancels.Statement.{statement}
 use Rattle.blocks.proofs.zero.part_cancels.Tie as tie
 
@@ -35,7 +35,7 @@ returns c =
     let sum = sum_to (length a.block.now) a.images.now a.x a.x.last in
     let size : length p.new.1.1.1.0 ≡ length a.piece.now = p.auto.1.1.1.0 in
     c.is_zero.ensures
-    ∙ isZeros-whole d.new.1.1.1.1.0 (block_at sum a.at (length a.piece.now)) (length a.piece.now) (d.ensures ∙ ap (block_at sum a.at) size) (d.auto.1.1.1.1.0 ∙ size)
+    ∙ is_zeros-whole d.new.1.1.1.1.0 (block_at sum a.at (length a.piece.now)) (length a.piece.now) (d.ensures ∙ ap (block_at sum a.at) size) (d.auto.1.1.1.1.0 ∙ size)
 
 pub part-cancels-spec : {M : Type 1} → statement M
 part-cancels-spec =

@@ -4,7 +4,7 @@ use mathlib.Core.Path.{◌≡◌, ap, ◌∙◌}
 use borrow.Author.Rules.{rules}
 use native.Mathlib.Omega.{arith}
 use Rattle.layout.specs.declared.Geometry.{Geometry}
-use Rattle.layout.specs.Layout.{totalOf}
+use Rattle.layout.specs.Layout.{total_of}
 use Rattle.layout.proofs.Laws.Bounds.{sized, total-high}
 use Rattle.state.specs.Good.{geometry, GoodRecord}
 use Rattle.growth.proofs.Laws.Advancing.{advance-limits, advance-passed, advance-done}
@@ -21,27 +21,27 @@ total-of-requires : tie.Need-total-of-requires
 total-of-requires c κs = rw c.geometry-of.ensures (sized _ (fits c.before.before).array)
 
 -- the total
-total-is : (c : tie.After-total-of) → c.total_of.result ≡ totalOf (geometry c.before.before.before.args.r)
-total-is c = c.total_of.ensures ∙ ap (λ (g : Geometry). totalOf g) c.before.geometry-of.ensures
+total_is : (c : tie.After-total-of) → c.total_of.result ≡ total_of (geometry c.before.before.before.args.r)
+total_is c = c.total_of.ensures ∙ ap (λ (g : Geometry). total_of g) c.before.geometry-of.ensures
 
 sub-left : tie.Need-overflow-sub-left
-sub-left c = rw (total-is c.before) (fits c.before.before.before.before).array.moves
+sub-left c = rw (total_is c.before) (fits c.before.before.before.before).array.moves
 
 due-requires : tie.Need-due-requires
 due-requires c κs = search rules
 
 -- the moves that are made
-due-is : (c : tie.After-due) → let a = c.before.before.before.before.before.args in c.due.result ≡ min a.k (totalOf (geometry a.r) - a.r.moves)
+due-is : (c : tie.After-due) → let a = c.before.before.before.before.before.args in c.due.result ≡ min a.k (total_of (geometry a.r) - a.r.moves)
 due-is c =
     let a = c.before.before.before.before.before.args in
-    c.due.ensures ∙ ap (λ (n : ℕ). min a.k (n - a.r.moves)) (total-is c.before.before)
+    c.due.ensures ∙ ap (λ (n : ℕ). min a.k (n - a.r.moves)) (total_is c.before.before)
 
 make-moves-requires : tie.Need-make-moves-requires
 make-moves-requires c κs =
     let t = c.before.before.before in
     let s = t.before.before.before in
     let a = s.args in
-    advance-passed a.images.now a.r a.k s.requires _ (omega (arith, c.before.due.ensures, total-is t, (fits s).array.moves))
+    advance-passed a.images.now a.r a.k s.requires _ (omega (arith, c.before.due.ensures, total_is t, (fits s).array.moves))
 
 cast-t11 : tie.Need-overflow-cast-t11
 cast-t11 c = search rules

@@ -9,10 +9,10 @@ at-cursor : (s : tie.Start) → Step s.args.r s.args.at
 at-cursor s = step s.args.r s.requires.0 s.requires.1 s.args.at s.requires.2
 
 place-at-requires : tie.Need-place-at-requires
-place-at-requires c κs = let s = c.before in (s.requires.0, (at-cursor s).stripe-lt, (at-cursor s).from-lt)
+place-at-requires c κs = let s = c.before in (s.requires.0, (at-cursor s).stripe_lt, (at-cursor s).from_lt)
 
 place-at-requires-2 : tie.Need-place-at-requires-2
-place-at-requires-2 c κs = let s = c.before.before in (s.requires.0, (at-cursor s).stripe-lt, (at-cursor s).to-lt)
+place-at-requires-2 c κs = let s = c.before.before in (s.requires.0, (at-cursor s).stripe_lt, (at-cursor s).to-lt)
 
 cast-move-block : tie.Need-overflow-cast-move-block
 cast-move-block c = search rules
@@ -22,7 +22,7 @@ move-block-requires c κs =
     let to = c.before.before in
     let from = to.before in
     let s = from.before.before in
-    rw (from.place_at.ensures, to.place-at2.ensures, s.requires.3) (s.requires.0.block-high, (at-cursor s).from_in, (at-cursor s).to_in)
+    rw (from.place_at.ensures, to.place-at2.ensures, s.requires.3) (s.requires.0.block_high, (at-cursor s).from_in, (at-cursor s).to_in)
 
 same_length : tie.Need-same-length
 same_length c = search rules

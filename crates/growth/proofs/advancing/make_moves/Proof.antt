@@ -6,8 +6,8 @@ use native.Mathlib.Nat.{le_antisymm}
 use native.Mathlib.Omega.{arith}
 use Rattle.layout.proofs.Laws.Bounds.{total-high}
 use Rattle.state.specs.Good.{geometry}
-use Rattle.calls.specs.Images.{storedIn}
-use Rattle.calls.specs.Effect.{advanceStores}
+use Rattle.calls.specs.Images.{stored_in}
+use Rattle.calls.specs.Effect.{advance_stores}
 use Rattle.calls.proofs.Laws.Table.{some-new, some_left}
 use Rattle.growth.proofs.Laws.Advancing.{Made, made_none, made-next, made-index, made_more}
 use Rattle.growth.proofs.advancing.make_moves.Statement.{statement}
@@ -85,7 +85,7 @@ returns : tie.Need-returns invariant-loop decreases-loop
 returns c =
     let a = c.before.before.before.before.before.before.args in
     let f = c.before.loop.invariant in
-    f.images ∙ ap (λ (k : ℕ). storedIn a.r (advanceStores k a.r a.images.now) a.images.now) (le_antisymm f.most c.loop-test.false)
+    f.images ∙ ap (λ (k : ℕ). stored_in a.r (advance_stores k a.r a.images.now) a.images.now) (le_antisymm f.most c.loop-test.false)
 
 pub make-moves-spec : {M : Type 1} → statement M
 make-moves-spec =

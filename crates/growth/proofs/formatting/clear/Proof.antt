@@ -20,13 +20,13 @@ fits c =
     limits _ _ _ (format-passed a.images.now r _ _ _ (c.requires r)).fits
 
 cast-formatted : tie.Need-overflow-cast-formatted
-cast-formatted c = omega (arith, (fits c.before.before.before.before.before).array.disks.n-high)
+cast-formatted c = omega (arith, (fits c.before.before.before.before.before).array.disks.n_high)
 
 cast-formatted-2 : tie.Need-overflow-cast-formatted-2
-cast-formatted-2 c = omega (arith, (fits c.before.before.before.before.before).block-high)
+cast-formatted-2 c = omega (arith, (fits c.before.before.before.before.before).block_high)
 
 cast-formatted-3 : tie.Need-overflow-cast-formatted-3
-cast-formatted-3 c = omega (arith, (fits c.before.before.before.before.before).array.stripes-high)
+cast-formatted-3 c = omega (arith, (fits c.before.before.before.before.before).array.stripes_high)
 
 formatted-requires : tie.Need-formatted-requires
 formatted-requires c κs = search rules

@@ -1,6 +1,6 @@
 -- `store_quad` meets its contract, by what its four calls ensure. Assumes nothing.
 use native.Mathlib.Omega.{arith}
-use Rattle.lanes.specs.Lanes.{laneBytes}
+use Rattle.lanes.specs.Lanes.{lane_bytes}
 use Rattle.lanes.proofs.Laws.Lanes.{stores-four}
 use borrow.Author.Rules.{rules}
 use Rattle.lanes.proofs.four.store_quad.Statement.{statement}
@@ -38,7 +38,7 @@ returns c =
     let c1 = c2.before.before.before.before in
     let a = c1.before.before.before.args in
     let x = a.x in
-    stores-four a.target.now a.at (laneBytes x.a) (laneBytes x.b) (laneBytes x.c) (laneBytes x.d) c1.store-lane.ensures c2.store-lane2.ensures c3.store-lane3.ensures c4.store-lane4.ensures (omega arith) (omega arith) (omega arith)
+    stores-four a.target.now a.at (lane_bytes x.a) (lane_bytes x.b) (lane_bytes x.c) (lane_bytes x.d) c1.store-lane.ensures c2.store-lane2.ensures c3.store-lane3.ensures c4.store-lane4.ensures (omega arith) (omega arith) (omega arith)
 
 pub store-quad-spec : {M : Type 1} → statement M
 store-quad-spec =

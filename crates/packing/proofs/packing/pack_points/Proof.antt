@@ -1,6 +1,6 @@
 -- `pack_points` meets its contract. The loop has packed the points from `first` to before i. Assumes nothing.
 use Rattle.std.proofs.Common.{ℕ, ◌-◌, ap, ◌∙◌, le_antisymm, arith, length-set}
-use Rattle.points.specs.Part.{partPacked}
+use Rattle.points.specs.Part.{part_packed}
 use Rattle.points.proofs.Laws.Pack.{Packing, part-one, packing-none, packing-more}
 use Rattle.packing.proofs.packing.pack_points.Statement.{statement}
 use Rattle.packing.proofs.packing.pack_points.Tie as tie
@@ -55,7 +55,7 @@ returns : tie.Need-returns invariant-loop decreases-loop
 returns c =
     let l = c.before in
     let a = l.before.before.before.args in
-    l.loop.invariant.is ∙ ap (λ (n : ℕ). partPacked a.source.now a.target.now a.first (n - a.first)) (le_antisymm l.loop.invariant.within c.loop-test.false)
+    l.loop.invariant.is ∙ ap (λ (n : ℕ). part_packed a.source.now a.target.now a.first (n - a.first)) (le_antisymm l.loop.invariant.within c.loop-test.false)
 
 pub pack-points-spec : {M : Type 1} → statement M
 pack-points-spec =

@@ -1,6 +1,6 @@
 -- `point_at` meets its contract. Assumes nothing.
 use Rattle.std.proofs.Common.{sym, ◌∙◌, arith, rules}
-use Rattle.points.proofs.Laws.Elements.{getD-points}
+use Rattle.points.proofs.Laws.Elements.{get_or-points}
 use Rattle.packing.proofs.point.point_at.Statement.{statement}
 use Rattle.packing.proofs.point.point_at.Tie as tie
 
@@ -25,7 +25,7 @@ join-two-requires c κs = search rules
 returns : tie.Need-returns
 returns c =
     let a = c.before.before.before.before.args in
-    c.join-two.ensures ∙ sym (getD-points a.source.now a.i (omega arith))
+    c.join-two.ensures ∙ sym (get_or-points a.source.now a.i (omega arith))
 
 pub point-at-spec : {M : Type 1} → statement M
 point-at-spec =

@@ -1,12 +1,12 @@
 -- `join_sides` meets its contract. The loop has stored i differences. Assumes nothing.
 use Rattle.std.proofs.Common.{◌-◌, arith, rules}
-use Rattle.points.specs.Points.{fromSides}
+use Rattle.points.specs.Points.{from_sides}
 use Rattle.points.proofs.Laws.Unpack.{Stored, stored-all, joining-none, joining-more}
 use Rattle.packing.proofs.unpacking.join_sides.Statement.{statement}
 use Rattle.packing.proofs.unpacking.join_sides.Tie as tie
 
 abbrev invariant-loop : tie.invariant-loop
-invariant-loop source target₀ half i₀ target i = Stored (fromSides source) target₀ target i
+invariant-loop source target₀ half i₀ target i = Stored (from_sides source) target₀ target i
 
 abbrev decreases-loop : tie.decreases-loop
 decreases-loop source target₀ half i₀ target i = half - i
@@ -50,7 +50,7 @@ returns : tie.Need-returns invariant-loop decreases-loop
 returns c =
     let l = c.before in
     let st = l.before.before.before in
-    stored-all (fromSides st.args.source.now) l.loop.i (omega (arith, st.requires.0, st.requires.1)) l.loop.invariant
+    stored-all (from_sides st.args.source.now) l.loop.i (omega (arith, st.requires.0, st.requires.1)) l.loop.invariant
 
 pub join-sides-spec : {M : Type 1} → statement M
 join-sides-spec =

@@ -6,8 +6,8 @@ use native.Mathlib.Nat.{sub-zero}
 use native.Mathlib.Omega.{arith}
 use borrow.Author.Rules.{rules}
 use lib.ListN.{length}
-use Rattle.blocks.specs.Xor.{xorB}
-use Rattle.lanes.specs.Lanes.{laneBytes}
+use Rattle.blocks.specs.Xor.{xor_b}
+use Rattle.lanes.specs.Lanes.{lane_bytes}
 use Rattle.parity.proofs.Laws.Replace.{replaced-none}
 use Rattle.parity.proofs.Laws.Modify.{Modified, modified-more}
 use Rattle.parity.proofs.modify.modify_lanes.Statement.{statement}
@@ -74,7 +74,7 @@ loop-again c =
     let l = turn.before in
     let st = l.before.before.before in
     let a = st.args in
-    let sum = all.xor-lanes2.ensures ∙ ap (λ (r : List ℕ). xorB r (laneBytes new.load-lane3.result)) two.xor-lanes.ensures in
+    let sum = all.xor-lanes2.ensures ∙ ap (λ (r : List ℕ). xor_b r (lane_bytes new.load-lane3.result)) two.xor-lanes.ensures in
     modified-more a.parity a.at a.bytes.now a.images.now st.requires l.loop.invariant 16
     (omega (arith, turn.loop-test.true, l.loop.invariant.within))
     first.load-lane.ensures

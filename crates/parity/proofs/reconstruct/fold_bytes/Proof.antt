@@ -19,7 +19,7 @@ decreases-loop images₀ g bytes first to at₀ images at = g.len - at
 
 -- where the parity ends
 ends : (c : tie.Start invariant-loop decreases-loop) → start_of c.args.g c.args.g.parity + c.args.g.len ≤ length c.args.images.now
-ends c = let w = c.requires.0.0 in place_inside w w.parity-lt
+ends c = let w = c.requires.0.0 in place_inside w w.parity_lt
 
 offset-of-requires : tie.Need-offset-of-requires invariant-loop decreases-loop
 offset-of-requires c κs = omega (arith, ends c.before.before)

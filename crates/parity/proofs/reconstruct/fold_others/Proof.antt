@@ -15,7 +15,7 @@ abbrev gaps : tie.Start → Gapped
 gaps c = let a = c.args in record { disks = a.disks; stripes = a.stripes; len = length a.bytes.now; stripe = a.s; out = a.out; parity = a.parity }
 
 inside : (c : tie.Start) → FoldInside (gaps c) (length c.args.images.now) (length c.args.bytes.now)
-inside c = let p = c.requires.0 in (record { long = p.0; stripe-lt = p.2; parity-lt = p.3; within = p.4 }, refl)
+inside c = let p = c.requires.0 in (record { long = p.0; stripe_lt = p.2; parity_lt = p.3; within = p.4 }, refl)
 
 fold-quads-requires : tie.Need-fold-quads-requires
 fold-quads-requires c κs = search rules

@@ -4,8 +4,8 @@ use native.Mathlib.Omega.{arith}
 use Prim.Native.Nat.{ℕ, ◌-◌, ◌+◌, ◌≤◌}
 use mathlib.Core.Path.{sym, ap, ◌∙◌}
 use mathlib.Core.Logic.{⊎_elim}
-use Rattle.blocks.specs.Xor.{xorB}
-use Rattle.lanes.specs.Lanes.{laneBytes}
+use Rattle.blocks.specs.Xor.{xor_b}
+use Rattle.lanes.specs.Lanes.{lane_bytes}
 use Rattle.parity.specs.Fold.{start_of}
 use lib.ListN.{length}
 use Rattle.parity.proofs.Laws.Fold.{place_inside, Gathered, gathered_none, gathered-in, gathered-over, gathered-all}
@@ -13,7 +13,7 @@ use Rattle.parity.proofs.reconstruct.sum_lane.Statement.{statement}
 use Rattle.parity.proofs.reconstruct.sum_lane.Tie as tie
 
 abbrev invariant-loop : tie.invariant-loop
-invariant-loop images g at disks sum₀ d₀ sum d = Gathered g images at 16 (laneBytes sum₀) (laneBytes sum) d
+invariant-loop images g at disks sum₀ d₀ sum d = Gathered g images at 16 (lane_bytes sum₀) (lane_bytes sum) d
 
 abbrev decreases-loop : tie.decreases-loop
 decreases-loop images g at disks sum₀ d₀ sum d = disks - d
@@ -25,7 +25,7 @@ ends : (c : tie.In-loop invariant-loop decreases-loop) →
 ends c = place_inside c.before.before.before.requires.0 c.loop-test.true
 
 loop-holds : tie.Need-loop-init invariant-loop decreases-loop
-loop-holds c = let a = c.before.args in gathered_none a.g a.images.now a.at 16 (laneBytes a.x) c.before.requires.1 (omega arith)
+loop-holds c = let a = c.before.args in gathered_none a.g a.images.now a.at 16 (lane_bytes a.x) c.before.requires.1 (omega arith)
 
 is-counted-requires : tie.Need-is-counted-requires invariant-loop decreases-loop
 is-counted-requires c κs = search rules
@@ -55,8 +55,8 @@ loop-again c =
     let st = c.before.before.before.before.before in
     let told = sym c.before.is-counted.ensures in
     ⊎_elim
-    (λ w. gathered-in lt st.requires.1 (told ∙ w.0.taken) (ap (λ (n : ℕ). n + st.args.at) w.1.ensures) l.invariant (ap laneBytes w.4 ∙ w.3.ensures ∙ ap (xorB (laneBytes l.sum)) w.2.ensures))
-    (λ w. gathered-over lt (told ∙ w.0.left) l.invariant (ap laneBytes w.1))
+    (λ w. gathered-in lt st.requires.1 (told ∙ w.0.taken) (ap (λ (n : ℕ). n + st.args.at) w.1.ensures) l.invariant (ap lane_bytes w.4 ∙ w.3.ensures ∙ ap (xor_b (lane_bytes l.sum)) w.2.ensures))
+    (λ w. gathered-over lt (told ∙ w.0.left) l.invariant (ap lane_bytes w.1))
     c.if1.branch
 
 returns : tie.Need-returns invariant-loop decreases-loop

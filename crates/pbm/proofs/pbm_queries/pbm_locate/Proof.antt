@@ -4,9 +4,9 @@ use mathlib.Core.Bool.{true}
 use mathlib.Core.List.{[]}
 use borrow.Author.Rules.{rules}
 use Rattle.conditions.proofs.Tests.{went_on, returned}
-use Rattle.refusals.specs.Answers.{locatedAnswer}
+use Rattle.refusals.specs.Answers.{located_answer}
 use Rattle.calls.specs.Call.{locate, Event, on}
-use Rattle.calls.specs.Effect.{calledBytes}
+use Rattle.calls.specs.Effect.{called_bytes}
 use Rattle.pbm.specs.Opening.{readable}
 use Rattle.pbm.proofs.Opened.{long, unreadable, opened}
 use Rattle.pbm.proofs.pbm_queries.pbm_locate.Statement.{statement}
@@ -41,7 +41,7 @@ enum-known-x-2 c = search rules
 -- the call on the bytes answers what the call on the record did
 answered : (c : tie.After-locate) →
     let s = c.before.before.before.before.before in
-    (calledBytes (event s) s.args.rec.now).answer ≡ locatedAnswer c.locate.result
+    (called_bytes (event s) s.args.rec.now).answer ≡ located_answer c.locate.result
 answered c =
     let s = c.before.before.before.before.before in
     (opened (event s) s.args.rec.now (is-readable c.before.before) c.before.decode.ensures).answer ∙ sym c.locate.ensures

@@ -4,9 +4,9 @@ use mathlib.Core.Bool.{true}
 use mathlib.Core.List.{[]}
 use borrow.Author.Rules.{rules}
 use Rattle.conditions.proofs.Tests.{went_on, returned}
-use Rattle.refusals.specs.Answers.{ownedAnswer}
+use Rattle.refusals.specs.Answers.{owned_answer}
 use Rattle.calls.specs.Call.{owner, Event, on}
-use Rattle.calls.specs.Effect.{calledBytes}
+use Rattle.calls.specs.Effect.{called_bytes}
 use Rattle.pbm.specs.Opening.{readable}
 use Rattle.pbm.proofs.Opened.{long, unreadable, opened}
 use Rattle.pbm.proofs.pbm_queries.pbm_owner.Statement.{statement}
@@ -47,7 +47,7 @@ role-block-requires c κs = search rules
 -- the call on the bytes answers what the call on the record did
 answered : (c : tie.After-owner) →
     let s = c.before.before.before.before.before in
-    (calledBytes (event s) s.args.rec.now).answer ≡ ownedAnswer c.owner.result
+    (called_bytes (event s) s.args.rec.now).answer ≡ owned_answer c.owner.result
 answered c =
     let s = c.before.before.before.before.before in
     (opened (event s) s.args.rec.now (is-readable c.before.before) c.before.decode.ensures).answer ∙ sym c.owner.ensures

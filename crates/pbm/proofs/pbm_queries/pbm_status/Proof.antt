@@ -4,9 +4,9 @@ use mathlib.Core.Bool.{true}
 use mathlib.Core.List.{[]}
 use borrow.Author.Rules.{rules}
 use Rattle.conditions.proofs.Tests.{went_on, returned}
-use Rattle.refusals.specs.Answers.{reportAnswer}
+use Rattle.refusals.specs.Answers.{report_answer}
 use Rattle.calls.specs.Call.{status, Event, on}
-use Rattle.calls.specs.Effect.{calledBytes}
+use Rattle.calls.specs.Effect.{called_bytes}
 use Rattle.pbm.specs.Opening.{readable}
 use Rattle.pbm.proofs.Opened.{long, unreadable, opened}
 use Rattle.pbm.proofs.pbm_queries.pbm_status.Statement.{statement}
@@ -59,7 +59,7 @@ cast-rebuilt c = search rules
 -- the call on the bytes answers what the call on the record did
 answered : (c : tie.After-status) →
     let s = c.before.before.before.before.before in
-    (calledBytes (event s) s.args.rec.now).answer ≡ reportAnswer c.status.result
+    (called_bytes (event s) s.args.rec.now).answer ≡ report_answer c.status.result
 answered c =
     let s = c.before.before.before.before.before in
     (opened (event s) s.args.rec.now (is-readable c.before.before) c.before.decode.ensures).answer ∙ sym c.status.ensures

@@ -4,9 +4,9 @@ use mathlib.Core.Bool.{true}
 use mathlib.Core.List.{[]}
 use borrow.Author.Rules.{rules}
 use Rattle.conditions.proofs.Tests.{went_on, returned}
-use Rattle.refusals.specs.Answers.{sweptAnswer}
+use Rattle.refusals.specs.Answers.{swept_answer}
 use Rattle.calls.specs.Call.{sweep, Event, on}
-use Rattle.calls.specs.Effect.{calledBytes}
+use Rattle.calls.specs.Effect.{called_bytes}
 use Rattle.pbm.specs.Opening.{readable}
 use Rattle.pbm.proofs.Opened.{long, unreadable, opened}
 use Rattle.pbm.proofs.pbm_scrub.pbm_sweep.Statement.{statement}
@@ -44,7 +44,7 @@ enum-known-x-3 c = search rules
 -- the call on the bytes answers what the call on the record did
 answered : (c : tie.After-sweep) →
     let s = c.before.before.before.before.before.before in
-    (calledBytes (event s) s.args.rec.now).answer ≡ sweptAnswer c.sweep.result
+    (called_bytes (event s) s.args.rec.now).answer ≡ swept_answer c.sweep.result
 answered c =
     let s = c.before.before.before.before.before.before in
     (opened (event s) s.args.rec.now (is-readable c.before.before) c.before.decode.ensures).answer ∙ sym c.sweep.ensures

@@ -22,7 +22,7 @@ returns c =
     let b = c.before.before in
     let k = b.before in
     let w = k.before.requires in
-    resting-below _ _ (omega (arith, w.0.sizes.disks.n-low)) _ _ _ k.is-settled.ensures _ _ _ _ b.disk-lift.ensures c.before.pick.ensures c.excess.ensures
+    resting-below _ _ (omega (arith, w.0.sizes.disks.n_low)) _ _ _ k.is-settled.ensures _ _ _ _ b.disk-lift.ensures c.before.pick.ensures c.excess.ensures
 
 pub count-below-spec : {M : Type 1} → statement M
 count-below-spec =

@@ -18,13 +18,13 @@ add-result : tie.Need-overflow-add-result
 add-result c =
     let k = c.before.before in
     let w = k.before.requires in
-    omega (arith, w.0.sizes.disks, resting-lt _ _ (omega (arith, w.0.sizes.disks.n-low)) _ _ _ k.is-settled.ensures w.1 _ _ _ c.before.nth-lift.ensures c.pick.ensures w.2)
+    omega (arith, w.0.sizes.disks, resting-lt _ _ (omega (arith, w.0.sizes.disks.n_low)) _ _ _ k.is-settled.ensures w.1 _ _ _ c.before.nth-lift.ensures c.pick.ensures w.2)
 
 returns : tie.Need-returns
 returns c =
     let k = c.before.before in
     let w = k.before.requires in
-    resting-nth _ _ (omega (arith, w.0.sizes.disks.n-low)) _ _ _ k.is-settled.ensures w.1 _ _ _ c.before.nth-lift.ensures c.pick.ensures w.2
+    resting-nth _ _ (omega (arith, w.0.sizes.disks.n_low)) _ _ _ k.is-settled.ensures w.1 _ _ _ c.before.nth-lift.ensures c.pick.ensures w.2
 
 pub nth-blank-spec : {M : Type 1} → statement M
 nth-blank-spec =

@@ -2,7 +2,7 @@
 use mathlib.Core.Path.{refl}
 use native.Mathlib.Omega.{arith}
 use borrow.Author.Rules.{rules}
-use Rattle.layout.specs.Moves.{moveZone, moveTo, moveLag, moveWithin, moveStripe, moveFrom}
+use Rattle.layout.specs.Moves.{move_zone, move_to, move_lag, move_within, move_stripe, move_from}
 use Rattle.layout.proofs.Laws.Bounds.{room}
 use Rattle.placement.proofs.moves.move_of.Statement.{statement}
 use Rattle.placement.proofs.moves.move_of.Tie as tie
@@ -73,7 +73,7 @@ rem-t18 c = search rules
 
 -- src/moves.rt:9:1
 returns : tie.Need-returns
-unfolding moveZone moveTo moveLag moveWithin moveStripe moveFrom
+unfolding move_zone move_to move_lag move_within move_stripe move_from
 returns c = refl
 
 pub move-of-spec : {M : Type 1} → statement M

@@ -11,7 +11,7 @@ given : (c : tie.Start) → Held c.args.n c.args.m c.args.c
 given c = held _ _ c.requires.0 c.requires.1 _ c.requires.3 c.requires.2
 
 alone : (c : tie.Start) → Disks c.args.n 0
-alone c = record { n-low = c.requires.0.n-low; n-high = c.requires.0.n-high; m-high = omega arith }
+alone c = record { n_low = c.requires.0.n_low; n_high = c.requires.0.n_high; m_high = omega arith }
 
 add-k : tie.Need-overflow-add-k
 add-k c = search rules

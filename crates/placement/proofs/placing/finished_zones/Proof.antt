@@ -7,10 +7,10 @@ use Rattle.placement.proofs.placing.finished_zones.Statement.{statement}
 use Rattle.placement.proofs.placing.finished_zones.Tie as tie
 
 mul-result : tie.Need-overflow-mul-result
-mul-result c = let w = c.before.requires.0.disks in omega (arith, times 16 16 w.n-high w.m-high)
+mul-result c = let w = c.before.requires.0.disks in omega (arith, times 16 16 w.n_high w.m_high)
 
 div-result : tie.Need-nonzero-div-result
-div-result c = let w = c.before.before.requires in mul-pos (omega (arith, w.0.disks.n-low)) w.1
+div-result c = let w = c.before.before.requires in mul-pos (omega (arith, w.0.disks.n_low)) w.1
 
 returns : tie.Need-returns
 returns c = search rules

@@ -3,7 +3,7 @@ use Prim.Native.Nat.{◌+◌, ◌*◌, ◌<◌}
 use mathlib.Core.Path.{ap, ◌∙◌}
 use native.Mathlib.Omega.{arith}
 use borrow.Author.Rules.{rules}
-use Rattle.layout.specs.Layout.{totalOf}
+use Rattle.layout.specs.Layout.{total_of}
 use Rattle.layout.proofs.Laws.Bounds.{sized}
 use Rattle.layout.proofs.Laws.Numbers.{has_new}
 use Rattle.layout.proofs.Laws.Opening.{test-left, test-over, open-all, open-part, part-le}
@@ -14,7 +14,7 @@ all-moved-requires : tie.Need-all-moved-requires
 all-moved-requires c κs = sized _ c.requires
 
 -- what the test has shown
-more : (c : tie.Else1) → let g = c.before.before.args.g in g.moves < totalOf g
+more : (c : tie.Else1) → let g = c.before.before.args.g in g.moves < total_of g
 more c = test-left _ c.before.before.requires c.before.all_moved.ensures c.if1.false
 
 finished-zones-requires : tie.Need-finished-zones-requires
@@ -28,7 +28,7 @@ mul-result c =
     let z = c.before in
     let e = z.before in
     let w = e.before.before.requires in
-    rw z.finished-zones.ensures (omega (arith, part-le _ w (more e), w.stripes-high))
+    rw z.finished-zones.ensures (omega (arith, part-le _ w (more e), w.stripes_high))
 
 returns : tie.Need-returns
 returns c = open-all _ (test-over _ c.before.all_moved.ensures c.if1.true)

@@ -11,7 +11,7 @@ cast-offset-of-2 : tie.Need-overflow-cast-offset-of-2
 cast-offset-of-2 c = search rules
 
 offset-of-requires : tie.Need-offset-of-requires
-offset-of-requires c κs = let (l, ls, ld) = c.before.before.requires in (l.block-low, place-fits _ _ _ l ls ld)
+offset-of-requires c κs = let (l, ls, ld) = c.before.before.requires in (l.block_low, place-fits _ _ _ l ls ld)
 
 returns : tie.Need-returns
 returns c = search rules

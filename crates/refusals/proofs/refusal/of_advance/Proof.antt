@@ -10,7 +10,7 @@ use Rattle.state.specs.declared.types.Record.{Record}
 use Rattle.state.specs.Good.{geometry}
 use Rattle.calls.specs.Call.{advance, feed}
 use Rattle.calls.specs.Images.{size}
-use Rattle.calls.specs.Table.{Row, nothingToMove, images, word, keptWhole, refusalOf}
+use Rattle.calls.specs.Table.{Row, nothing_to_move, images, word, kept_whole, refusal_of}
 use Rattle.calls.proofs.Laws.Table.{stops, given, skipped, whole-on, advance-rows}
 use Rattle.refusals.proofs.Laws.Ready.{ready-whole}
 use Rattle.refusals.proofs.refusal.of_advance.Statement.{statement}
@@ -21,7 +21,7 @@ abbrev from-7 : Record → ℕ → List Row
 from-7 r len = images (size r) len ∷ []
 
 abbrev from-5 : Record → ℕ → List Row
-from-5 r len = nothingToMove r ∷ from-7 r len
+from-5 r len = nothing_to_move r ∷ from-7 r len
 
 of-whole-requires : tie.Need-of-whole-requires
 of-whole-requires c κs = search rules
@@ -29,10 +29,10 @@ of-whole-requires c κs = search rules
 returns : tie.Need-returns
 returns c =
     let a = c.before.before.args in
-    stops (keptWhole a.r) (from-5 a.r a.images) c.before.of-whole.ensures c.if1.true
+    stops (kept_whole a.r) (from-5 a.r a.images) c.before.of-whole.ensures c.if1.true
     ∙ sym (advance-rows a.r (capacity (geometry a.r)) a.images 0 a.k)
 
-past-1 : (c : tie.Else1) → let a = c.before.before.args in refusalOf a.r (feed (advance a.k) a.images 0) ≡ word (from-5 a.r a.images)
+past-1 : (c : tie.Else1) → let a = c.before.before.args in refusal_of a.r (feed (advance a.k) a.images 0) ≡ word (from-5 a.r a.images)
 past-1 c =
     let a = c.before.before.args in
     advance-rows a.r (capacity (geometry a.r)) a.images 0 a.k
@@ -47,7 +47,7 @@ returns-2 c =
     let a = c1.before.before.args in
     sym (past-1 c1 ∙ given 5 (from-7 a.r a.images) (told c.before.is-idle.ensures c.if2.true))
 
-past-2 : (c : tie.Else2) → let a = c.before.before.before.before.args in refusalOf a.r (feed (advance a.k) a.images 0) ≡ word (from-7 a.r a.images)
+past-2 : (c : tie.Else2) → let a = c.before.before.before.before.args in refusal_of a.r (feed (advance a.k) a.images 0) ≡ word (from-7 a.r a.images)
 past-2 c =
     let c1 = c.before.before in
     let a = c1.before.before.args in
@@ -60,7 +60,7 @@ size-with-requires : tie.Need-size-with-requires
 size-with-requires c κs =
     let c1 = c.before.before.before in
     let l = ready-whole c1.before.before.args.r c1.before.of-whole.ensures c1.if1.false in
-    (l, l.array.disks.m-high)
+    (l, l.array.disks.m_high)
 
 returns-3 : tie.Need-returns-3
 returns-3 c = sym (past-2 c.before.before.before ∙ given 7 [] (ap not (other c.before.size-with.ensures c.if3.true)))

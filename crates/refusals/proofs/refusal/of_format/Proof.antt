@@ -32,7 +32,7 @@ fits c = went_on c.before.is-formable.ensures c.if1.false
 sizes : (c : tie.Else1) → Bounded c.before.before.args.n c.before.before.args.stripes c.before.before.args.block
 sizes c =
     let l = limits _ _ _ (fits c) in
-    bounded _ _ _ (omega (arith, l.array.disks.n-high)) l.array.stripes-high l.block-high
+    bounded _ _ _ (omega (arith, l.array.disks.n_high)) l.array.stripes_high l.block_high
 
 mul-if2 : tie.Need-overflow-mul-if2
 mul-if2 c = omega (arith, (sizes c).disk)

@@ -8,11 +8,11 @@ use Rattle.conditions.proofs.Tests.{went_on, returned}
 use Rattle.conditions.proofs.Asked.{same, other}
 use Rattle.layout.specs.Layout.{capacity}
 use Rattle.state.specs.declared.types.Record.{Record}
-use Rattle.state.specs.Good.{geometry, newGood}
+use Rattle.state.specs.Good.{geometry, new_good}
 use Rattle.state.proofs.Laws.Good.{within-true}
 use Rattle.calls.specs.Call.{grow, feed}
-use Rattle.calls.specs.Images.{sizeWith}
-use Rattle.calls.specs.Table.{Row, grownAlready, badGeometry, images, word, keptWhole, refusalOf}
+use Rattle.calls.specs.Images.{size_with}
+use Rattle.calls.specs.Table.{Row, grown_already, bad_geometry, images, word, kept_whole, refusal_of}
 use Rattle.calls.proofs.Laws.Table.{stops, given, skipped, whole-on, grow-rows}
 use Rattle.refusals.proofs.Laws.Ready.{ready-whole}
 use Rattle.refusals.proofs.refusal.of_grow.Statement.{statement}
@@ -20,13 +20,13 @@ use Rattle.refusals.proofs.refusal.of_grow.Tie as tie
 
 -- the rows from 7, from 6 and from 4 on
 abbrev from-7 : Record → ℕ → ℕ → List Row
-from-7 r m len = images (sizeWith r m) len ∷ []
+from-7 r m len = images (size_with r m) len ∷ []
 
 abbrev from-6 : Record → ℕ → ℕ → List Row
-from-6 r m len = badGeometry (newGood m) ∷ from-7 r m len
+from-6 r m len = bad_geometry (new_good m) ∷ from-7 r m len
 
 abbrev from-4 : Record → ℕ → ℕ → List Row
-from-4 r m len = grownAlready r ∷ from-6 r m len
+from-4 r m len = grown_already r ∷ from-6 r m len
 
 of-whole-requires : tie.Need-of-whole-requires
 of-whole-requires c κs = search rules
@@ -34,10 +34,10 @@ of-whole-requires c κs = search rules
 returns : tie.Need-returns
 returns c =
     let a = c.before.before.args in
-    stops (keptWhole a.r) (from-4 a.r a.m a.images) c.before.of-whole.ensures c.if1.true
+    stops (kept_whole a.r) (from-4 a.r a.m a.images) c.before.of-whole.ensures c.if1.true
     ∙ sym (grow-rows a.r (capacity (geometry a.r)) a.images 0 a.m)
 
-past-1 : (c : tie.Else1) → let a = c.before.before.args in refusalOf a.r (feed (grow a.m) a.images 0) ≡ word (from-4 a.r a.m a.images)
+past-1 : (c : tie.Else1) → let a = c.before.before.args in refusal_of a.r (feed (grow a.m) a.images 0) ≡ word (from-4 a.r a.m a.images)
 past-1 c =
     let a = c.before.before.args in
     grow-rows a.r (capacity (geometry a.r)) a.images 0 a.m
@@ -48,7 +48,7 @@ returns-2 c = let a = c.before.before.before.before.args in sym (past-1 c.before
 
 past-2 : (c : tie.Else2) →
     let a = c.before.before.before.before.args in
-    refusalOf a.r (feed (grow a.m) a.images 0) ≡ word (from-6 a.r a.m a.images)
+    refusal_of a.r (feed (grow a.m) a.images 0) ≡ word (from-6 a.r a.m a.images)
 past-2 c = let a = c.before.before.before.before.args in past-1 c.before.before ∙ skipped 4 (from-6 a.r a.m a.images) (ap not (same refl c.if2.false))
 
 new-is-good-requires : tie.Need-new-is-good-requires
@@ -62,7 +62,7 @@ returns-3 c =
 
 past-3 : (c : tie.Else3) →
     let a = c.before.before.before.before.before.before.args in
-    refusalOf a.r (feed (grow a.m) a.images 0) ≡ word (from-7 a.r a.m a.images)
+    refusal_of a.r (feed (grow a.m) a.images 0) ≡ word (from-7 a.r a.m a.images)
 past-3 c =
     let c2 = c.before.before in
     let a = c2.before.before.before.before.args in

@@ -26,7 +26,7 @@ size-with-requires : tie.Need-size-with-requires
 size-with-requires c κs =
     let c1 = c.before in
     let l = ready-kept c1.before.before.args.r c1.before.of-kept.ensures c1.if1.false in
-    (l, l.array.disks.m-high)
+    (l, l.array.disks.m_high)
 
 returns-2 : tie.Need-returns-2
 returns-2 c =

@@ -10,16 +10,16 @@ use Rattle.layout.specs.Layout.{capacity}
 use Rattle.state.specs.declared.types.Record.{Record}
 use Rattle.state.specs.Good.{geometry}
 use Rattle.calls.specs.Call.{out, feed}
-use Rattle.calls.specs.Health.{isOut}
-use Rattle.calls.specs.Images.{disksOf}
-use Rattle.calls.specs.Table.{disk, word, kept, refusalOf}
+use Rattle.calls.specs.Health.{is_out}
+use Rattle.calls.specs.Images.{disks_of}
+use Rattle.calls.specs.Table.{disk, word, kept, refusal_of}
 use Rattle.calls.proofs.Laws.Table.{stops, given, skipped, kept_on, out-rows}
 use Rattle.refusals.proofs.refusal.of_out.Statement.{statement}
 use Rattle.refusals.proofs.refusal.of_out.Tie as tie
 
 -- 10's condition
 abbrev wrong : Record → ℕ → Bool
-wrong r d = not (ltb d (disksOf r)) || isOut r.health d
+wrong r d = not (ltb d (disks_of r)) || is_out r.health d
 
 of-kept-requires : tie.Need-of-kept-requires
 of-kept-requires c κs = search rules
@@ -29,7 +29,7 @@ returns c =
     let a = c.before.before.args in
     stops (kept a.r) (disk (wrong a.r a.d) ∷ []) c.before.of-kept.ensures c.if1.true ∙ sym (out-rows a.r (capacity (geometry a.r)) 0 0 a.d)
 
-past-1 : (c : tie.Else1) → let a = c.before.before.args in refusalOf a.r (feed (out a.d) 0 0) ≡ word (disk (wrong a.r a.d) ∷ [])
+past-1 : (c : tie.Else1) → let a = c.before.before.args in refusal_of a.r (feed (out a.d) 0 0) ≡ word (disk (wrong a.r a.d) ∷ [])
 past-1 c =
     let a = c.before.before.args in
     out-rows a.r (capacity (geometry a.r)) 0 0 a.d ∙ kept_on a.r (disk (wrong a.r a.d) ∷ []) c.before.of-kept.ensures c.if1.false
@@ -44,7 +44,7 @@ returns-2 c =
     sym (past-1 c1 ∙ given 10 {c = wrong a.r a.d} [] (rw (over c.before.disks-of.ensures c.if2.true) refl))
 
 -- the first half of it does not hold
-below-N : (c : tie.Else2) → let a = c.before.before.before.before.args in wrong a.r a.d ≡ isOut a.r.health a.d
+below-N : (c : tie.Else2) → let a = c.before.before.before.before.args in wrong a.r a.d ≡ is_out a.r.health a.d
 below-N c = rw (under c.before.disks-of.ensures c.if2.false) refl
 
 is-out-requires : tie.Need-is-out-requires

@@ -10,18 +10,18 @@ use Rattle.layout.specs.Layout.{capacity}
 use Rattle.state.specs.declared.types.Record.{Record}
 use Rattle.state.specs.Good.{geometry}
 use Rattle.calls.specs.Call.{owner, feed}
-use Rattle.calls.specs.Images.{disksOf}
-use Rattle.calls.specs.Table.{Row, pastEnd, disk, word, refusalOf}
+use Rattle.calls.specs.Images.{disks_of}
+use Rattle.calls.specs.Table.{Row, past_end, disk, word, refusal_of}
 use Rattle.calls.proofs.Laws.Table.{given, skipped, owner-rows}
 use Rattle.refusals.proofs.refusal.of_owner.Statement.{statement}
 use Rattle.refusals.proofs.refusal.of_owner.Tie as tie
 
 -- the rows from 10 and from 8 on
 abbrev from-10 : Record → ℕ → List Row
-from-10 r d = disk (not (ltb d (disksOf r))) ∷ []
+from-10 r d = disk (not (ltb d (disks_of r))) ∷ []
 
 abbrev from-8 : Record → ℕ → ℕ → List Row
-from-8 r s d = pastEnd s r.stripes ∷ from-10 r d
+from-8 r s d = past_end s r.stripes ∷ from-10 r d
 
 is-unfit-requires : tie.Need-is-unfit-requires
 is-unfit-requires c κs = search rules
@@ -32,7 +32,7 @@ returns c =
     sym (owner-rows a.r (capacity (geometry a.r)) 0 0 a.s a.d
     ∙ given 1 (from-8 a.r a.s a.d) (told c.before.is-unfit.ensures c.if1.true))
 
-past-1 : (c : tie.Else1) → let a = c.before.before.args in refusalOf a.r (feed (owner a.s a.d) 0 0) ≡ word (from-8 a.r a.s a.d)
+past-1 : (c : tie.Else1) → let a = c.before.before.args in refusal_of a.r (feed (owner a.s a.d) 0 0) ≡ word (from-8 a.r a.s a.d)
 past-1 c =
     let a = c.before.before.args in
     owner-rows a.r (capacity (geometry a.r)) 0 0 a.s a.d
@@ -44,7 +44,7 @@ cast-if2 c = search rules
 returns-2 : tie.Need-returns-2
 returns-2 c = let a = c.before.before.before.before.args in sym (past-1 c.before.before ∙ given 8 (from-10 a.r a.d) (ap not (over refl c.if2.true)))
 
-past-2 : (c : tie.Else2) → let a = c.before.before.before.before.args in refusalOf a.r (feed (owner a.s a.d) 0 0) ≡ word (from-10 a.r a.d)
+past-2 : (c : tie.Else2) → let a = c.before.before.before.before.args in refusal_of a.r (feed (owner a.s a.d) 0 0) ≡ word (from-10 a.r a.d)
 past-2 c = let a = c.before.before.before.before.args in past-1 c.before.before ∙ skipped 8 (from-10 a.r a.d) (ap not (under refl c.if2.false))
 
 disks-of-requires : tie.Need-disks-of-requires

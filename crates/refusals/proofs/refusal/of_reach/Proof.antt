@@ -10,7 +10,7 @@ use Rattle.layout.specs.Layout.{capacity}
 use Rattle.state.specs.declared.types.Record.{Record}
 use Rattle.state.specs.Good.{geometry}
 use Rattle.calls.specs.Call.{read, feed}
-use Rattle.calls.specs.Table.{Row, pastEnd, blockLength, word, keptLent, refusalOf}
+use Rattle.calls.specs.Table.{Row, past_end, block_length, word, kept_lent, refusal_of}
 use Rattle.calls.proofs.Laws.Table.{stops, given, skipped, lent-on, read-rows}
 use Rattle.refusals.proofs.Laws.Ready.{ready-lent}
 use Rattle.refusals.proofs.refusal.of_reach.Statement.{statement}
@@ -18,18 +18,18 @@ use Rattle.refusals.proofs.refusal.of_reach.Tie as tie
 
 -- the rows from 9 and from 8 on
 abbrev from-9 : Record → ℕ → List Row
-from-9 r room = blockLength r room ∷ []
+from-9 r room = block_length r room ∷ []
 
 abbrev from-8 : Record → ℕ → ℕ → List Row
-from-8 r b room = pastEnd b (capacity (geometry r)) ∷ from-9 r room
+from-8 r b room = past_end b (capacity (geometry r)) ∷ from-9 r room
 
 returns : tie.Need-returns
 returns c =
     let a = c.before.args in
-    stops (keptLent a.r a.images) (from-8 a.r a.b a.room) c.before.requires c.if1.true
+    stops (kept_lent a.r a.images) (from-8 a.r a.b a.room) c.before.requires c.if1.true
     ∙ sym (read-rows a.r (capacity (geometry a.r)) a.images a.room a.b)
 
-past-1 : (c : tie.Else1) → let a = c.before.args in refusalOf a.r (feed (read a.b) a.images a.room) ≡ word (from-8 a.r a.b a.room)
+past-1 : (c : tie.Else1) → let a = c.before.args in refusal_of a.r (feed (read a.b) a.images a.room) ≡ word (from-8 a.r a.b a.room)
 past-1 c =
     let a = c.before.args in
     read-rows a.r (capacity (geometry a.r)) a.images a.room a.b
@@ -44,7 +44,7 @@ returns-2 c =
     let a = c1.before.args in
     sym (past-1 c1 ∙ given 8 (from-9 a.r a.room) (ap not (returned c.before.is_Block.ensures c.if2.true)))
 
-past-2 : (c : tie.Else2) → let a = c.before.before.before.args in refusalOf a.r (feed (read a.b) a.images a.room) ≡ word (from-9 a.r a.room)
+past-2 : (c : tie.Else2) → let a = c.before.before.before.args in refusal_of a.r (feed (read a.b) a.images a.room) ≡ word (from-9 a.r a.room)
 past-2 c =
     let c1 = c.before.before in
     let a = c1.before.args in

@@ -12,7 +12,7 @@ use Rattle.state.specs.Good.{geometry, good}
 use Rattle.state.proofs.Laws.Good.{limits}
 use Rattle.calls.specs.Call.{restart, feed}
 use Rattle.calls.specs.Images.{size}
-use Rattle.calls.specs.Table.{Row, lost, degraded, images, word, refusalOf}
+use Rattle.calls.specs.Table.{Row, lost, degraded, images, word, refusal_of}
 use Rattle.calls.proofs.Laws.Table.{given, skipped, restart-rows}
 use Rattle.refusals.proofs.refusal.of_restart.Statement.{statement}
 use Rattle.refusals.proofs.refusal.of_restart.Tie as tie
@@ -39,7 +39,7 @@ returns c =
 was-good : (c : tie.Else1) → good c.before.before.args.r ≡ true
 was-good c = went_on c.before.is-good.ensures c.if1.false
 
-past-1 : (c : tie.Else1) → let a = c.before.before.args in refusalOf a.r (feed restart a.images 0) ≡ word (from-2 a.r a.images)
+past-1 : (c : tie.Else1) → let a = c.before.before.args in refusal_of a.r (feed restart a.images 0) ≡ word (from-2 a.r a.images)
 past-1 c =
     let a = c.before.before.args in
     restart-rows a.r (capacity (geometry a.r)) a.images 0 ∙ skipped 1 (from-2 a.r a.images) (ap not (was-good c))
@@ -52,7 +52,7 @@ returns-2 c =
     let a = c.before.before.before.before.args in
     sym (past-1 c.before.before ∙ given 2 (from-3 a.r a.images) (told c.before.is_lost.ensures c.if2.true))
 
-past-2 : (c : tie.Else2) → let a = c.before.before.before.before.args in refusalOf a.r (feed restart a.images 0) ≡ word (from-3 a.r a.images)
+past-2 : (c : tie.Else2) → let a = c.before.before.before.before.args in refusal_of a.r (feed restart a.images 0) ≡ word (from-3 a.r a.images)
 past-2 c =
     let a = c.before.before.before.before.args in
     past-1 c.before.before ∙ skipped 2 (from-3 a.r a.images) (told c.before.is_lost.ensures c.if2.false)
@@ -65,7 +65,7 @@ returns-3 c =
     let a = c.before.before.before.before.before.before.args in
     sym (past-2 c.before.before ∙ given 3 (from-7 a.r a.images) (told c.before.is-degraded.ensures c.if3.true))
 
-past-3 : (c : tie.Else3) → let a = c.before.before.before.before.before.before.args in refusalOf a.r (feed restart a.images 0) ≡ word (from-7 a.r a.images)
+past-3 : (c : tie.Else3) → let a = c.before.before.before.before.before.before.args in refusal_of a.r (feed restart a.images 0) ≡ word (from-7 a.r a.images)
 past-3 c =
     let a = c.before.before.before.before.before.before.args in
     past-2 c.before.before ∙ skipped 3 (from-7 a.r a.images) (told c.before.is-degraded.ensures c.if3.false)
@@ -74,7 +74,7 @@ cast-size-with : tie.Need-overflow-cast-size-with
 cast-size-with c = search rules
 
 size-with-requires : tie.Need-size-with-requires
-size-with-requires c κs = let l = limits _ (was-good c.before.before.before.before.before) in (l, l.array.disks.m-high)
+size-with-requires c κs = let l = limits _ (was-good c.before.before.before.before.before) in (l, l.array.disks.m_high)
 
 returns-4 : tie.Need-returns-4
 returns-4 c = sym (past-3 c.before.before.before ∙ given 7 [] (ap not (other c.before.size-with.ensures c.if4.true)))

@@ -10,7 +10,7 @@ use Rattle.state.specs.declared.types.Record.{Record}
 use Rattle.state.specs.Good.{geometry}
 use Rattle.calls.specs.Call.{sweep, feed}
 use Rattle.calls.specs.Images.{size}
-use Rattle.calls.specs.Table.{Row, images, word, keptWhole, refusalOf}
+use Rattle.calls.specs.Table.{Row, images, word, kept_whole, refusal_of}
 use Rattle.calls.proofs.Laws.Table.{stops, given, skipped, whole-on, sweep-rows}
 use Rattle.refusals.proofs.Laws.Ready.{ready-whole}
 use Rattle.refusals.proofs.refusal.of_sweep.Statement.{statement}
@@ -26,10 +26,10 @@ of-whole-requires c κs = search rules
 returns : tie.Need-returns
 returns c =
     let a = c.before.before.args in
-    stops (keptWhole a.r) (from-7 a.r a.images) c.before.of-whole.ensures c.if1.true
+    stops (kept_whole a.r) (from-7 a.r a.images) c.before.of-whole.ensures c.if1.true
     ∙ sym (sweep-rows a.r (capacity (geometry a.r)) a.images 0)
 
-past-1 : (c : tie.Else1) → let a = c.before.before.args in refusalOf a.r (feed sweep a.images 0) ≡ word (from-7 a.r a.images)
+past-1 : (c : tie.Else1) → let a = c.before.before.args in refusal_of a.r (feed sweep a.images 0) ≡ word (from-7 a.r a.images)
 past-1 c =
     let a = c.before.before.args in
     sweep-rows a.r (capacity (geometry a.r)) a.images 0
@@ -42,7 +42,7 @@ size-with-requires : tie.Need-size-with-requires
 size-with-requires c κs =
     let c1 = c.before in
     let l = ready-whole c1.before.before.args.r c1.before.of-whole.ensures c1.if1.false in
-    (l, l.array.disks.m-high)
+    (l, l.array.disks.m_high)
 
 returns-2 : tie.Need-returns-2
 returns-2 c = sym (past-1 c.before.before.before ∙ given 7 [] (ap not (other c.before.size-with.ensures c.if2.true)))

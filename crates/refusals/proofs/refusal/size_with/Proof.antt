@@ -21,7 +21,7 @@ cast-result-3 c = search rules
 fits : (c : tie.Start) → Bounded (c.args.r.old + c.args.m) c.args.r.stripes c.args.r.block
 fits c =
     let l = c.requires.0 in
-    bounded _ _ _ (omega (arith, l.array.disks.n-high, c.requires.1)) l.array.stripes-high l.block-high
+    bounded _ _ _ (omega (arith, l.array.disks.n_high, c.requires.1)) l.array.stripes_high l.block_high
 
 mul-result : tie.Need-overflow-mul-result
 mul-result c = omega (arith, (fits c.before.before.before).disk)

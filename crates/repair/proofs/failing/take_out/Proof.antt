@@ -2,7 +2,7 @@
 use mathlib.Core.Path.{ap, ◌∙◌}
 use native.Mathlib.Omega.{arith}
 use borrow.Author.Rules.{rules}
-use Rattle.state.specs.Update.{withHealth}
+use Rattle.state.specs.Update.{with_health}
 use Rattle.repair.proofs.Laws.Failing.{out-asks, out_none, out-done}
 use Rattle.repair.proofs.failing.take_out.Statement.{statement}
 use Rattle.repair.proofs.failing.take_out.Tie as tie
@@ -24,7 +24,7 @@ returns-2 c =
     let i = c.before.before in
     let a = i.before.args in
     let q = out-done a.c a.r a.d i.if1.false in
-    (q.0, c.with-health.ensures ∙ ap (withHealth a.r) c.before.after-out.ensures ∙ q.1)
+    (q.0, c.with-health.ensures ∙ ap (with_health a.r) c.before.after-out.ensures ∙ q.1)
 
 pub take-out-spec : {M : Type 1} → statement M
 take-out-spec =

@@ -12,7 +12,7 @@ begin-rebuild-cut-requires c κs = search rules
 returns : tie.Need-returns
 returns c =
     let a = c.before.before.args in
-    rw (← begun-is.never-used-up (on (begin a.d) a.images.now []) a.r) c.begin-rebuild-cut.ensures
+    rw (← begun-is.never_used_up (on (begin a.d) a.images.now []) a.r) c.begin-rebuild-cut.ensures
 
 pub begin-rebuild-spec : {M : Type 1} → statement M
 begin-rebuild-spec = tie.close (tie.spec begin-rebuild-cut-requires returns)

@@ -16,7 +16,7 @@ returns : tie.Need-returns
 returns c =
     let made = c.before.before in
     let a = made.before.before.before.args in
-    rw (← begun-is.never-used-up (on (continue a.k) a.images.now []) a.r) made.continue-rebuild-cut.ensures
+    rw (← begun-is.never_used_up (on (continue a.k) a.images.now []) a.r) made.continue-rebuild-cut.ensures
 
 pub continue-rebuild-spec : {M : Type 1} → statement M
 continue-rebuild-spec = tie.close (tie.spec continue-rebuild-cut-requires same_length returns)

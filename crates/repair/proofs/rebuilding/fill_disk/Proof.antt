@@ -5,8 +5,8 @@ use borrow.Author.Rules.{rules}
 use native.Mathlib.Omega.{arith}
 use lib.ListN.{length}
 use Rattle.blocks.specs.Stripe.{others}
-use Rattle.calls.specs.Images.{stored, fillDisk}
-use Rattle.repair.proofs.Laws.Rebuilding.{Filled, filled_none, filled_more, filled-all}
+use Rattle.calls.specs.Images.{stored, fill_disk}
+use Rattle.repair.proofs.Laws.Rebuilding.{Filled, filled_none, filled_more, filled_all}
 use Rattle.repair.proofs.rebuilding.fill_disk.Statement.{statement}
 use Rattle.repair.proofs.rebuilding.fill_disk.Tie as tie
 
@@ -28,7 +28,7 @@ loop-holds c = filled_none _ _ _ _ _ _ _ _ refl
 add-rebuild-place : tie.Need-overflow-add-rebuild-place invariant-loop decreases-loop
 add-rebuild-place c =
     let p = c.before.before.before.before.before.before.before.requires in
-    omega (arith, p.2, p.0.array.stripes-high, c.before.loop-test.true)
+    omega (arith, p.2, p.0.array.stripes_high, c.before.loop-test.true)
 
 rebuild-place-requires : tie.Need-rebuild-place-requires invariant-loop decreases-loop
 rebuild-place-requires c κs =
@@ -36,8 +36,8 @@ rebuild-place-requires c κs =
     let f = in-loop.before.loop.invariant in
     let k = in-loop.before.before.before in
     let p = k.before.before.before.requires in (
-      rw (f.whole, p.4) p.0.block-low,
-      rw (f.whole, p.4) p.0.block-high,
+      rw (f.whole, p.4) p.0.block_low,
+      rw (f.whole, p.4) p.0.block_high,
       omega (arith, p.2, in-loop.loop-test.true),
       rw k.disks-of.ensures p.1,
       rw (f.whole, f.long, k.disks-of.ensures, p.3, p.4) (omega arith),
@@ -67,8 +67,8 @@ returns c =
     let k = c.before.before.before in
     let s = k.before.before.before in
     let a = s.args in
-    filled-all _ _ _ _ _ _ c.before.loop.invariant c.loop-test.false
-    ∙ ap₂ (λ (B N : ℕ). stored B a.r.stripes (fillDisk a.first a.count a.d (λ S. others B a.r.stripes a.images.now S N a.d)) a.images.now)
+    filled_all _ _ _ _ _ _ c.before.loop.invariant c.loop-test.false
+    ∙ ap₂ (λ (B N : ℕ). stored B a.r.stripes (fill_disk a.first a.count a.d (λ S. others B a.r.stripes a.images.now S N a.d)) a.images.now)
     s.requires.4 k.disks-of.ensures
 
 pub fill-disk-spec : {M : Type 1} → statement M

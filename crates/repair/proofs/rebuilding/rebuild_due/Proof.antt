@@ -5,7 +5,7 @@ use native.Mathlib.Omega.{arith}
 use borrow.Author.Rules.{rules}
 use Rattle.state.specs.declared.types.Health.{Health}
 use Rattle.state.specs.declared.types.Record.{Record}
-use Rattle.state.specs.Update.{withHealth}
+use Rattle.state.specs.Update.{with_health}
 use Rattle.repair.proofs.Laws.Rebuilding.{continue-passed, Numbers, continue-images, continue-short, continue-done}
 use Rattle.repair.proofs.rebuilding.rebuild_due.Statement.{statement}
 use Rattle.repair.proofs.rebuilding.rebuild_due.Tie as tie
@@ -103,7 +103,7 @@ returns-2 c =
     let a = b.before.before.before.before.before.before.args in
     let q = numbers b.before in
     let l = continue-done a.c a.images.now _ _ q (omega (arith, i.if1.false)) in
-    let s = c.with-health.ensures ∙ ap {B = Record} (λ (x : Health). withHealth a.r x) c.before.rebuilt-to.ensures ∙ l.1 in
+    let s = c.with-health.ensures ∙ ap {B = Record} (λ (x : Health). with_health a.r x) c.before.rebuilt-to.ensures ∙ l.1 in
     (l.0, (s, f.fill-disk-alone.ensures ∙ continue-images a.c _ _ _ q b.due2.ensures))
 
 pub rebuild-due-spec : {M : Type 1} → statement M

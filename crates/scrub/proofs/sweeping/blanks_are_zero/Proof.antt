@@ -9,7 +9,7 @@ use Rattle.layout.specs.Closed.{taken}
 use Rattle.layout.proofs.Laws.Apart.{apart}
 use Rattle.layout.proofs.Laws.Bounds.{sizes-of}
 use Rattle.state.specs.Good.{geometry}
-use Rattle.calls.specs.Images.{disksOf}
+use Rattle.calls.specs.Images.{disks_of}
 use Rattle.refusals.proofs.Laws.Places.{place-ends}
 use Rattle.scrub.proofs.Laws.Sweeping.{Looked, taken-there, looked-none, looked-all, looked-taken, looked-zero, looked-stop}
 use Rattle.scrub.proofs.sweeping.blanks_are_zero.Statement.{statement}
@@ -28,8 +28,8 @@ start c = c.before.before.before.before.before.before
 abbrev disk : tie.In-loop invariant-loop decreases-loop → ℕ
 disk c = c.before.loop.d
 
-disk-lt : (c : tie.In-loop invariant-loop decreases-loop) → disk c < disksOf (start c).args.r
-disk-lt c =
+disk_lt : (c : tie.In-loop invariant-loop decreases-loop) → disk c < disks_of (start c).args.r
+disk_lt c =
     let e = c.before.before.before.before.geometry-of.ensures in
     let n = ap (λ (g : Geometry). g.old) e in
     let m = ap (λ (g : Geometry). g.new) e in
@@ -53,7 +53,7 @@ add-disks : tie.Need-overflow-add-disks invariant-loop decreases-loop
 add-disks c =
     let e = c.before.before.geometry-of.ensures in
     let w = c.before.before.before.before.requires.0.array.disks in
-    rw e (omega (arith, w.n-high, w.m-high))
+    rw e (omega (arith, w.n_high, w.m_high))
 
 loop-holds : tie.Need-loop-init invariant-loop decreases-loop
 loop-holds c = looked-none _ _ _
@@ -65,7 +65,7 @@ is-taken-requires c κs =
     apart _ _ _ _ (rw e (sizes-of (geometry (start c).args.r) (start c).requires.0.array (start c).args.s (start c).requires.3)) k.stripe-of.ensures
 
 place-at-requires : tie.Need-place-at-requires invariant-loop decreases-loop
-place-at-requires c κs = let i = c.before.before in ((start i).requires.0, (start i).requires.3, disk-lt i)
+place-at-requires c κs = let i = c.before.before in ((start i).requires.0, (start i).requires.3, disk_lt i)
 
 cast-is-zero : tie.Need-overflow-cast-is-zero invariant-loop decreases-loop
 cast-is-zero c = search rules
@@ -73,7 +73,7 @@ cast-is-zero c = search rules
 is-zero-requires : tie.Need-is-zero-requires invariant-loop decreases-loop
 is-zero-requires c κs =
     let i = c.before.before.before.before in
-    place-ends (start i).args.r _ _ (start i).requires.3 (disk-lt i) (start i).requires.4 c.before.place_at.ensures
+    place-ends (start i).args.r _ _ (start i).requires.3 (disk_lt i) (start i).requires.4 c.before.place_at.ensures
 
 returns : tie.Need-returns invariant-loop decreases-loop
 returns c =
@@ -81,13 +81,13 @@ returns c =
     let q = z.before.before in
     let k = q.before in
     let i = k.before.before in
-    looked-stop (start i).requires.1 (start i).requires.2 i.before.loop.invariant (disk-lt i) q.place_at.ensures z.is_zero.ensures (stands k.before) k.if1.true c.if2.true
+    looked-stop (start i).requires.1 (start i).requires.2 i.before.loop.invariant (disk_lt i) q.place_at.ensures z.is_zero.ensures (stands k.before) k.if1.true c.if2.true
 
 add-d : tie.Need-overflow-add-d invariant-loop decreases-loop
 add-d c =
     let i = c.before.before in
     let w = (start i).requires.0.array.disks in
-    omega (arith, disk-lt i, w.n-high, w.m-high)
+    omega (arith, disk_lt i, w.n_high, w.m_high)
 
 loop-less : tie.Need-loop-smaller invariant-loop decreases-loop
 loop-less c = omega arith
@@ -98,7 +98,7 @@ loop-again c =
     let inv = i.before.loop.invariant in
     let whole = (start i).requires.1 in
     let closed = (start i).requires.2 in
-    ⊎_elim (λ w. looked-zero whole closed inv (disk-lt i) w.1.ensures w.3.ensures w.4.left) (λ w. looked-taken whole closed inv (disk-lt i) (stands c.before) w.left) c.if1.branch
+    ⊎_elim (λ w. looked-zero whole closed inv (disk_lt i) w.1.ensures w.3.ensures w.4.left) (λ w. looked-taken whole closed inv (disk_lt i) (stands c.before) w.left) c.if1.branch
 
 returns-2 : tie.Need-returns-2 invariant-loop decreases-loop
 returns-2 c =

@@ -5,10 +5,10 @@ use mathlib.Core.Bool.{cond}
 use native.Mathlib.Omega.{arith}
 use borrow.Author.Rules.{rules}
 use lib.Dec.{ltb}
-use Rattle.layout.specs.Layout.{openStripes}
+use Rattle.layout.specs.Layout.{open_stripes}
 use Rattle.layout.proofs.Laws.Opening.{open-le}
 use Rattle.state.specs.Good.{geometry}
-use Rattle.calls.specs.Images.{disksOf}
+use Rattle.calls.specs.Images.{disks_of}
 use Rattle.scrub.proofs.Laws.Sweeping.{summed-le, odd, even-full, even}
 use Rattle.scrub.proofs.sweeping.is_sound.Statement.{statement}
 use Rattle.scrub.proofs.sweeping.is_sound.Tie as tie
@@ -18,11 +18,11 @@ start c = c.before.before.before.before
 
 -- how many disks are summed
 count-is : (c : tie.After-summed-disks) → let r = (start c).args.r in
-    c.summed-disks.result ≡ cond (ltb (start c).args.s (openStripes (geometry r) + disksOf r)) (disksOf r) r.old
+    c.summed-disks.result ≡ cond (ltb (start c).args.s (open_stripes (geometry r) + disks_of r)) (disks_of r) r.old
 count-is c =
     let a = (start c).args in
     c.summed-disks.ensures
-    ∙ ap (λ (n : ℕ). cond (ltb a.s n) (disksOf a.r) a.r.old) (ap₂ (λ (x y : ℕ). x + y) (start c).requires.2 c.before.disks-of.ensures)
+    ∙ ap (λ (n : ℕ). cond (ltb a.s n) (disks_of a.r) a.r.old) (ap₂ (λ (x y : ℕ). x + y) (start c).requires.2 c.before.disks-of.ensures)
 
 disks-of-requires : tie.Need-disks-of-requires
 disks-of-requires c κs = search rules
@@ -34,7 +34,7 @@ add-begun : tie.Need-overflow-add-begun
 add-begun c =
     let s = c.before.before.before in
     let w = s.requires.0.array in
-    omega (arith, s.requires.2, c.disks-of.ensures, open-le (geometry s.args.r) w, w.stripes-high, w.disks.n-high, w.disks.m-high)
+    omega (arith, s.requires.2, c.disks-of.ensures, open-le (geometry s.args.r) w, w.stripes_high, w.disks.n_high, w.disks.m_high)
 
 summed-disks-requires : tie.Need-summed-disks-requires
 summed-disks-requires c κs = search rules
@@ -44,7 +44,7 @@ sums-to-zero-requires c κs =
     let k = c.before in
     let (l, w, f, ls, li, lb) = (start k).requires in
     let a = (start k).args in
-    (l, w, summed-le a.r a.s (openStripes (geometry a.r) + disksOf a.r) (count-is k), ls, li, lb)
+    (l, w, summed-le a.r a.s (open_stripes (geometry a.r) + disks_of a.r) (count-is k), ls, li, lb)
 
 same_length : tie.Need-same-length
 same_length c = search rules

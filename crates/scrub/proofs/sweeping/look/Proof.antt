@@ -4,7 +4,7 @@ use mathlib.Core.Path.{sym, ap, ◌∙◌}
 use native.Mathlib.Omega.{arith}
 use borrow.Author.Rules.{rules}
 use Rattle.layout.specs.declared.Geometry.{Geometry}
-use Rattle.layout.specs.Layout.{openStripes}
+use Rattle.layout.specs.Layout.{open_stripes}
 use Rattle.state.specs.Good.{geometry}
 use Rattle.scrub.proofs.Laws.Sweeping.{None, none_first, none_more, found, all_read}
 use Rattle.scrub.proofs.sweeping.look.Statement.{statement}
@@ -33,7 +33,7 @@ is-sound-requires c κs =
     let i = c.before in
     let s = start i in
     let f = i.before.before.before in
-    (s.pre.0, s.pre.1, f.open-stripes.ensures ∙ ap (λ (g : Geometry). openStripes g) f.before.geometry-of.ensures, i.if1.true, s.pre.2, i.before.before.loop.invariant.long)
+    (s.pre.0, s.pre.1, f.open-stripes.ensures ∙ ap (λ (g : Geometry). open_stripes g) f.before.geometry-of.ensures, i.if1.true, s.pre.2, i.before.before.loop.invariant.long)
 
 cast-t11 : tie.Need-overflow-cast-t11 invariant-loop decreases-loop
 cast-t11 c = search rules
@@ -42,7 +42,7 @@ cast-t12 : tie.Need-overflow-cast-t12 invariant-loop decreases-loop
 cast-t12 c = search rules
 
 add-t13 : tie.Need-overflow-add-t13 invariant-loop decreases-loop
-add-t13 c = let i = c.before.before.before.before.before in omega (arith, i.if1.true, (start i).requires.0.array.stripes-high)
+add-t13 c = let i = c.before.before.before.before.before in omega (arith, i.if1.true, (start i).requires.0.array.stripes_high)
 
 same_length : tie.Need-same-length invariant-loop decreases-loop
 same_length c =
@@ -57,7 +57,7 @@ returns c =
     found i.before.before.loop.invariant i.if1.true q.is-sound.ensures c.if2.true
 
 add-s : tie.Need-overflow-add-s invariant-loop decreases-loop
-add-s c = let i = c.before.before.before.before.before in omega (arith, i.if1.true, (start i).requires.0.array.stripes-high)
+add-s c = let i = c.before.before.before.before.before in omega (arith, i.if1.true, (start i).requires.0.array.stripes_high)
 
 loop-less : tie.Need-loop-smaller invariant-loop decreases-loop
 loop-less c = let i = c.before.before.before.before.before in omega (arith, i.if1.true)

@@ -26,15 +26,15 @@ cast-len : tie.Need-overflow-cast-len
 cast-len c = search rules
 
 array-borrow-prefix-block : tie.Need-array-borrow-prefix-block
-array-borrow-prefix-block c = (asked c.before.before).0.block-high
+array-borrow-prefix-block c = (asked c.before.before).0.block_high
 
 slice-aggregate-look : tie.Need-slice-aggregate-look
-slice-aggregate-look c = sym (length-prefix _ 4096 (asked c.before.before.before).0.block-high)
+slice-aggregate-look c = sym (length-prefix _ 4096 (asked c.before.before.before).0.block_high)
 
 look-requires : tie.Need-look-requires
 look-requires c κs =
     let p = asked c.before.before.before in
-    (p.0, p.1, p.2, length-prefix _ 4096 p.0.block-high)
+    (p.0, p.1, p.2, length-prefix _ 4096 p.0.block_high)
 
 returns : tie.Need-returns
 unfolding effect

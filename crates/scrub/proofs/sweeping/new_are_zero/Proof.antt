@@ -3,9 +3,9 @@ use Prim.Native.Nat.{ℕ, ◌-◌, ◌≤◌, ◌<◌}
 use mathlib.Core.Path.{refl}
 use native.Mathlib.Omega.{arith}
 use borrow.Author.Rules.{rules}
-use Rattle.layout.specs.Layout.{openStripes}
+use Rattle.layout.specs.Layout.{open_stripes}
 use Rattle.state.specs.Good.{geometry}
-use Rattle.calls.specs.Images.{disksOf}
+use Rattle.calls.specs.Images.{disks_of}
 use Rattle.refusals.proofs.Laws.Places.{place-ends}
 use Rattle.scrub.proofs.Laws.Sweeping.{Looked, looked-old, new-free, looked-all, looked-zero, looked-stop}
 use Rattle.scrub.proofs.sweeping.new_are_zero.Statement.{statement}
@@ -24,10 +24,10 @@ start c = c.before.before.before.before.before.before
 abbrev disk : tie.In-loop invariant-loop decreases-loop → ℕ
 disk c = c.before.loop.d
 
-disk-lt : (c : tie.In-loop invariant-loop decreases-loop) → disk c < disksOf (start c).args.r
-disk-lt c = c.loop-test.true
+disk_lt : (c : tie.In-loop invariant-loop decreases-loop) → disk c < disks_of (start c).args.r
+disk_lt c = c.loop-test.true
 
-closed : (c : tie.In-loop invariant-loop decreases-loop) → openStripes (geometry (start c).args.r) ≤ (start c).args.s
+closed : (c : tie.In-loop invariant-loop decreases-loop) → open_stripes (geometry (start c).args.r) ≤ (start c).args.s
 closed c = omega (arith, (start c).requires.2)
 
 cast-disks : tie.Need-overflow-cast-disks invariant-loop decreases-loop
@@ -37,7 +37,7 @@ cast-disks-2 : tie.Need-overflow-cast-disks-2 invariant-loop decreases-loop
 cast-disks-2 c = search rules
 
 add-disks : tie.Need-overflow-add-disks invariant-loop decreases-loop
-add-disks c = let w = c.before.before.before.requires.0.array.disks in omega (arith, w.n-high, w.m-high)
+add-disks c = let w = c.before.before.before.requires.0.array.disks in omega (arith, w.n_high, w.m_high)
 
 cast-d : tie.Need-overflow-cast-d invariant-loop decreases-loop
 cast-d c = search rules
@@ -46,7 +46,7 @@ loop-holds : tie.Need-loop-init invariant-loop decreases-loop
 loop-holds c = let s = c.before.before.before.before in (looked-old s.args.r s.args.images.now s.args.s s.requires.0 s.requires.1 s.requires.2 s.requires.3, omega arith)
 
 place-at-requires : tie.Need-place-at-requires invariant-loop decreases-loop
-place-at-requires c κs = ((start c).requires.0, (start c).requires.3, disk-lt c)
+place-at-requires c κs = ((start c).requires.0, (start c).requires.3, disk_lt c)
 
 cast-is-zero : tie.Need-overflow-cast-is-zero invariant-loop decreases-loop
 cast-is-zero c = search rules
@@ -54,7 +54,7 @@ cast-is-zero c = search rules
 is-zero-requires : tie.Need-is-zero-requires invariant-loop decreases-loop
 is-zero-requires c κs =
     let i = c.before.before in
-    place-ends (start i).args.r _ _ (start i).requires.3 (disk-lt i) (start i).requires.4 c.before.place_at.ensures
+    place-ends (start i).args.r _ _ (start i).requires.3 (disk_lt i) (start i).requires.4 c.before.place_at.ensures
 
 returns : tie.Need-returns invariant-loop decreases-loop
 returns c =
@@ -62,14 +62,14 @@ returns c =
     let q = z.before.before in
     let i = q.before in
     let s = start i in
-    looked-stop s.pre.1 (closed i) i.before.loop.invariant.0 (disk-lt i) q.place_at.ensures z.is_zero.ensures
+    looked-stop s.pre.1 (closed i) i.before.loop.invariant.0 (disk_lt i) q.place_at.ensures z.is_zero.ensures
     (new-free s.args.r s.args.images.now s.args.s s.pre.0 s.pre.1 s.pre.2 s.pre.3 (disk i) i.before.loop.invariant.1) refl c.if1.true
 
 add-d : tie.Need-overflow-add-d invariant-loop decreases-loop
 add-d c =
     let i = c.before.before.before.before in
     let w = (start i).requires.0.array.disks in
-    omega (arith, disk-lt i, w.n-high, w.m-high)
+    omega (arith, disk_lt i, w.n_high, w.m_high)
 
 loop-less : tie.Need-loop-smaller invariant-loop decreases-loop
 loop-less c = omega arith
@@ -79,7 +79,7 @@ loop-again c =
     let z = c.before in
     let q = z.before.before in
     let i = q.before in
-    (looked-zero (start i).requires.1 (closed i) i.before.loop.invariant.0 (disk-lt i) q.place_at.ensures z.is_zero.ensures c.if1.false, omega (arith, i.before.loop.invariant.1))
+    (looked-zero (start i).requires.1 (closed i) i.before.loop.invariant.0 (disk_lt i) q.place_at.ensures z.is_zero.ensures c.if1.false, omega (arith, i.before.loop.invariant.1))
 
 returns-2 : tie.Need-returns-2 invariant-loop decreases-loop
 returns-2 c = looked-all c.before.loop.invariant.0 c.loop-test.false

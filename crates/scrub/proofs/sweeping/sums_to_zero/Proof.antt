@@ -18,7 +18,7 @@ xor-others-requires c κs =
     let s = c.before.before.before.before.before in
     let (l, w, few, ls, li, lb) = s.requires in
     let some : 16 ≤ s.args.k = omega (arith, c.before.if1.true) in
-    rw (lb, li) (l.block-low, omega arith, ls, mul-le-mul (omega arith) (le_refl _))
+    rw (lb, li) (l.block_low, omega arith, ls, mul-le-mul (omega arith) (le_refl _))
 
 -- what the test leaves
 ahead : (c : tie.Joined1) → let a = c.before.before.before.before.args in Ahead a.r a.images.now a.s a.k c.if1.first c.if1.block

@@ -3,7 +3,7 @@ use mathlib.Core.Path.{◌≡◌, sym, ap, ◌∙◌}
 use Prim.Native.Nat.{ℕ}
 use lib.ListN.{get_or}
 use borrow.Author.Tests.{le-leb, lt-leb}
-use Rattle.state.specs.Bytes.{doneFrom, healthPlain, plain}
+use Rattle.state.specs.Bytes.{done_from, health_plain, plain}
 use Rattle.conditions.proofs.Tests.{and-true, and-false, went_on, returned}
 use borrow.Author.Rules.{rules}
 use Rattle.state.proofs.bytes.is_plain.Statement.{statement}
@@ -23,10 +23,10 @@ health-is-plain-requires c κs = search rules
 
 health-asked : (c : tie.After-health-is-plain) →
     let b = c.before.before.before.before.before.args.bytes.now in
-    c.health-is-plain.result ≡ healthPlain (get_or b 2 0) (get_or b 3 0) (doneFrom b)
+    c.health-is-plain.result ≡ health_plain (get_or b 2 0) (get_or b 3 0) (done_from b)
 health-asked c =
     let b = c.before.before.before.before.before.args.bytes.now in
-    c.health-is-plain.ensures ∙ ap (λ (x : ℕ). healthPlain (get_or b 2 0) (get_or b 3 0) x) c.before.done-from.ensures
+    c.health-is-plain.ensures ∙ ap (λ (x : ℕ). health_plain (get_or b 2 0) (get_or b 3 0) x) c.before.done-from.ensures
 
 returns : tie.Need-returns
 unfolding plain

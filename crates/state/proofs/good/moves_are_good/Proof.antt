@@ -2,7 +2,7 @@
 use mathlib.Core.Path.{sym, ap, subst, ◌∙◌}
 use lib.Dec.{leb}
 use borrow.Author.Rules.{rules}
-use Rattle.layout.specs.Layout.{totalOf}
+use Rattle.layout.specs.Layout.{total_of}
 use Rattle.layout.specs.Limits.{Sized}
 use Rattle.state.specs.Good.{geometry}
 use Rattle.conditions.proofs.Tests.{went_on, returned}
@@ -30,8 +30,8 @@ moves-fit-requires c κs =
     let s = e.before.before.before in
     subst Sized (sym c.geometry-of.ensures)
     (record {
-      disks = record { n-low = s.requires.0; n-high = s.requires.1; m-high = added-high s.args.r.new (went_on e.before.added-is-good.ensures e.if1.false) };
-      stripes-high = s.requires.2;
+      disks = record { n_low = s.requires.0; n_high = s.requires.1; m_high = added-high s.args.r.new (went_on e.before.added-is-good.ensures e.if1.false) };
+      stripes_high = s.requires.2;
     })
 
 returns-2 : tie.Need-returns-2
@@ -39,7 +39,7 @@ returns-2 c =
     let k = c.before in
     let e = k.before in
     c.moves-fit.ensures
-    ∙ ap (λ g. leb g.moves (totalOf g)) k.geometry-of.ensures
+    ∙ ap (λ g. leb g.moves (total_of g)) k.geometry-of.ensures
     ∙ count-asked (geometry e.before.before.before.args.r) (went_on e.before.added-is-good.ensures e.if1.false)
 
 pub moves-are-good-spec : {M : Type 1} → statement M

@@ -3,13 +3,13 @@ use mathlib.Core.Path.{◌≡◌, sym, ◌∙◌}
 use native.Mathlib.Omega.{arith}
 use borrow.Author.Rules.{rules}
 use Rattle.zone_moves.specs.declared.parse.Request.TheVariants.{Zone}
-use Rattle.zone_moves.specs.Request.{requestOf}
+use Rattle.zone_moves.specs.Request.{request_of}
 use Rattle.zone_moves.proofs.Laws.Answers.{zone-sized, answer-zone, answer-refused, answer-stored}
 use Rattle.zone_moves.proofs.listing.answer_to.Statement.{statement}
 use Rattle.zone_moves.proofs.listing.answer_to.Tie as tie
 
 -- what is asked for, where a zone is
-asked : (c : tie.After-n) → requestOf c.before.before.before.before.args.input.now ≡ Zone c.n.given.0.0 c.n.given.0.1.0 c.n.given.0.1.1.0
+asked : (c : tie.After-n) → request_of c.before.before.before.before.args.input.now ≡ Zone c.n.given.0.0 c.n.given.0.1.0 c.n.given.0.1.1.0
 asked c = sym c.before.before.request-of.ensures ∙ c.n.given.1
 
 request-of-requires : tie.Need-request-of-requires

@@ -1,6 +1,6 @@
 -- `field_at` meets its contract, by what its calls ensure. Assumes nothing.
 use borrow.Author.Rules.{rules}
-use Rattle.zone_moves.specs.Request.{fieldAt}
+use Rattle.zone_moves.specs.Request.{field_at}
 use Rattle.zone_moves.proofs.parse.field_at.Statement.{statement}
 use Rattle.zone_moves.proofs.parse.field_at.Tie as tie
 
@@ -23,7 +23,7 @@ field-of-requires : tie.Need-field-of-requires
 field-of-requires c κs = search rules
 
 returns : tie.Need-returns
-unfolding fieldAt
+unfolding field_at
 returns c = cc
 
 pub field-at-spec : {M : Type 1} → statement M

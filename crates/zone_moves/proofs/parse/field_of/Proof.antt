@@ -5,7 +5,7 @@ use mathlib.Core.Bool.{true}
 use borrow.Author.Rules.{rules}
 use borrow.Author.Tests.{not-true, not-false}
 use Rattle.zone_moves.specs.declared.parse.Field.TheVariants.{Number}
-use Rattle.zone_moves.specs.Request.{isDigit}
+use Rattle.zone_moves.specs.Request.{is_digit}
 use Rattle.zone_moves.proofs.Laws.Fields.{is-a-digit, field-one, field-two, field-none, field-zero, field-mixed, field-long}
 use Rattle.zone_moves.proofs.parse.field_of.Statement.{statement}
 use Rattle.zone_moves.proofs.parse.field_of.Tie as tie
@@ -14,10 +14,10 @@ is-digit-requires : tie.Need-is-digit-requires
 is-digit-requires c κs = search rules
 
 -- the first byte, and the second, are digits
-first : (c : tie.Else1) → isDigit c.before.before.args.a ≡ true
+first : (c : tie.Else1) → is_digit c.before.before.args.a ≡ true
 first c = sym c.before.is_digit.ensures ∙ not-false _ c.if1.false
 
-second : (c : tie.Else4) → isDigit c.before.before.before.before.before.before.args.b ≡ true
+second : (c : tie.Else4) → is_digit c.before.before.before.before.before.before.args.b ≡ true
 second c = sym c.before.is-digit2.ensures ∙ not-false _ c.if4.false
 
 returns : tie.Need-returns

@@ -1,15 +1,15 @@
 -- `is_digit` meets its contract: each way out is one outcome of the tests. Assumes nothing.
 use borrow.Author.Tests.{le-leb, lt-leb}
-use Rattle.zone_moves.specs.Request.{isDigit}
+use Rattle.zone_moves.specs.Request.{is_digit}
 use Rattle.zone_moves.proofs.parse.is_digit.Statement.{statement}
 use Rattle.zone_moves.proofs.parse.is_digit.Tie as tie
 
 returns : tie.Need-returns
-unfolding isDigit
+unfolding is_digit
 returns c = simp (le-leb 48 _ c.if1.true)
 
 returns-2 : tie.Need-returns-2
-unfolding isDigit
+unfolding is_digit
 returns-2 c = simp (lt-leb 48 _ c.if1.false)
 
 pub is-digit-spec : {M : Type 1} → statement M

@@ -1,31 +1,31 @@
--- `request_of` meets its contract: each way out is one case of `requestOf`. Assumes nothing.
+-- `request_of` meets its contract: each way out is one case of `request_of`. Assumes nothing.
 use Prim.Native.Nat.{◌≤◌}
 use mathlib.Core.Path.{◌≡◌, sym, ◌∙◌}
 use native.Mathlib.Omega.{arith}
 use borrow.Author.Rules.{rules}
 use Rattle.zone_moves.specs.declared.parse.Field.TheVariants.{Number, Bad}
-use Rattle.zone_moves.specs.Request.{fieldAt}
+use Rattle.zone_moves.specs.Request.{field_at}
 use Rattle.zone_moves.proofs.Laws.Fields.{field-ends, ends_there, old-bad, new-bad, zone-bad, zone-out, zone-asked}
 use Rattle.zone_moves.proofs.parse.request_of.Statement.{statement}
 use Rattle.zone_moves.proofs.parse.request_of.Tie as tie
 
 -- what each field that was read is
-read-old : (c : tie.After-known-told) → fieldAt c.before.before.before.before.before.args.s.now 0 32 ≡ Number c.before.n.given.0.0 c.before.n.given.0.1.0
+read-old : (c : tie.After-known-told) → field_at c.before.before.before.before.before.args.s.now 0 32 ≡ Number c.before.n.given.0.0 c.before.n.given.0.1.0
 read-old c = sym c.before.before.before.field_at.ensures ∙ c.before.n.given.1
 
-bad-old : (c : tie.After-enum-told) → fieldAt c.before.before.before.before.args.s.now 0 32 ≡ Bad
+bad-old : (c : tie.After-enum-told) → field_at c.before.before.before.before.args.s.now 0 32 ≡ Bad
 bad-old c = sym c.before.before.field_at.ensures ∙ c.enum_told.given.1
 
-read-new : (c : tie.After-known-told2) → fieldAt c.before.before.before.before.before.before.before.before.before.args.s.now c.before.before.before.before.before.n.given.0.1.0 32 ≡ Number c.before.m.given.0.0 c.before.m.given.0.1.0
+read-new : (c : tie.After-known-told2) → field_at c.before.before.before.before.before.before.before.before.before.args.s.now c.before.before.before.before.before.n.given.0.1.0 32 ≡ Number c.before.m.given.0.0 c.before.m.given.0.1.0
 read-new c = sym c.before.before.before.field-at2.ensures ∙ c.before.m.given.1
 
-bad-new : (c : tie.After-enum-told2) → fieldAt c.before.before.before.before.before.before.before.before.args.s.now c.before.before.before.before.n.given.0.1.0 32 ≡ Bad
+bad-new : (c : tie.After-enum-told2) → field_at c.before.before.before.before.before.before.before.before.args.s.now c.before.before.before.before.n.given.0.1.0 32 ≡ Bad
 bad-new c = sym c.before.before.field-at2.ensures ∙ c.enum-told2.given.1
 
-read-zone : (c : tie.After-known-told3) → fieldAt c.before.before.before.before.before.before.before.before.before.before.before.before.before.args.s.now c.before.before.before.before.before.m.given.0.1.0 10 ≡ Number c.before.z.given.0.0 c.before.z.given.0.1.0
+read-zone : (c : tie.After-known-told3) → field_at c.before.before.before.before.before.before.before.before.before.before.before.before.before.args.s.now c.before.before.before.before.before.m.given.0.1.0 10 ≡ Number c.before.z.given.0.0 c.before.z.given.0.1.0
 read-zone c = sym c.before.before.before.field-at3.ensures ∙ c.before.z.given.1
 
-bad-zone : (c : tie.After-enum-told3) → fieldAt c.before.before.before.before.before.before.before.before.before.before.before.before.args.s.now c.before.before.before.before.m.given.0.1.0 10 ≡ Bad
+bad-zone : (c : tie.After-enum-told3) → field_at c.before.before.before.before.before.before.before.before.before.before.before.before.args.s.now c.before.before.before.before.m.given.0.1.0 10 ≡ Bad
 bad-zone c = sym c.before.before.field-at3.ensures ∙ c.enum-told3.given.1
 
 -- where they end
