@@ -38,18 +38,15 @@
  *   byte 2       health: 0 whole, 1 one disk out, 2 lost, 3 one disk being rebuilt
  *   byte 3       the disk that is out or being rebuilt; 0 unless health is 1 or 3
  *   bytes 4-5    B, least byte first, as all numbers of more than a byte
- *   byte 6       the mark: 1 after a move whose left place is not cleared yet, else 0 (POWER CUTS)
- *   byte 7       zero
+ *   bytes 6-7    zero
  *   bytes 8-11   T
  *   bytes 12-15  t
  *   bytes 16-19  the stripes done of the disk being rebuilt; 0 unless health is 3
- *   A record is good exactly if all of these hold. Each field is in its limits. Byte 7 is zero. The disk that is out or being
- *   rebuilt is below N, and byte 3 is 0 for health 0 and 2. The stripes done are fewer than T, and bytes 16-19 are 0 for health
- *   0, 1 and 2. t is at most the total of moves (GROWTH); with m = 0, t = 0. The mark is 0 or 1, and 1 only with t above 0.
- *   pbm_format makes a good record, and every accepted call leaves one, without a mark: a caller need not set a byte of it.
- *   pbm_shape_of reads n, m, B and T of it. A record with the mark is left by a cut alone. It is good for pbm_restart and
- *   pbm_status, and for pbm_format, which looks at its length; all other calls answer 1. A record of 16 bytes, from before
- *   rebuilds in steps, becomes one of 20 by four zeroes after it.
+ *   A record is good exactly if all of these hold. Each field is in its limits. Bytes 6-7 are zero. The disk that is out or
+ *   being rebuilt is below N, and byte 3 is 0 for health 0 and 2. The stripes done are fewer than T, and bytes 16-19 are 0
+ *   for health 0, 1 and 2. t is at most the total of moves (GROWTH); with m = 0, t = 0.
+ *   pbm_format makes a good record, and every accepted call leaves one: a caller need not set a byte of it. pbm_shape_of reads
+ *   n, m, B and T of it. A record of 16 bytes, from before rebuilds in steps, becomes one of 20 by four zeroes after it.
  *
  * BLOCKS
  *   Blocks are numbered from 0. Their number is the capacity: T * (n - 1), and T * (n + m - 1) once a growth is over. While it
@@ -95,8 +92,8 @@
  *   The line waits as long as a call runs that writes (rule 4). Short are pbm_read and pbm_write: a block and its parity, or
  *   with a disk out one stripe. So are pbm_out, pbm_begin, pbm_status, pbm_locate and pbm_owner: they look at the record alone.
  *   pbm_advance makes k moves, and pbm_continue k stripes: choose k by how long the line may wait. pbm_format writes all images
- *   and pbm_grow all of the new disks, each in one go. pbm_restart reads all images and writes every parity. pbm_sweep reads up
- *   to all of the images: reads go on meanwhile, writes wait.
+ *   and pbm_grow all of the new disks, each in one go. pbm_sweep reads up to all of the images: reads go on meanwhile, writes
+ *   wait.
  *
  * WHAT THE CALLER SEES TO
  *   1. Each pointer is good for the length given with it: to read if it is const, else to read and write. (Pages of a disk
@@ -106,7 +103,7 @@
  *   4. While a call runs nothing else writes what it is lent, nor reads what it writes. So the calls on one array take
  *      turns, with a lock of the caller's if scanner and saw are threads.
  *      - pbm_read, pbm_status, pbm_locate, pbm_owner and pbm_sweep only read record and images. Any number of these five may
- *        run at once on one array, while none of the other eight does (a readers-writer lock). Each has an `into` and numbers
+ *        run at once on one array, while none of the other seven does (a readers-writer lock). Each has an `into` and numbers
  *        of its own.
  *      - A disk that is out is an exception, and so are the stripes not yet done of one that is being rebuilt. A fitter may
  *        fill such a drawer while any call runs but pbm_format and pbm_continue: no other call touches it (tested, not proved).
@@ -114,9 +111,9 @@
  *   5. Each call on an array is lent the record and the images as the last one left them. Between calls nothing else writes
  *      them, save what rule 4 excepts. No older copy takes their place: an old record beside newer images is a good record,
  *      and a block read by it may be another block.
- *   6. A call that has begun runs to its end, or else pbm_restart comes next (POWER CUTS).
- *   7. There are 16 KiB of stack left for a call. (Measured, not proved: less than 5 KiB in pbm_continue, pbm_sweep and
- *      pbm_restart, less than 1 KiB in all others. Where the dynamic linker looks up memcpy, memmove or memset, at their first use, it takes
+ *   6. A call that has begun runs to its end. See below what a kill leaves.
+ *   7. There are 16 KiB of stack left for a call. (Measured, not proved: less than 5 KiB in pbm_continue and pbm_sweep, less
+ *      than 1 KiB in all others. Where the dynamic linker looks up memcpy, memmove or memset, at their first use, it takes
  *      some 3 KiB more. Signal handlers on the same stack need theirs beside it.)
  *   Where these are kept nothing else can go wrong: any numbers, and slices of any length, get an answer, a refusal at worst.
  *   Where 5 alone is broken a call still answers, whatever bytes the record holds, and stays within what it is lent. But what
@@ -125,7 +122,7 @@
  * SOUND STRIPES
  *   A stripe is sound if its N places xor to zero and its blanks, the places of role PBM_BLANK, are zero. Where the rules
  *   above are kept all stripes of a whole array are sound. A drawer that has changed a byte by itself, an older copy of one,
- *   or a power cut may break that. pbm_sweep finds the first stripe that is not sound, whatever the images hold
+ *   or a call that was killed may break that. pbm_sweep finds the first stripe that is not sound, whatever the images hold
  *   and wherever they come from.
  *   - A sweep checks neither the order of the drawers nor the record. Two drawers exchanged can pass it. Take 3 disks with
  *     T = 1000, a growth by 2 begun, no move made, and drawers 0 and 1 exchanged: all stripes are sound. Then 1333 of 2000
@@ -138,40 +135,25 @@
  *   - Errors that cancel each other it does not find: the same bits off on two disks that have a block or the parity there,
  *     or two such places exchanged. If one of the two places is a blank, they are found.
  *
- * POWER CUTS
- *   A call stores whole blocks and whole records, one after the other. Power may be lost after any of these stores: that is a
- *   cut. pbm_restart then puts the array right. Each call makes its stores in this order:
- *       pbm_write            the parity; the data (either skipped if its disk is out, or counts as out there)
- *       pbm_advance          for each move: the copy; the record, with t raised and the mark; zeroes on the place left; the
- *                            record, without the mark
- *       pbm_format           zeroes, disk by disk; the record
- *       pbm_grow             zeroes on the new disks, disk by disk; the record
- *       pbm_out, pbm_begin   the record
- *       pbm_continue         the stripes, in rising order; the record
- *       pbm_restart          zeroes on the place left, if there is a mark; stripe by stripe zeroes on its blanks and then its
- *                            parity; the record, without the mark
- *   All other calls store nothing in record or images, nor does a call that is refused.
- *   - What is promised: after a cut, with all disks in, an accepted pbm_restart leaves every block as it was before the call
- *     that was cut, or as it is after that call. Which of the two, is settled at the cut, and shows in the record. After a
- *     pbm_advance that was cut, t lies between its two values. The capacity is that of the t left, and t's rise counts as moves
- *     made. All stripes are sound. A restart may be cut too, as often as it happens: then restart again.
- *   - A pbm_write that was cut leaves no mark, nor do most other cuts. So restart after every stop that was not clean, and not
- *     only if there is a mark. On an array that no cut has hit a restart changes nothing of its contents.
- *   - Until a restart is accepted, only pbm_restart, pbm_status and pbm_format may come. pbm_status tells the t left. After a
- *     pbm_grow that was cut before its record, the next call is lent the disks of the record left: the old ones.
- *   - Nothing is promised, until a new format: after a cut in pbm_format; after a cut that leaves a record with a disk out or
- *     being rebuilt (pbm_restart is refused then, 3); or if another call comes between a cut and the restart.
- *   What the caller sees to:
- *   - A store of a block, or of the record, is whole: after the cut it is all there or not at all.
- *   - Stores reach the disks in the order in which they are made, or are all held back until the call is over. Mapped files do
- *     neither: over a power cut the kernel writes their pages in any order. So lend memory, and write what a call has changed
- *     to a journal, as one, when it is over; or have the disks keep the order.
- *   A process that is killed, while its memory outlives it, may leave a block half stored. What a restart asks for is no more
- *   than this: with the marked place cleared, each block's own place holds it. Nothing is asked of parities, of blanks and of
- *   the marked place: these may hold any bytes. So half of a copy, of zeroes, or of a parity does no harm. Half of a write's
- *   data is half a block, and stays so: that block alone is in doubt. A record that is half stored pbm_restart does not mend.
- *   The promise is proved for stores in the order above. That the archive makes them in that order is tested on a trace of its
- *   stores (docs/TRUST.md). include/pbm_cut.h has calls that stop after so many stores, for tests of a controller.
+ * A CALL THAT IS KILLED
+ *   A process may be killed in a call while record and images outlive it, as mapped files do. Nothing is promised of them then:
+ *   the proofs speak of calls that have ended. What the library does today is tested by stopping calls inside. In doubt below
+ *   is what may be neither old nor new.
+ *   The record is written by the last few instructions of a call, once. Before those it is the old one, and images may be
+ *   half changed; among them it may be a mix of old and new.
+ *   - pbm_advance: some of its moves are made, and t counts none of them. In doubt is what these moves carry, k blocks and
+ *     parities at most; all other places are as they were. So k bounds the damage: choose it small. Do not go on with such
+ *     an array. By the old t what has moved reads as zeroes, and another advance would copy these zeroes over it.
+ *   - pbm_write: in doubt are that block and the parity of its stripe.
+ *   - pbm_format, pbm_grow, pbm_continue: the same call, made again, does it all, as long as the record is the old one. After
+ *     a killed pbm_continue no block is in doubt then: what it has made is of stripes that count as not done.
+ *   - pbm_out and pbm_begin write the record alone, the other calls neither record nor images.
+ *   Nothing here mends an array in doubt yet. If the array was whole, pbm_sweep with the old record finds that it is in doubt.
+ *   A stripe is not sound in which a pbm_advance has changed a byte, or a pbm_write some bytes and not all. It does not tell
+ *   what was to be done there. So a careful program notes elsewhere, before each write and advance, that it begins and with
+ *   which numbers, and strikes that out after it.
+ *   If power is lost, memory and files may keep some writes and lose earlier ones. None of this holds then: power cuts are not
+ *   covered yet.
  *
  * SCAN POINTS
  *   A scanner's block is often a row of 16-bit points, least byte first, whose neighbours differ little. pbm_points_pack
@@ -192,9 +174,9 @@
  *   slice that is lent, and sets every number beside it to 0. The two of SCAN POINTS have row 11 alone: "all" in another row is
  *   without them.
  *
- *    1  record            not 20 bytes long: all calls; not good: all but format; marked: all but format, status, restart
+ *    1  record            not 20 bytes long: all calls; not good: all but format
  *    2  lost              health is lost: all but format, status, locate, owner
- *    3  degraded          a disk is out or being rebuilt: grow, advance, sweep, restart
+ *    3  degraded          a disk is out or being rebuilt: grow, advance, sweep
  *    4  grown             m is not 0: grow
  *    5  nothing to move   m is 0, or t is the total: advance
  *    6  geometry          n, B or T outside its limits: format; m outside its limits: grow
@@ -217,7 +199,7 @@ extern "C" {
 #endif
 
 /* The version of this header: raised whenever the signature of a call, or the record, changes. */
-#define PBM_VERSION 2
+#define PBM_VERSION 1
 
 /* Before every call but pbm_version: a compiler that can, warns if its number is not looked at, or if a pointer is null. */
 #if defined(__GNUC__)
@@ -241,15 +223,14 @@ enum {
 /* The length of a record. */
 enum { PBM_RECORD_LEN = 20 };
 
-/* The byte of the record at which each field begins; at PBM_AT_ZERO one that is no field and must be zero. */
+/* The byte of the record at which each field begins; at PBM_AT_ZERO two that are no field and must be zero. */
 enum {
     PBM_AT_N = 0,
     PBM_AT_M = 1,
     PBM_AT_HEALTH = 2,
     PBM_AT_OUT = 3,
     PBM_AT_BLOCK_LEN = 4,
-    PBM_AT_MARK = 6,
-    PBM_AT_ZERO = 7,
+    PBM_AT_ZERO = 6,
     PBM_AT_STRIPES = 8,
     PBM_AT_MOVES = 12,
     PBM_AT_REBUILT = 16
@@ -384,7 +365,7 @@ uint8_t pbm_grow(uint8_t *record, size_t record_len, uint8_t *images, size_t ima
  * A move copies a block or a parity to its new place and zeroes the place it left. With k = 0 it makes none. Each zone that
  * is finished by these moves raises the capacity (NEW BLOCKS). Call it while pbm_status tells fewer moves than their total:
  * where that is 0, not at all. While it runs the line waits: choose k by that.
- * Lent: record, written twice for each move (POWER CUTS); images, written; made, written.
+ * Lent: record and images, written; made, written. If it is killed, k bounds what is in doubt (A CALL THAT IS KILLED).
  * Refusals: 1 record, 2 lost, 3 degraded, 5 nothing to move, 7 images.
  */
 PBM_CALL
@@ -464,17 +445,6 @@ uint8_t pbm_owner(const uint8_t *record, size_t record_len, uint64_t stripe, uin
 PBM_CALL
 uint8_t pbm_sweep(const uint8_t *record, size_t record_len, const uint8_t *images, size_t images_len,
                   uint64_t *found, uint64_t *stripe, uint64_t *read);
-
-/*
- * Puts an array right after a power cut, or any other stop that was not clean (POWER CUTS). It zeroes the place that the mark
- * speaks of, and every blank, and makes every parity afresh. Then it takes the mark off. No other block is touched, and on an
- * array that no cut has hit no content changes. Whatever the images held, all stripes are sound afterwards. The line waits
- * until all images are read and every parity is written.
- * Lent: record, written, which may have the mark; images, written.
- * Refusals: 1 record, 2 lost, 3 degraded, 7 images.
- */
-PBM_CALL
-uint8_t pbm_restart(uint8_t *record, size_t record_len, uint8_t *images, size_t images_len);
 
 /*
  * Fills `packed` with the points packed (SCAN POINTS).

@@ -1,5 +1,5 @@
 // The calls that reach one block: read, view and write. None requires anything: each asks
-// `refusals` for its number, and is made where that is 0. `write_cut` makes only the first c stores of a write: document 02, (h).
+// `refusals` for its number, and is made where that is 0.
 mod reading;
 mod types;
 mod viewing;
@@ -7,4 +7,4 @@ mod writing;
 
 pub use reading::read;
 pub use viewing::view;
-pub use writing::{write, write_cut};
+pub use writing::write;

@@ -9,9 +9,7 @@ use native.Mathlib.Omega.{arith}
 use lib.ListN.{length, get_or, length-replicate}
 use lib.Seq.{ext_get_or}
 use borrow.Author.Tests.{eq-eqb, ne_eqb}
-use Rattle.layout.specs.declared.Role.TheVariants.{Blank}
-use Rattle.layout.specs.Layout.{total_of, capacity, layout, next_stripe, next_from}
-use Rattle.layout.proofs.Laws.Layout.{lawful}
+use Rattle.layout.specs.Layout.{total_of, capacity, layout}
 use Rattle.blocks.specs.Block.{store, zeros}
 use Rattle.blocks.specs.Stripe.{place}
 use Rattle.blocks.specs.Xor.{xor_b}
@@ -24,17 +22,16 @@ use Rattle.state.specs.declared.types.Health.TheVariants.{Whole, Out, Lost, Rebu
 use Rattle.state.specs.declared.types.Health.{Health}
 use Rattle.state.specs.declared.types.Record.{Record}
 use Rattle.state.specs.Good.{geometry, GoodRecord}
-use Rattle.state.specs.Update.{formatted, grown_by, with_moves, with_health, with_mark}
+use Rattle.state.specs.Update.{formatted, grown_by, with_moves, with_health}
 use Rattle.state.proofs.Laws.Good.{rebuilding-lt}
-use Rattle.calls.specs.Call.{Call, format, read, view, write, grow, advance, out, begin, continue, status, locate, owner, sweep, restart}
+use Rattle.calls.specs.Call.{Call, format, read, view, write, grow, advance, out, begin, continue, status, locate, owner, sweep}
 use Rattle.calls.specs.Call.{Event, Answer, done, bytes, made}
 use Rattle.calls.specs.Health.{absent, after_out, rebuilt_to}
 use Rattle.calls.specs.Images.{disks_of, size, size_with, place_in, others_in, seen, Store, stored, recorded, zero_disks}
-use Rattle.calls.specs.Sound.{Sound}
 use Rattle.calls.specs.Table.{idle, refusal}
 use Rattle.calls.specs.Effect.{place_of, parity_of, scratch_left, move_stores, advance_stores, effect, answer_of, record_left, room_left}
 use Rattle.calls.specs.Alone.{moved_on}
-use Rattle.calls.specs.Acts.{Acts, OnlyDone, format-done, write_done, grow-done, out-done, begin-done, restart-done}
+use Rattle.calls.specs.Acts.{Acts, OnlyDone, format-done, write_done, grow-done, out-done, begin-done}
 use Rattle.calls.proofs.Laws.Column.{Mask, store_if}
 use Rattle.calls.proofs.Laws.Stores.{length-stored, cell-stored, stored-append, stored_last, recorded-last, column-zero}
 use Rattle.calls.proofs.Laws.Holding.{cell_in}
@@ -46,11 +43,10 @@ use Rattle.calls.proofs.Laws.Table.{some-new}
 use Rattle.calls.proofs.Laws.Moved.{moved}
 use Rattle.calls.proofs.Laws.Advance.{Carried, carried, idle-none}
 use Rattle.calls.proofs.Laws.Runs as runs
-use Rattle.calls.proofs.Laws.Kinds.{Passed, bounds, unmarked, formatting, writing, growing, moving, continuing, mending}
+use Rattle.calls.proofs.Laws.Kinds.{Passed, bounds, formatting, writing, growing, moving, continuing}
 use Rattle.calls.proofs.Laws.Kinds.{zeroed, within-grow, facts}
-use Rattle.calls.proofs.Laws.Unsound.{same_sum, from_bytes, answers-first, answers-none}
+use Rattle.calls.proofs.Laws.Unsound.{answers-first, answers-none}
 use Rattle.calls.proofs.Laws.Rebuild as rebuild
-use Rattle.calls.proofs.Laws.Restart as remake
 use Rattle.calls.proofs.Alone.{left, long_of}
 
 -- a place is what it is byte by byte
@@ -197,7 +193,7 @@ module _ (r : Record) (e : Event) where
   advance_record k z =
       let t = moving r e k z in
       let c : Carried (λ x J. Unit) k r (advance_stores k r img) img =
-      carried (λ x J. Unit) (λ x J g q p. tt) k r img (bounds r e (advance k) refl z).array (some-new (geometry r) t.busy) (unmarked r e (advance k) refl refl z) tt in
+      carried (λ x J. Unit) (λ x J g q p. tt) k r img (bounds r e (advance k) refl z).array (some-new (geometry r) t.busy) tt in
       c.state
 
   advance_answer : (k : ℕ) → Passed r e (advance k) → answer_of (effect (advance k) r e) ≡ made (risen k)
@@ -276,52 +272,6 @@ module _ (r : Record) (e : Event) where
         ∙ ap {B = Record} (λ (x : Health). with_health r x)
         (rebuild.come-to-end r.stripes o (c + min k (r.stripes - c)) (omega (arith, (rebuilding-lt r o c in-it h).1)))
 
-  -- ---- restart
-
-  module _ (z : Passed r e restart) where
-    fit : GoodRecord r
-    fit = bounds r e restart refl z
-
-    whole-size : length img ≡ size r
-    whole-size = (mending r e z).long
-
-    -- a place that it leaves, byte by byte
-    remade-is : (S d : ℕ) → S < r.stripes → d < disks_of r → (v : List ℕ) → length v ≡ r.block
-        → ((j : ℕ) → j < r.block → cell_in r (remake.remade r img) j S d ≡ get_or v j 0) → place_in r (left r e restart) S d ≡ v
-    unfolding effect
-    remade-is S d lS ld v lv same = place_is (disks_of r) r.block r.stripes (remake.remade r img) (remake.long-restart r img fit whole-size) S d lS ld v lv same
-
-    restart_record : kept restart ≡ with_mark r false
-    unfolding effect
-    restart_record = remake.recorded-restart r img
-
-    restart_cleared : r.mark ≡ true → place_in r (left r e restart) (next_stripe (remake.undone r)) (next_from (remake.undone r)) ≡ zeros r.block
-    restart_cleared m =
-        let c = remake.left-by-last r fit m in
-        remade-is (next_stripe (remake.undone r)) (next_from (remake.undone r)) c.stripe_lt c.from_lt (zeros r.block) (length-replicate {A = ℕ} r.block 0)
-        (λ j lj. remake.cleared-zero r img fit whole-size j (next_stripe (remake.undone r)) lj c.stripe_lt m refl ∙ sym (get_or-zeros r.block j))
-
-    restart_blanks : (S d : ℕ) → S < r.stripes → d < disks_of r → (layout (geometry r)).owner S d ≡ Blank → place_in r (left r e restart) S d ≡ zeros r.block
-    restart_blanks S d l ld o =
-        remade-is S d l ld (zeros r.block) (length-replicate {A = ℕ} r.block 0)
-        (λ j lj. remake.blank-zero r img fit whole-size j S lj l d ld o ∙ sym (get_or-zeros r.block j))
-
-    restart_parity : (S : ℕ) → S < r.stripes →
-        place_in r (left r e restart) S ((layout (geometry r)).parity S) ≡ others_in r (left r e restart) S ((layout (geometry r)).parity S)
-    unfolding effect
-    restart_parity S l =
-        let p : ℕ = (layout (geometry r)).parity S in
-        let J : List ℕ = remake.remade r img in
-        remade-is S p l ((lawful (geometry r) fit.array).parity_lt S l) (others_in r J S p) (length-others r.block r.stripes J S (disks_of r) p)
-        (λ j lj. remake.parity-anew r img fit whole-size j S lj l ∙ sym (get_or-others r.block r.stripes J S (disks_of r) p j lj))
-
-    restart_sound : (S : ℕ) → S < r.stripes → Sound (with_mark r false) (left r e restart) S
-    unfolding effect
-    restart_sound S l =
-        from_bytes (with_mark r false) (remake.remade r img) S (mending r e z).all_in (remake.long-restart r img fit whole-size) l
-        (λ j lj. sym (same_sum (disks_of r) (cell_in r (remake.remade r img) j S)) ∙ remake.sums-to-zero r img fit whole-size j S lj l)
-        (λ d j ld lj o. remake.blank-zero r img fit whole-size j S lj l d ld o)
-
   -- ---- calls that have nothing to tell
 
   only_done : {c : Call} → OnlyDone c → answer_of (effect c r e) ≡ done
@@ -331,7 +281,6 @@ module _ (r : Record) (e : Event) where
   only_done (grow-done m) = refl
   only_done (out-done d) = refl
   only_done (begin-done d) = refl
-  only_done restart-done = refl
 
 -- ---- every call
 
@@ -368,13 +317,6 @@ acts e r z =
       continue_end = λ k o c q h l. of_record (continue k) _ q (λ x. continue_end r e k o c h x l);
       sweep_first = λ S q l no f. of-answer sweep _ q (λ x. answers-first r e.images S l no f);
       sweep_none = λ q f. of-answer sweep _ q (λ x. answers-none r e.images f);
-      restart_record = λ q. of_record restart _ q (restart_record r e);
-      restart_cleared = λ q m. of-place _ _ restart _ q (λ x. restart_cleared r e x m);
-      restart_blanks = λ q S d l ld o. of-place S d restart _ q (λ x. restart_blanks r e x S d l ld o);
-      restart_parity = λ q S l.
-          let p : ℕ = (layout (geometry r)).parity S in
-          subst (λ (c : Call). place_in r (left r e c) S p ≡ others_in r (left r e c) S p) (sym q) (restart_parity r e (of-call restart q) S l);
-      restart_sound = λ q S l. subst (λ (c : Call). Sound (with_mark r false) (left r e c) S) (sym q) (restart_sound r e (of-call restart q) S l);
       status_answer = λ q. of-answer status _ q (λ x. refl);
       locate_answer = λ b q. of-answer (locate b) _ q (λ x. refl);
       owner_answer = λ S d q. of-answer (owner S d) _ q (λ x. refl);
@@ -383,9 +325,6 @@ acts e r z =
     }
   where
     -- what holds of the call that this is
-    of-call : (c : Call) → e.call ≡ c → Passed r e c
-    of-call c q = subst (λ (x : Call). Passed r e x) q z
-
     of-images : (c : Call) (v : List ℕ) → e.call ≡ c → (Passed r e c → left r e c ≡ v) → left r e e.call ≡ v
     of-images c v q f = subst (λ (x : Call). Passed r e x → left r e x ≡ v) (sym q) f z
 

@@ -6,18 +6,17 @@ use mathlib.Core.Logic.{◌⊎◌, ◌≢◌}
 use mathlib.Core.List.{List, []}
 use native.Mathlib.Omega.{arith}
 use lib.ListN.{length}
-use Rattle.layout.specs.declared.Role.TheVariants.{Data}
-use Rattle.layout.specs.Layout.{layout, next_stripe, next_from}
+use Rattle.layout.specs.Layout.{layout}
 use Rattle.blocks.proofs.Laws.Grid.{Grid}
 use Rattle.state.specs.declared.types.Health.TheVariants.{Rebuilding}
 use Rattle.state.specs.declared.types.Record.{Record}
 use Rattle.state.specs.Good.{geometry}
-use Rattle.calls.specs.Call.{Call, view, write, grow, continue, status, locate, owner, restart, Event, on, feed, count}
+use Rattle.calls.specs.Call.{Call, view, write, grow, continue, status, locate, owner, Event, on, feed, count}
 use Rattle.state.specs.Update.{grown_by}
 use Rattle.calls.specs.Health.{absent}
 use Rattle.calls.specs.Images.{disks_of, size, size_with, place_in, stored_in}
 use Rattle.calls.specs.Table.{refusal_of}
-use Rattle.calls.specs.Effect.{place_of, parity_of, scratch_left, restart_stores, effect, images_left, room_left, act, untouched, settle, called}
+use Rattle.calls.specs.Effect.{place_of, parity_of, scratch_left, effect, images_left, room_left, act, untouched, settle, called}
 use Rattle.calls.specs.Alone.{Stays, Alone, RecordOnly}
 use Rattle.calls.proofs.Laws.Column.{store_if}
 use Rattle.calls.proofs.Laws.Stores.{length-stored, cell-stored, stored_last, column-below}
@@ -25,9 +24,8 @@ use Rattle.calls.proofs.Laws.Holding.{cell_in}
 use Rattle.calls.proofs.Laws.Write.{parity-is, cell-write}
 use Rattle.calls.proofs.Laws.Kept.{same_place, store_if-other, store_if-masked}
 use Rattle.calls.proofs.Laws.Table.{status-rows, locate-rows, owner-rows}
-use Rattle.calls.proofs.Laws.Kinds.{Passed, bounds, writing, growing, continuing, mending, zeroed, within-grow, facts}
+use Rattle.calls.proofs.Laws.Kinds.{Passed, bounds, writing, growing, continuing, zeroed, within-grow, facts}
 use Rattle.calls.proofs.Laws.Rebuild as rebuild
-use Rattle.calls.proofs.Laws.Restart as restart
 
 module _ (r : Record) (e : Event) where
   abbrev img : List ℕ
@@ -101,17 +99,6 @@ module _ (r : Record) (e : Event) where
       (length-stored r.block r.stripes (rebuild.remade r img o c h k) img) S d lS ld
       (λ j lj. rebuild.cell_apart r img o c h k l long j S d lj lS far))
 
-  -- a place of which a mark, if there is one, is not
-  restart_others : Passed r e restart → (S d b : ℕ) → S < r.stripes → d < disks_of r → (layout (geometry r)).owner S d ≡ Data b
-      → (r.mark ≡ true → S ≡ next_stripe (restart.undone r) → d ≢ next_from (restart.undone r)) → place_in r (left restart) S d ≡ place_in r img S d
-  unfolding effect
-  restart_others z S d b lS ld o far =
-      let l = bounds r e restart refl z in
-      let long : length img ≡ size r = (mending r e z).long in
-      same_place (disks_of r) r.block r.stripes (length img) long img (restart.remade r img) refl
-      (length-stored r.block r.stripes (restart_stores r img) img) S d lS ld
-      (λ j lj. restart.data_stays r img l long j S lj lS d b ld o ∙ restart.cleared-other r (cell_in r img j) S d far)
-
 -- how many stripes a continue reports
 counted : (e : Event) (r : Record) (k o c : ℕ) → e.call ≡ continue k → r.health ≡ Rebuilding o c → count (act e r).answer ≡ min k (r.stripes - c)
 unfolding effect
@@ -134,7 +121,6 @@ alone e r z =
       grow_old = λ m q S d lS ld. kept S d (grow m) q (λ x. grow_old r e m x S d lS ld);
       continue_others = λ k o c q h S d lS ld far. kept S d (continue k) q
           (λ x. continue_others r e k o c h x S d lS ld (λ p. subst (λ (n : ℕ). (S < c) ⊎ (c + n ≤ S)) (counted e r k o c q h) (far p)));
-      restart_others = λ q S d b lS ld o far. kept S d restart q (λ x. restart_others r e x S d b lS ld o far);
     }
   where
     -- what holds of the call that this is

@@ -2,7 +2,6 @@
 pub mod Column
 pub mod Carry
 pub mod Stores
-pub mod Blocks
 pub mod Runs
 pub mod Rows
 pub mod Health
@@ -24,9 +23,6 @@ pub mod Advance
 pub mod Out
 pub mod Rebuild
 pub mod Swept
-pub mod Restart
 pub mod Kept
 pub mod Kinds
-pub mod Cut
-pub mod Few
 pub mod OnBytes

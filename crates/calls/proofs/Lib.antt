@@ -8,4 +8,3 @@ pub mod Alone
 pub mod OneMove
 pub mod Acts
 pub mod Sweep
-pub mod Begun

@@ -1,8 +1,8 @@
 -- The number that each call is given, by facts: `numbered`. Assumes nothing.
 use Prim.Native.Nat.{ℕ, ◌+◌, ◌*◌}
 use mathlib.Core.Path.{◌≡◌, refl, ap}
-use mathlib.Core.Bool.{Bool, true, false, cond, not, ◌||◌}
-use mathlib.Core.Logic.{◌⊎◌, ◌≢◌}
+use mathlib.Core.Bool.{Bool, true, false, not, ◌||◌}
+use mathlib.Core.Logic.{◌≢◌}
 use mathlib.Core.List.{List, [], ◌∷◌}
 use lib.Dec.{eqb}
 use lib.ListN.{length}
@@ -12,18 +12,18 @@ use Rattle.conditions.proofs.Tests.{equal}
 use Rattle.state.specs.declared.types.Health.TheVariants.{Lost}
 use Rattle.state.specs.declared.types.Record.{Record}
 use Rattle.state.specs.Good.{geometry, good, GoodRecord}
-use Rattle.state.specs.Bytes.{record_length, decode, good_bytes, encode}
+use Rattle.state.specs.Bytes.{record_length, good_bytes, encode}
 use Rattle.state.proofs.Laws.Good.{limits}
 use Rattle.state.proofs.Theorem.{good-is}
 use Rattle.calls.specs.Call.{Call, column, format, read, view, write, grow, advance, out, begin, continue}
-use Rattle.calls.specs.Call.{status, locate, owner, sweep, restart, feed}
+use Rattle.calls.specs.Call.{status, locate, owner, sweep, feed}
 use Rattle.calls.specs.Health.{is_lost}
 use Rattle.calls.specs.Images.{disks_of, size, size_with}
-use Rattle.calls.specs.Table.{idle, bad_record, bad_geometry, images, past_end, block_length, formable, looks, takes_marked}
+use Rattle.calls.specs.Table.{idle, bad_record, bad_geometry, images, past_end, block_length, formable, looks}
 use Rattle.calls.specs.Table as rows
 use Rattle.calls.specs.Table.{terms, later_rows, table, refusal, rows_bytes, refusal_bytes}
-use Rattle.calls.specs.Numbered.{Reason, Gives, Outside, NotLong, bad, lost, degraded, reached, formed, Numbered, unfit}
-use Rattle.calls.proofs.Laws.Reasons.{Tells, exactly, Told, gives, differ, past, outside, not_good, is-lost, is-degraded, is-idle, is-other, none-rebuilt, unformable, out-or-past, not-fit}
+use Rattle.calls.specs.Numbered.{Reason, Gives, Outside, NotLong, bad, lost, degraded, reached, formed, Numbered}
+use Rattle.calls.proofs.Laws.Reasons.{Tells, exactly, Told, gives, differ, past, outside, not_good, is-lost, is-degraded, is-idle, is-other, none-rebuilt, unformable, out-or-past}
 use Rattle.calls.proofs.Laws.OnBytes.{refusal-encode}
 
 -- format's rows, but for the first
@@ -34,9 +34,9 @@ forms n B T len = (refl, unformable n B T, λ u. (refl, differ len (n * (T * B))
 -- how the rows of many calls begin: 1, 2; A is what is told after them
 module _ (r : Record) {A : Type 0} where
   here : (is_lost r.health ≡ false → A)
-      → (◌≡◌ {A = ℕ} 1 1) × Tells (not (good r) || r.mark) ((GoodRecord r → ⊥) ⊎ (r.mark ≡ true))
-      × ((not (good r) || r.mark) ≡ false → (◌≡◌ {A = ℕ} 2 2) × Tells (is_lost r.health) (r.health ≡ Lost) × (is_lost r.health ≡ false → A))
-  here f = (refl, not-fit r, λ g. (refl, is-lost r.health, f))
+      → (◌≡◌ {A = ℕ} 1 1) × Tells (not (good r)) (GoodRecord r → ⊥)
+      × (not (good r) ≡ false → (◌≡◌ {A = ℕ} 2 2) × Tells (is_lost r.health) (r.health ≡ Lost) × (is_lost r.health ≡ false → A))
+  here f = (refl, not_good r, λ g. (refl, is-lost r.health, f))
 
 module _ (r : Record) (c len room : ℕ) where
   say : (x : Call) (reasons : List Reason) → Told (table x false (not (good r)) r c len room) reasons → Gives (refusal r c (feed x len room)) reasons
@@ -44,12 +44,12 @@ module _ (r : Record) (c len room : ℕ) where
   say x reasons t = gives (table x false (not (good r)) r c len room) reasons t
 
   -- read, view and write, whose rows are the same
-  reaches : (b lent : ℕ) → Told (rows.unmarked r ∷ rows.lost r ∷ images (size r) len ∷ past_end b c ∷ block_length r lent ∷ []) (reached r c b len lent)
+  reaches : (b lent : ℕ) → Told (bad_record (not (good r)) ∷ rows.lost r ∷ images (size r) len ∷ past_end b c ∷ block_length r lent ∷ []) (reached r c b len lent)
   unfolding Told
   reaches b lent = here r (λ nl. (refl, differ len (size r), λ u. (refl, past b c, λ v. (refl, differ lent r.block, λ w. tt))))
 
   of-grow : (m : ℕ) → Gives (refusal r c (feed (grow m) len room))
-      (unfit r ∷ lost r ∷ degraded r ∷ (4, r.new ≢ 0) ∷ (6, Outside 1 m 16) ∷ (7, NotLong r (r.old + m) len) ∷ [])
+      (bad r ∷ lost r ∷ degraded r ∷ (4, r.new ≢ 0) ∷ (6, Outside 1 m 16) ∷ (7, NotLong r (r.old + m) len) ∷ [])
   unfolding table later_rows terms Told
   of-grow m = say (grow m) _
       (here r (λ nl. (
@@ -67,17 +67,16 @@ format_on_bytes b len room n B T =
     (refl, differ (length b) 20, λ u. forms n B T len)
 
 module _ (b : List ℕ) (x : Call) (len room : ℕ) (are : AreBytes b) (ne : column x ≢ 0) (none : (r : Record) → GoodRecord r → encode r ≢ b) where
-  not-a-record : (s g m k : Bool) → not (eqb (length b) record_length) ≡ s → good_bytes b ≡ g → (s || cond m (not g) (not g || k)) ≡ true
-  not-a-record true g m k p q = refl
-  not-a-record false false true k p q = refl
-  not-a-record false false false k p q = refl
-  not-a-record false true m k p q = let (r, g, e) = (good-is.bytes b are (equal _ _ p)).0 q in absurd (none r (limits r g) e)
+  not-a-record : (s g : Bool) → not (eqb (length b) record_length) ≡ s → good_bytes b ≡ g → (s || not g) ≡ true
+  not-a-record true g p q = refl
+  not-a-record false false p q = refl
+  not-a-record false true p q = let (r, g, e) = (good-is.bytes b are (equal _ _ p)).0 q in absurd (none r (limits r g) e)
 
   no_record : refusal_bytes b (feed x len room) ≡ 1
   unfolding refusal_bytes rows_bytes table
   no_record =
       let l : looks x ≡ true = ap not (ne_eqb (column x) 0 ne) in
-      rw (l, not-a-record (not (eqb (length b) record_length)) (good_bytes b) (takes_marked x) (decode b).mark refl refl) refl
+      rw (l, not-a-record (not (eqb (length b) record_length)) (good_bytes b) refl refl) refl
 
 pub numbered : Numbered
 unfolding refusal table later_rows terms Told
@@ -99,11 +98,9 @@ numbered =
       of-sweep = λ r c len room. say r c len room sweep _
           (here r (λ nl. (refl, is-degraded r.health nl, λ u. (refl, differ len (size r), λ v. tt))));
       of-status = λ r c len room. say r c len room status _ (refl, not_good r, λ g. tt);
-      of-restart = λ r c len room. say r c len room restart _
-          (refl, not_good r, λ g. (refl, is-lost r.health, λ nl. (refl, is-degraded r.health nl, λ u. (refl, differ len (size r), λ v. tt))));
-      of-locate = λ r c len room b. say r c len room (locate b) _ (refl, not-fit r, λ g. (refl, past b c, λ u. tt));
+      of-locate = λ r c len room b. say r c len room (locate b) _ (refl, not_good r, λ g. (refl, past b c, λ u. tt));
       of_owner = λ r c len room S d. say r c len room (owner S d) _
-          (refl, not-fit r, λ g. (refl, past S r.stripes, λ u. (refl, past d (disks_of r), λ v. tt)));
+          (refl, not_good r, λ g. (refl, past S r.stripes, λ u. (refl, past d (disks_of r), λ v. tt)));
       format_on_bytes = format_on_bytes;
       no_record = no_record;
       own_bytes = λ r x len room. refusal-encode r (feed x len room);

@@ -1,25 +1,18 @@
 -- Stores in bare numbers: `storing` and `stores-in-order`. Assumes nothing.
 use Prim.Native.Nat.{ℕ, zero, suc, ◌+◌, ◌-◌, ◌*◌, min}
-use mathlib.Core.Path.{◌≡◌, refl, sym, ap, ◌∙◌, subst}
-use mathlib.Core.Bool.{Bool, true, false, cond, not}
-use mathlib.Core.Logic.{◌≢◌}
+use mathlib.Core.Path.{◌≡◌, refl, ap}
+use mathlib.Core.Bool.{true, false}
 use mathlib.Core.List.{List, [], ◌∷◌, ◌++◌, append-nil}
-use Rattle.layout.specs.declared.Geometry.{Geometry}
-use Rattle.layout.specs.declared.Role.TheVariants.{Data, Parity, Blank}
-use Rattle.layout.specs.declared.Role.{Role}
-use Rattle.layout.specs.Layout.{at, is_blank, layout, next_stripe, next_from}
-use Rattle.blocks.specs.Block.{zeros}
 use Rattle.blocks.proofs.Laws.Block.{get_or-store-other}
 use Rattle.state.specs.declared.types.Health.{Health}
 use Rattle.state.specs.declared.types.Record.{Record}
 use Rattle.state.specs.Bytes.{stripes_done}
 use Rattle.state.specs.Good.{geometry}
-use Rattle.state.specs.Update.{formatted, grown_by, with_moves}
+use Rattle.state.specs.Update.{formatted, grown_by}
 use Rattle.calls.specs.Call.{Event, done}
-use Rattle.calls.specs.Images.{Store, block, header, stored, stored_in, recorded, unless}
+use Rattle.calls.specs.Images.{Store, header, stored, recorded}
 use Rattle.calls.specs.Table.{idle}
-use Rattle.calls.specs.Effect.{write_stores, move_stores, advance_stores, clear_stores, zero_blanks, mend_stripe, mend_stripes, restart_stores}
-use Rattle.calls.specs.Effect.{Effect, stores, effect, answer_of, record_left, images_left, room_left, Left}
+use Rattle.calls.specs.Effect.{write_stores, move_stores, advance_stores, Effect, stores, effect, answer_of, record_left, images_left, room_left, Left}
 use Rattle.calls.specs.Stores.{Storing, StoresInOrder}
 use Rattle.calls.proofs.Laws.Stores.{get_or-stored, length-stored, stored-append, recorded-append, zero-each}
 
@@ -57,34 +50,8 @@ one_move : (r : Record) (img : List ℕ) → idle (geometry r) ≡ false → adv
 unfolding advance_stores
 one_move r img q = rw (q, advance_stores) (append-nil (move_stores r img))
 
--- the next move, and whatever comes then
-more_moves : (k : ℕ) (r : Record) (img : List ℕ) → idle (geometry r) ≡ false
-    → advance_stores (suc k) r img ≡ move_stores r img ++ advance_stores k (with_moves r (suc r.moves)) (stored_in r (move_stores r img) img)
-unfolding advance_stores recorded move_stores
-more_moves k r img q =
-    let ps : List Store = move_stores r img ++ advance_stores k (with_moves r (suc r.moves)) (stored_in r (move_stores r img) img) in
-    subst (λ (b : Bool). ◌≡◌ {A = List Store} (elim b as (λ y. List Store) [ true ↦ [] | false ↦ ps ]) ps) (sym q) refl
-
--- ---- restart's: the marked place, and a place that is no blank
-
-cleared-if : (r : Record) (m : Bool) → r.mark ≡ m → let g = at (geometry r) (r.moves - 1) in
-    clear_stores r ≡ cond m (block (next_stripe g) (next_from g) (zeros r.block) ∷ []) []
-unfolding clear_stores
-cleared-if r m q = let g : Geometry = at (geometry r) (r.moves - 1) in ap (λ (m : Bool). cond m (block (next_stripe g) (next_from g) (zeros r.block) ∷ []) []) q
-
-not-blank : (x : Role) (s : Store) → x ≢ Blank → unless (not (is_blank x)) s ≡ []
-not-blank (Data b) s ne = refl
-not-blank Parity s ne = refl
-not-blank Blank s ne = absurd (ne refl)
-
-no_blank : (r : Record) (S d : ℕ) → (layout (geometry r)).owner S d ≢ Blank → zero_blanks r S (suc d) ≡ zero_blanks r S d
-unfolding zero_blanks
-no_blank r S d ne =
-    ap (λ (ps : List Store). zero_blanks r S d ++ ps) (not-blank ((layout (geometry r)).owner S d) (block S d (zeros r.block)) ne)
-    ∙ append-nil (zero_blanks r S d)
-
 pub stores-in-order : StoresInOrder
-unfolding effect write_stores move_stores advance_stores recorded restart_stores mend_stripes mend_stripe zero_blanks
+unfolding effect write_stores move_stores advance_stores recorded
 stores-in-order =
     record {
       of_format = λ r e n B T. ap (λ (ps : List Store). stores done (formatted n B T) (ps ++ header (formatted n B T) ∷ [])) (zero-each B T 0 n);
@@ -104,15 +71,6 @@ stores-in-order =
       no_move = λ r img. refl;
       none_left = none_left;
       one_move = one_move;
-      more_moves = more_moves;
       of-continue = λ r e k. refl;
       stripes-made = λ r k o c h. ap (λ (x : Health). min k (r.stripes - stripes_done x)) h;
-      of-restart = λ r e. refl;
-      marked_cleared = λ r q. cleared-if r true q;
-      none_cleared = λ r q. cleared-if r false q;
-      no_stripe = λ r img. refl;
-      one_stripe_more = λ r img S. refl;
-      no_disk = λ r S. refl;
-      a_blank = λ r S d q. ap (λ (x : Role). zero_blanks r S d ++ unless (not (is_blank x)) (block S d (zeros r.block))) q;
-      no_blank = no_blank;
     }

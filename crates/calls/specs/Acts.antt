@@ -2,19 +2,18 @@
 -- Document 01, Calls. What it leaves alone is `Alone`, what a single move does `OneMove`, both of Alone.
 -- The statement is `Acts`; `acts` of proofs/Acts.antt proves it.
 use Rattle.std.specs.Prelude.{ℕ, suc, ◌+◌, ◌-◌, ◌*◌, ◌≤◌, ◌<◌, min, ◌≡◌, true, false, ◌≢◌, List}
-use Rattle.layout.specs.declared.Role.TheVariants.{Blank}
-use Rattle.layout.specs.Layout.{total_of, at, capacity, layout, next_stripe, next_from}
+use Rattle.layout.specs.Layout.{total_of, capacity, layout}
 use Rattle.blocks.specs.Block.{zeros}
 use Rattle.blocks.specs.Xor.{xor_b}
 use Rattle.state.specs.declared.types.Health.TheVariants.{Whole, Out, Lost, Rebuilding}
 use Rattle.state.specs.declared.types.Record.{Record}
 use Rattle.state.specs.Good.{geometry}
 use Rattle.calls.specs.Call.{Call, format, read, view, write, grow, advance, out, begin, continue}
-use Rattle.calls.specs.Call.{status, locate, owner, sweep, restart}
+use Rattle.calls.specs.Call.{status, locate, owner, sweep}
 use Rattle.calls.specs.Call.{Event, on, fed, done, bytes, made, all_sound, unsound_at, figures, placed, owned}
-use Rattle.state.specs.Update.{formatted, grown_by, with_moves, with_health, with_mark}
+use Rattle.state.specs.Update.{formatted, grown_by, with_moves, with_health}
 use Rattle.calls.specs.Health.{absent}
-use Rattle.calls.specs.Images.{disks_of, place_in, others_in, seen}
+use Rattle.calls.specs.Images.{place_in, others_in, seen}
 use Rattle.calls.specs.Sound.{Sound}
 use Rattle.calls.specs.Table.{idle, refusal_of}
 use Rattle.calls.specs.Effect.{place_of, act}
@@ -36,7 +35,6 @@ pub data StoresRecord : Call → Type 0 where
   out-records : (d : ℕ) → StoresRecord (out d)
   begin-records : (d : ℕ) → StoresRecord (begin d)
   continue-records : (k : ℕ) → StoresRecord (continue k)
-  restart-records : StoresRecord restart
 
 -- the calls that have nothing to tell
 pub data OnlyDone : Call → Type 0 where
@@ -45,7 +43,6 @@ pub data OnlyDone : Call → Type 0 where
   grow-done : (m : ℕ) → OnlyDone (grow m)
   out-done : (d : ℕ) → OnlyDone (out d)
   begin-done : (d : ℕ) → OnlyDone (begin d)
-  restart-done : OnlyDone restart
 
 -- what is claimed of one call e on a record r ..
 pub record Does (e : Event) (r : Record) : Type 0 where
@@ -108,19 +105,6 @@ pub record Does (e : Event) (r : Record) : Type 0 where
   pub sweep_first : (S : ℕ) → e.call ≡ sweep → S < r.stripes → ¬ Sound r e.images S
       → ((R : ℕ) → R < S → Sound r e.images R) → (act e r).answer ≡ unsound_at S (S + 1)
   pub sweep_none : e.call ≡ sweep → ((S : ℕ) → S < r.stripes → Sound r e.images S) → (act e r).answer ≡ all_sound r.stripes
-  -- restart: "takes the mark off", and leaves all else of the record ..
-  pub restart_record : e.call ≡ restart → (act e r).state ≡ with_mark r false
-  -- .. "clears a marked place", the one that the last move left ..
-  pub restart_cleared : e.call ≡ restart → r.mark ≡ true → let g = at (geometry r) (r.moves - 1) in
-      left_at e r (next_stripe g) (next_from g) ≡ zeros r.block
-  -- .. "zeroes blanks" ..
-  pub restart_blanks : e.call ≡ restart → (S d : ℕ) → S < r.stripes → d < disks_of r → (layout (geometry r)).owner S d ≡ Blank
-      → left_at e r S d ≡ zeros r.block
-  -- .. and "makes every parity afresh": the xor of the stripe's other places, as it leaves them ..
-  pub restart_parity : e.call ≡ restart → (S : ℕ) → S < r.stripes → let p = (layout (geometry r)).parity S in
-      left_at e r S p ≡ others_in r (act e r).images S p
-  -- .. so that all stripes are sound, whatever it was lent
-  pub restart_sound : e.call ≡ restart → (S : ℕ) → S < r.stripes → Sound (with_mark r false) (act e r).images S
   -- status: "capacity, t, total, health"; locate: "block place, parity place and whether a move now done, of any growth, carried the block
   -- itself" (document 02, (f)); owner: "the block number there, or parity, or blank"
   pub status_answer : e.call ≡ status

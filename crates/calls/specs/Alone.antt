@@ -2,16 +2,14 @@
 -- .. stays inside what it was lent".
 -- The statements are `Alone`, `OneMove` and `RecordOnly`; `alone` and `record-only` of proofs/Alone.antt and `one_move` of
 -- proofs/OneMove.antt prove them. (A refused call leaves everything alone: `Demand1` of Theorem.)
-use Rattle.std.specs.Prelude.{ℕ, ◌+◌, ◌-◌, ◌≤◌, ◌<◌, ◌≡◌, true, false, ◌⊎◌, ◌≢◌, List, [], ◌∷◌, length}
-use Rattle.layout.specs.declared.Role.TheVariants.{Data}
-use Rattle.layout.specs.Layout.{at, layout, next_stripe, next_from, next_to}
+use Rattle.std.specs.Prelude.{ℕ, ◌+◌, ◌≤◌, ◌<◌, ◌≡◌, true, false, ◌⊎◌, ◌≢◌, List, [], ◌∷◌, length}
+use Rattle.layout.specs.Layout.{layout, next_stripe, next_from, next_to}
 use Rattle.blocks.specs.Block.{zeros}
 use Rattle.blocks.specs.Stripe.{offset}
 use Rattle.state.specs.declared.types.Health.TheVariants.{Rebuilding}
 use Rattle.state.specs.declared.types.Record.{Record}
 use Rattle.state.specs.Good.{geometry, good}
-use Rattle.calls.specs.Call.{Call, format, read, view, write, grow, advance, continue, status, locate, owner, restart}
-use Rattle.calls.specs.Call.{Event, on, fed, count}
+use Rattle.calls.specs.Call.{Call, format, read, view, write, grow, advance, continue, status, locate, owner, Event, on, fed, count}
 use Rattle.calls.specs.Health.{absent}
 use Rattle.calls.specs.Images.{disks_of, size, place_in, Store, block, header, stored_in}
 use Rattle.calls.specs.Table.{idle, refusal_of}
@@ -42,7 +40,6 @@ pub data StoresBlocks : Call → Type 0 where
   grow_stores : (m : ℕ) → StoresBlocks (grow m)
   advance-stores : (k : ℕ) → StoresBlocks (advance k)
   continue-stores : (k : ℕ) → StoresBlocks (continue k)
-  restart-stores : StoresBlocks restart
 
 -- the call leaves the bytes of place (S, d)
 abbrev pub Stays : Event → Record → ℕ → ℕ → Type 0
@@ -72,9 +69,6 @@ pub record LeavesAlone (e : Event) (r : Record) : Type 0 where
   -- outside these stripes
   pub continue_others : (k o c : ℕ) → e.call ≡ continue k → r.health ≡ Rebuilding o c → (S d : ℕ) → S < r.stripes → d < disks_of r
       → (d ≡ o → (S < c) ⊎ (c + count (act e r).answer ≤ S)) → Stays e r S d
-  -- restart leaves every block, but what stands at a marked place
-  pub restart_others : e.call ≡ restart → (S d b : ℕ) → S < r.stripes → d < disks_of r → (layout (geometry r)).owner S d ≡ Data b
-      → (r.mark ≡ true → let g = at (geometry r) (r.moves - 1) in S ≡ next_stripe g → d ≢ next_from g) → Stays e r S d
 
 -- .. and it holds of every call that the table lets through, whatever bytes it is lent
 abbrev pub Alone : Type 0

@@ -1,4 +1,4 @@
--- The fourteen calls, what each is lent beside the record, and the answers.
+-- The thirteen calls, what each is lent beside the record, and the answers.
 use Rattle.std.specs.Prelude.{ℕ, Bool, true, false, cond, List, [], ◌∷◌, eqb, length, replicate}
 use Rattle.layout.specs.declared.Role.TheVariants.{Data, Parity, Blank}
 use Rattle.layout.specs.declared.Role.{Role}
@@ -21,7 +21,6 @@ pub data Call : Type 0 where
   locate : (b : ℕ) → Call
   owner : (S d : ℕ) → Call
   sweep : Call
-  restart : Call
 
 -- which call it is, whatever it is given: its place in document 01's list of calls (begin and continue stand where rebuild stood, those
 -- that document 02 adds after all, so that no column moves for them), and its column in the tables over them
@@ -39,7 +38,6 @@ column status = 9
 column (locate b) = 10
 column (owner S d) = 11
 column sweep = 12
-column restart = 13
 
 -- the same call, whatever each is given?
 abbrev pub same_call : Call → Call → Bool

@@ -1,9 +1,9 @@
 -- What each call answers and stores, and so what it leaves. Document 01, Calls; of begin and continue document 02, (d), of locate (f), of
--- sweep (g), of restart, and of calls that are cut, (h).
-use Rattle.std.specs.Prelude.{ℕ, zero, suc, ◌+◌, ◌-◌, min, true, false, cond, not, List, [], ◌∷◌, ◌++◌, take}
+-- sweep (g).
+use Rattle.std.specs.Prelude.{ℕ, zero, suc, ◌+◌, ◌-◌, min, true, false, cond, List, [], ◌∷◌, ◌++◌}
 use Rattle.layout.specs.declared.Place.{Place}
 use Rattle.layout.specs.declared.Standing.{Standing}
-use Rattle.layout.specs.Layout.{total_of, at, capacity, is_blank, layout, next_stripe, next_from, next_to}
+use Rattle.layout.specs.Layout.{total_of, capacity, layout, next_stripe, next_from, next_to}
 use Rattle.blocks.specs.Block.{block_at, zeros}
 use Rattle.blocks.specs.Xor.{xor_b}
 use Rattle.blocks.specs.Stripe.{offset}
@@ -11,13 +11,11 @@ use Rattle.state.specs.declared.types.Health.TheVariants.{Rebuilding}
 use Rattle.state.specs.declared.types.Record.{Record}
 use Rattle.state.specs.Good.{geometry}
 use Rattle.state.specs.Bytes.{decode, disk_byte, stripes_done, encode}
-use Rattle.calls.specs.Call.{Call, format, read, view, write, grow, advance, out, begin, continue}
-use Rattle.calls.specs.Call.{status, locate, owner, sweep, restart}
+use Rattle.calls.specs.Call.{Call, format, read, view, write, grow, advance, out, begin, continue, status, locate, owner, sweep}
 use Rattle.calls.specs.Call.{Event, fed, Answer, refused, done, bytes, made, all_sound, unsound_at, figures, placed, owned}
-use Rattle.state.specs.Update.{formatted, grown_by, with_moves, with_health, with_mark}
+use Rattle.state.specs.Update.{formatted, grown_by, with_moves, with_health}
 use Rattle.calls.specs.Health.{absent, after_out, rebuilt_to}
-use Rattle.calls.specs.Images.{disks_of, place_in, others_in, seen}
-use Rattle.calls.specs.Images.{Store, block, header, stored_in, recorded, recorded_bytes, unless, fill_disk, zero_disks}
+use Rattle.calls.specs.Images.{place_in, others_in, seen, Store, block, header, stored_in, recorded, unless, fill_disk, zero_disks}
 use Rattle.calls.specs.Sound.{unsound_stripes}
 use Rattle.calls.specs.Table.{idle, refusal_of, refusal_bytes}
 
@@ -72,13 +70,11 @@ write_stores r img b v =
 
 -- ---- advance
 
--- "A move stores the copy, then the record with t raised and a mark, 1, in byte 6 that the left place is not yet cleared, then the zeroes,
--- then the record unmarked."
+-- "A move copies the block to its new place, then zeroes the place it left"; then the record with t raised
 unfoldable pub move_stores : Record → List ℕ → List Store
 move_stores r img =
     let g = geometry r in
     block (next_stripe g) (next_to g) (place_in r img (next_stripe g) (next_from g))
-    ∷ header (with_mark (with_moves r (suc r.moves)) true)
     ∷ block (next_stripe g) (next_from g) (zeros r.block)
     ∷ header (with_moves r (suc r.moves))
     ∷ []
@@ -122,38 +118,6 @@ abbrev pub swept_to : ℕ → List ℕ → Answer
 swept_to T [] = all_sound T
 swept_to T (S ∷ more) = unsound_at S (S + 1)
 
--- ---- restart: "clears a marked place, zeroes blanks, makes every parity afresh and takes the mark off"
-
--- the place that the last move left, before all else: where that move was its zone's last, the place is a new block already, which is zero,
--- and the parity counts it
-unfoldable pub clear_stores : Record → List Store
-clear_stores r =
-    let g = at (geometry r) (r.moves - 1) in
-    cond r.mark (block (next_stripe g) (next_from g) (zeros r.block) ∷ []) []
-
--- zeroes on the blanks of stripe S, of its first k disks: on no place that holds a block, old or new
-unfoldable pub zero_blanks : Record → ℕ → ℕ → List Store
-zero_blanks r S zero = []
-zero_blanks r S (suc d) =
-    zero_blanks r S d ++ unless (not (is_blank ((layout (geometry r)).owner S d))) (block S d (zeros r.block))
-
--- a stripe: its blanks, and then its parity, the xor of the other places
-unfoldable pub mend_stripe : Record → List ℕ → ℕ → List Store
-mend_stripe r img S =
-    let p = (layout (geometry r)).parity S in
-    let ps = zero_blanks r S (disks_of r) in
-    ps ++ block S p (others_in r (stored_in r ps img) S p) ∷ []
-
--- the first k stripes, each on the images as they are then
-unfoldable pub mend_stripes : Record → List ℕ → ℕ → List Store
-mend_stripes r img zero = []
-mend_stripes r img (suc S) = let ps = mend_stripes r img S in ps ++ mend_stripe r (stored_in r ps img) S
-
-unfoldable pub restart_stores : Record → List ℕ → List Store
-restart_stores r img =
-    let ps = clear_stores r in
-    ps ++ (mend_stripes r (stored_in r ps img) r.stripes ++ header (with_mark r false) ∷ [])
-
 -- ---- what a call does: it tells something and leaves everything as it was lent; or it answers bytes and fills the lent block or scratch;
 -- or it makes stores, in order, into images of `shape`'s stripes and block length
 
@@ -188,7 +152,6 @@ effect (locate b) r e = tells (placed (standing r b))
 effect (owner S d) r e = tells (owned ((layout (geometry r)).owner S d))
 -- "gives the stripe and the stripes read"
 effect sweep r e = tells (swept_to r.stripes (unsound_stripes r e.images))
-effect restart r e = stores done r (restart_stores r e.images)
 
 -- what comes of it: the answer, and what is left of the record, the images, and the block or scratch
 
@@ -220,12 +183,11 @@ pub record Left (R : Type 0) : Type 0 where
   pub images : List ℕ
   pub room : List ℕ
 
-abbrev pub left_by : Effect → Event → Record → Left Record
-left_by x e r = record { answer = answer_of x; state = record_left x r; images = images_left x e.images; room = room_left x e.room }
-
 -- an accepted call
 abbrev pub act : Event → Record → Left Record
-act e r = left_by (effect e.call r e) e r
+act e r =
+    let x = effect e.call r e in
+    record { answer = answer_of x; state = record_left x r; images = images_left x e.images; room = room_left x e.room }
 
 -- "changes no byte"
 abbrev pub untouched : {R : Type 0} → Event → R → ℕ → Left R
@@ -245,31 +207,3 @@ sealed x = record { answer = x.answer; state = encode x.state; images = x.images
 
 unfoldable pub called_bytes : Event → List ℕ → Left (List ℕ)
 called_bytes e b = settle (refusal_bytes b (fed e)) (untouched e b) (sealed (act e (decode b)))
-
--- ---- "a cut is put as a number c: the stores of each call covered are a list in its definition, in order, each of one whole block or the
--- whole record; an inner form of the call makes just the first c of them, and the call itself makes all" (of a call that is cut no one has
--- the answer)
-
-abbrev pub first_of : ℕ → Effect → Effect
-first_of c (tells a) = tells a
-first_of c (fills shown room) = fills shown room
-first_of c (stores a shape ps) = stores a shape (take c ps)
-
-abbrev pub act_up_to : ℕ → Event → Record → Left Record
-act_up_to c e r = left_by (first_of c (effect e.call r e)) e r
-
--- on a record ..
-unfoldable pub begun : ℕ → Event → Record → Left Record
-begun c e r = settle (refusal_of r (fed e)) (untouched e r) (act_up_to c e r)
-
--- .. and on a record's bytes, which stay as they are until a record is stored
-abbrev pub bytes_left : Effect → List ℕ → List ℕ
-bytes_left (tells a) b = b
-bytes_left (fills shown room) b = b
-bytes_left (stores a shape ps) b = recorded_bytes ps b
-
-abbrev pub left_of : Effect → Event → List ℕ → Left (List ℕ)
-left_of x e b = record { answer = answer_of x; state = bytes_left x b; images = images_left x e.images; room = room_left x e.room }
-
-unfoldable pub begun_bytes : ℕ → Event → List ℕ → Left (List ℕ)
-begun_bytes c e b = settle (refusal_bytes b (fed e)) (untouched e b) (left_of (first_of c (effect e.call (decode b) e)) e b)

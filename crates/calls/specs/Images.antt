@@ -3,7 +3,6 @@ use Rattle.std.specs.Prelude.{ℕ, zero, suc, ◌+◌, ◌*◌, Bool, true, fals
 use Rattle.blocks.specs.Block.{store, zeros}
 use Rattle.blocks.specs.Stripe.{offset, place, others}
 use Rattle.state.specs.declared.types.Record.{Record}
-use Rattle.state.specs.Bytes.{encode}
 use Rattle.calls.specs.Health.{absent}
 
 -- N, all disks of an array, and the length of its images, N × T × B
@@ -50,12 +49,6 @@ unfoldable pub recorded : List Store → Record → Record
 recorded [] r = r
 recorded (block S d v ∷ ps) r = recorded ps r
 recorded (header x ∷ ps) r = recorded ps x
-
--- .. and, where it is lent as its bytes, of these: the last record stored, or what was there
-unfoldable pub recorded_bytes : List Store → List ℕ → List ℕ
-recorded_bytes [] b = b
-recorded_bytes (block S d v ∷ ps) b = recorded_bytes ps b
-recorded_bytes (header x ∷ ps) b = recorded_bytes ps (encode x)
 
 -- a store that is skipped
 abbrev pub unless : Bool → Store → List Store

@@ -11,7 +11,8 @@ use Rattle.state.specs.declared.types.Health.{Health}
 use Rattle.state.specs.declared.types.Record.{Record}
 use Rattle.state.specs.Good.{geometry, GoodRecord}
 use Rattle.state.specs.Bytes.{encode}
-use Rattle.calls.specs.Call.{Call, column, same_call, format, read, view, write, grow, advance, out, begin, continue, status, locate, owner, sweep, feed, restart}
+use Rattle.calls.specs.Call.{Call, column, same_call, format, read, view, write, grow, advance, out, begin, continue}
+use Rattle.calls.specs.Call.{status, locate, owner, sweep, feed}
 use Rattle.calls.specs.Table.{idle, refusal, refusal_of, refusal_bytes}
 
 -- a number, and what it is given for
@@ -35,13 +36,10 @@ NotLong r N len = len ≢ N * (r.stripes * r.block)
 abbrev pub Rebuilds : Health → Type 0
 Rebuilds h = (o : ℕ) × (c : ℕ) × (h ≡ Rebuilding o c)
 
--- how the rows of many calls begin: 1, "not good", and "A marked record .. is good for restart and status only"; 2, "health lost"; 3,
--- "a disk out", "Grow and advance still see degraded", sweep "also while rebuilding", and "3 for restart unless whole"
+-- how the rows of many calls begin: 1, "not good"; 2, "health lost"; 3, "a disk out", "Grow and advance still see degraded",
+-- and sweep "also while rebuilding"
 abbrev pub bad : Record → Reason
 bad r = (1, (GoodRecord r → ⊥))
-
-abbrev pub unfit : Record → Reason
-unfit r = (1, (GoodRecord r → ⊥) ⊎ (r.mark ≡ true))
 
 abbrev pub lost : Record → Reason
 lost r = (2, r.health ≡ Lost)
@@ -51,7 +49,7 @@ degraded r = (3, ((o : ℕ) × (r.health ≡ Out o)) ⊎ Rebuilds r.health)
 
 -- read, view and write, which have the same rows
 abbrev pub reached : Record → ℕ → ℕ → ℕ → ℕ → List Reason
-reached r c b len room = unfit r ∷ lost r ∷ (7, NotLong r (r.old + r.new) len) ∷ (8, c ≤ b) ∷ (9, room ≢ r.block) ∷ []
+reached r c b len room = bad r ∷ lost r ∷ (7, NotLong r (r.old + r.new) len) ∷ (8, c ≤ b) ∷ (9, room ≢ r.block) ∷ []
 
 -- format's, but for row 1: 6, "n, B or T outside limits" ("B, the block length, is 1 to 4,096. T, the stripes, is 1 to 1,048,576. n, the
 -- old disks, is 3 to 16"); 7
@@ -69,33 +67,30 @@ pub record Numbered : Type 0 where
       → Gives (refusal r c (feed (write b v) len room)) (reached r c b len (length v))
   -- 4, "m is not 0"; 6, "m outside" ("m, the new ones, 1 to 16"), and T is no matter; 7, "grow: new N"
   pub of-grow : (r : Record) (c len room m : ℕ) → Gives (refusal r c (feed (grow m) len room))
-      (unfit r ∷ lost r ∷ degraded r ∷ (4, r.new ≢ 0) ∷ (6, Outside 1 m 16) ∷ (7, NotLong r (r.old + m) len) ∷ [])
+      (bad r ∷ lost r ∷ degraded r ∷ (4, r.new ≢ 0) ∷ (6, Outside 1 m 16) ∷ (7, NotLong r (r.old + m) len) ∷ [])
   -- 5, "m = 0 or t is the total"; k is no matter
   pub of-advance : (r : Record) (c len room k : ℕ) → Gives (refusal r c (feed (advance k) len room))
-      (unfit r ∷ lost r ∷ degraded r ∷ (5, (r.new ≡ 0) ⊎ (r.moves ≡ total_of (geometry r))) ∷ (7, NotLong r (r.old + r.new) len) ∷ [])
+      (bad r ∷ lost r ∷ degraded r ∷ (5, (r.new ≡ 0) ⊎ (r.moves ≡ total_of (geometry r))) ∷ (7, NotLong r (r.old + r.new) len) ∷ [])
   -- which is what an advance stops at, too
   pub idle_is : (g : Geometry) → (idle g ≡ true) ↔ ((g.new ≡ 0) ⊎ (g.moves ≡ total_of g))
   -- 10, "d not below N, or out already": a disk that is being rebuilt is not
   pub of-out : (r : Record) (c len room d : ℕ) → Gives (refusal r c (feed (out d) len room))
-      (unfit r ∷ lost r ∷ (10, (r.old + r.new ≤ d) ⊎ (r.health ≡ Out d)) ∷ [])
+      (bad r ∷ lost r ∷ (10, (r.old + r.new ≤ d) ⊎ (r.health ≡ Out d)) ∷ [])
   -- 10, "unless d is out and not rebuilding"
   pub of-begin : (r : Record) (c len room d : ℕ) → Gives (refusal r c (feed (begin d) len room))
-      (unfit r ∷ lost r ∷ (7, NotLong r (r.old + r.new) len) ∷ (10, r.health ≢ Out d) ∷ [])
+      (bad r ∷ lost r ∷ (7, NotLong r (r.old + r.new) len) ∷ (10, r.health ≢ Out d) ∷ [])
   -- 10, "unless rebuilding"; k is no matter
   pub of-continue : (r : Record) (c len room k : ℕ) → Gives (refusal r c (feed (continue k) len room))
-      (unfit r ∷ lost r ∷ (7, NotLong r (r.old + r.new) len) ∷ (10, ¬ Rebuilds r.health) ∷ [])
+      (bad r ∷ lost r ∷ (7, NotLong r (r.old + r.new) len) ∷ (10, ¬ Rebuilds r.health) ∷ [])
   -- "1, 2, 3, 7 as for advance; 3 also while rebuilding"
   pub of-sweep : (r : Record) (c len room : ℕ) → Gives (refusal r c (feed sweep len room))
-      (unfit r ∷ lost r ∷ degraded r ∷ (7, NotLong r (r.old + r.new) len) ∷ [])
-  pub of-status : (r : Record) (c len room : ℕ) → Gives (refusal r c (feed status len room)) (bad r ∷ [])
-  -- "3 for restart unless whole", 7 as for every call that is lent the images
-  pub of-restart : (r : Record) (c len room : ℕ) → Gives (refusal r c (feed restart len room))
       (bad r ∷ lost r ∷ degraded r ∷ (7, NotLong r (r.old + r.new) len) ∷ [])
+  pub of-status : (r : Record) (c len room : ℕ) → Gives (refusal r c (feed status len room)) (bad r ∷ [])
   -- 8, "block number at or above capacity"
-  pub of-locate : (r : Record) (c len room b : ℕ) → Gives (refusal r c (feed (locate b) len room)) (unfit r ∷ (8, c ≤ b) ∷ [])
+  pub of-locate : (r : Record) (c len room b : ℕ) → Gives (refusal r c (feed (locate b) len room)) (bad r ∷ (8, c ≤ b) ∷ [])
   -- 8, "S not below T"; 10, "d not below N"
   pub of_owner : (r : Record) (c len room S d : ℕ) → Gives (refusal r c (feed (owner S d) len room))
-      (unfit r ∷ (8, r.stripes ≤ S) ∷ (10, r.old + r.new ≤ d) ∷ [])
+      (bad r ∷ (8, r.stripes ≤ S) ∷ (10, r.old + r.new ≤ d) ∷ [])
   -- On a record's bytes, where 1 is "not .. bytes long, all calls; not good, all but format": format looks at their length alone ..
   pub format_on_bytes : (b : List ℕ) (len room n B T : ℕ)
       → Gives (refusal_bytes b (feed (format n B T) len room)) ((1, length b ≢ 20) ∷ formed n B T len)

@@ -2,22 +2,20 @@
 -- call: of a list that it is meant to make a statement would say nothing once the call makes another. (That each move of an
 -- advance is made on what the one before left is `InOrder` of Theorem; a continue's stripes in rising order are `InRisingOrder`.)
 -- The statements are `Storing` and `StoresInOrder`; `storing` and `stores-in-order` of proofs/Stores.antt prove them.
-use Rattle.std.specs.Prelude.{ℕ, zero, suc, ◌+◌, ◌-◌, ◌*◌, ◌≤◌, ◌<◌, min, ◌≡◌, true, false, ◌⊎◌, ◌≢◌, List, [], ◌∷◌, ◌++◌, length, get_or}
-use Rattle.layout.specs.declared.Role.TheVariants.{Blank}
-use Rattle.layout.specs.Layout.{layout, at, next_stripe, next_from, next_to}
+use Rattle.std.specs.Prelude.{ℕ, zero, suc, ◌+◌, ◌-◌, ◌*◌, ◌≤◌, ◌<◌, min, ◌≡◌, true, false, ◌⊎◌, List, [], ◌∷◌, ◌++◌, length, get_or}
+use Rattle.layout.specs.Layout.{layout, next_stripe, next_from, next_to}
 use Rattle.blocks.specs.Block.{zeros}
 use Rattle.blocks.specs.Xor.{xor_b}
 use Rattle.state.specs.declared.types.Health.TheVariants.{Rebuilding}
 use Rattle.state.specs.declared.types.Record.{Record}
 use Rattle.state.specs.Good.{geometry}
-use Rattle.state.specs.Update.{formatted, grown_by, with_moves, with_health, with_mark}
-use Rattle.calls.specs.Call.{format, read, view, write, grow, advance, out, begin, continue, status, locate, owner, sweep, restart}
+use Rattle.state.specs.Update.{formatted, grown_by, with_moves, with_health}
+use Rattle.calls.specs.Call.{format, read, view, write, grow, advance, out, begin, continue, status, locate, owner, sweep}
 use Rattle.calls.specs.Call.{Event, on, Answer, done, bytes, made}
 use Rattle.calls.specs.Health.{absent}
-use Rattle.calls.specs.Images.{disks_of, size, place_in, others_in, seen, Store, block, header, stored, stored_in, recorded, unless}
+use Rattle.calls.specs.Images.{disks_of, size, place_in, seen, Store, block, header, stored, stored_in, recorded, unless}
 use Rattle.calls.specs.Table.{idle}
-use Rattle.calls.specs.Effect.{move_stores, advance_stores, stripes_made, continue_stores, clear_stores, zero_blanks, mend_stripes}
-use Rattle.calls.specs.Effect.{tells, fills, stores, effect, act}
+use Rattle.calls.specs.Effect.{move_stores, advance_stores, stripes_made, continue_stores, tells, fills, stores, effect, act}
 use Rattle.calls.specs.Theorem.{rising}
 
 -- ---- what stores leave
@@ -75,21 +73,17 @@ pub record StoresInOrder : Type 0 where
       (block S x.parity.disk (xor_b (xor_b (before x.parity.disk) (before x.block.disk)) v))
       ++ unless (absent r.health S x.block.disk) (block S x.block.disk v))
   pub skipped : (s : Store) → (unless true s ≡ []) × (unless false s ≡ s ∷ [])
-  -- "A move stores the copy, then the record with t raised and a mark, 1, in byte 6 that the left place is not yet cleared, then the zeroes,
-  -- then the record unmarked."
+  -- "A move copies the block to its new place, then zeroes the place it left"; then the record with t raised
   pub of_move : (r : Record) (img : List ℕ) → let g = geometry r in
-      let raised = with_moves r (suc r.moves) in
       move_stores r img
-      ≡ block (next_stripe g) (next_to g) (place_in r img (next_stripe g) (next_from g)) ∷ header (with_mark raised true)
-      ∷ block (next_stripe g) (next_from g) (zeros r.block) ∷ header raised ∷ []
+      ≡ block (next_stripe g) (next_to g) (place_in r img (next_stripe g) (next_from g))
+      ∷ block (next_stripe g) (next_from g) (zeros r.block) ∷ header (with_moves r (suc r.moves)) ∷ []
   -- advance: "makes moves in order until k are made or none is left"
   pub of-advance : (r : Record) (e : Event) (k : ℕ) → let ps = advance_stores k r e.images in
       effect (advance k) r e ≡ stores (made ((recorded ps r).moves - r.moves)) r ps
   pub no_move : (r : Record) (img : List ℕ) → advance_stores 0 r img ≡ []
   pub none_left : (r : Record) (img : List ℕ) (k : ℕ) → idle (geometry r) ≡ true → advance_stores k r img ≡ []
   pub one_move : (r : Record) (img : List ℕ) → idle (geometry r) ≡ false → advance_stores 1 r img ≡ move_stores r img
-  pub more_moves : (k : ℕ) (r : Record) (img : List ℕ) → idle (geometry r) ≡ false → let ps = move_stores r img in
-      advance_stores (suc k) r img ≡ ps ++ advance_stores k (with_moves r (suc r.moves)) (stored_in r ps img)
   -- out and begin: the record that they leave, once
   pub of-out : (r : Record) (e : Event) (d : ℕ) → effect (out d) r e ≡ stores done r (header (act (on (out d) [] []) r).state ∷ [])
   pub of-begin : (r : Record) (e : Event) (d : ℕ) → effect (begin d) r e ≡ stores done r (header (with_health r (Rebuilding d 0)) ∷ [])
@@ -104,22 +98,3 @@ pub record StoresInOrder : Type 0 where
   pub of-continue : (r : Record) (e : Event) (k : ℕ)
       → effect (continue k) r e ≡ stores (made (stripes_made k r)) r (continue_stores k r e.images)
   pub stripes-made : (r : Record) (k o c : ℕ) → r.health ≡ Rebuilding o c → stripes_made k r ≡ min k (r.stripes - c)
-  -- restart: "clears a marked place, zeroes blanks, makes every parity afresh and takes the mark off". The marked place before all else,
-  -- then stripe by stripe, then the record.
-  pub of-restart : (r : Record) (e : Event) → let ps = clear_stores r in effect restart r e
-      ≡ stores done r (ps ++ (mend_stripes r (stored_in r ps e.images) r.stripes ++ header (with_mark r false) ∷ []))
-  -- the marked place is the one that the latest move left
-  pub marked_cleared : (r : Record) → r.mark ≡ true → let g = at (geometry r) (r.moves - 1) in
-      clear_stores r ≡ block (next_stripe g) (next_from g) (zeros r.block) ∷ []
-  pub none_cleared : (r : Record) → r.mark ≡ false → clear_stores r ≡ []
-  -- a stripe: zeroes on its blanks, disk by disk; then its parity, the xor of its other places as they are then
-  pub no_stripe : (r : Record) (img : List ℕ) → mend_stripes r img 0 ≡ []
-  pub one_stripe_more : (r : Record) (img : List ℕ) (S : ℕ) →
-      let ps = mend_stripes r img S in
-      let zs = zero_blanks r S (r.old + r.new) in
-      let p = (layout (geometry r)).parity S in
-      mend_stripes r img (suc S) ≡ ps ++ (zs ++ block S p (others_in r (stored_in r zs (stored_in r ps img)) S p) ∷ [])
-  pub no_disk : (r : Record) (S : ℕ) → zero_blanks r S 0 ≡ []
-  pub a_blank : (r : Record) (S d : ℕ) → (layout (geometry r)).owner S d ≡ Blank
-      → zero_blanks r S (suc d) ≡ zero_blanks r S d ++ block S d (zeros r.block) ∷ []
-  pub no_blank : (r : Record) (S d : ℕ) → (layout (geometry r)).owner S d ≢ Blank → zero_blanks r S (suc d) ≡ zero_blanks r S d

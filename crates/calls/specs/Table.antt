@@ -6,7 +6,7 @@ use Rattle.state.specs.declared.types.Record.{Record}
 use Rattle.state.specs.Good.{geometry, old_good, new_good, block_good, stripes_good, good}
 use Rattle.state.specs.Bytes.{record_length, decode, good_bytes}
 use Rattle.calls.specs.Call.{Call, same_call, format, read, view, write, grow, advance, out, begin, continue}
-use Rattle.calls.specs.Call.{status, locate, owner, sweep, restart, Fed}
+use Rattle.calls.specs.Call.{status, locate, owner, sweep, Fed}
 use Rattle.calls.specs.Health.{is_lost, is_degraded, is_out, is_rebuilding}
 use Rattle.calls.specs.Images.{disks_of, size, size_with}
 
@@ -24,8 +24,7 @@ bad_record bad = (1, bad)
 abbrev pub lost : Record → Row
 lost r = (2, is_lost r.health)
 
--- "a disk out" (document 02, (d): "Grow and advance still see degraded."; (g) of sweep: "3 also while rebuilding"; (h): "3 for restart
--- unless whole")
+-- "a disk out" (document 02, (d): "Grow and advance still see degraded."; (g) of sweep: "3 also while rebuilding")
 abbrev pub degraded : Record → Row
 degraded r = (3, is_degraded r.health)
 
@@ -100,7 +99,6 @@ terms status r = asking [] nothing none
 terms (locate b) r = asking [] nothing (λ c room. past_end b c ∷ [])
 terms (owner S d) r = asking [] nothing (λ c room. past_end S r.stripes ∷ disk (not (ltb d (disks_of r))) ∷ [])
 terms sweep r = asking (lost r ∷ degraded r ∷ []) (those (size r)) none
-terms restart r = asking (lost r ∷ degraded r ∷ []) (those (size r)) none
 
 abbrev pub images_row : Takes → ℕ → List Row
 images_row nothing len = []
@@ -115,37 +113,24 @@ later_rows x r c len room = let t = terms x r in t.before ++ (images_row t.takes
 abbrev pub looks : Call → Bool
 looks x = not (same_call x (format 0 0 0))
 
--- is a record no good for it? "A marked record .. is good for restart and status only." (document 02, (h))
-abbrev pub takes_marked : Call → Bool
-takes_marked x = same_call x restart || same_call x status
-
-abbrev pub unfit : Call → Bool → Record → Bool
-unfit x bad r = cond (takes_marked x) bad (bad || r.mark)
-
 -- all its rows, the lowest number first: `short` says that the record is too short or too long, `bad` that it is not good
 unfoldable pub table : Call → Bool → Bool → Record → ℕ → ℕ → ℕ → List Row
-table x short bad r c len room = bad_record (cond (looks x) (short || unfit x bad r) short) ∷ later_rows x r c len room
+table x short bad r c len room = bad_record (cond (looks x) (short || bad) short) ∷ later_rows x r c len room
 
 -- the number of the first row whose condition holds, or 0
 abbrev pub word : List Row → ℕ
 word [] = 0
 word (x ∷ rows) = cond x.1 x.0 (word rows)
 
--- how the rows of many calls begin: 1; 1, 2; 1, 2, 3; and 1, 2, 7
-abbrev pub unfit_record : Record → Bool
-unfit_record r = not (good r) || r.mark
-
-abbrev pub unmarked : Record → Row
-unmarked r = bad_record (unfit_record r)
-
+-- how the rows of many calls begin: 1, 2; 1, 2, 3; and 1, 2, 7
 abbrev pub kept : Record → List Row
-kept r = unmarked r ∷ lost r ∷ []
+kept r = bad_record (not (good r)) ∷ lost r ∷ []
 
 abbrev pub kept_whole : Record → List Row
-kept_whole r = unmarked r ∷ lost r ∷ degraded r ∷ []
+kept_whole r = bad_record (not (good r)) ∷ lost r ∷ degraded r ∷ []
 
 abbrev pub kept_lent : Record → ℕ → List Row
-kept_lent r len = unmarked r ∷ lost r ∷ images (size r) len ∷ []
+kept_lent r len = bad_record (not (good r)) ∷ lost r ∷ images (size r) len ∷ []
 
 -- ---- the number that a call is given
 

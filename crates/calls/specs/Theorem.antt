@@ -9,7 +9,8 @@ use Rattle.state.specs.declared.types.Health.TheVariants.{Rebuilding}
 use Rattle.state.specs.declared.types.Health.{Health}
 use Rattle.state.specs.declared.types.Record.{Record}
 use Rattle.state.specs.Bytes.{health_byte, disk_byte, stripes_done, decode, encode}
-use Rattle.calls.specs.Call.{Call, Event, on, feed, fed, Answer, refused, done, bytes, made, all_sound, unsound_at, figures, placed, owned}
+use Rattle.calls.specs.Call.{Call, Event, on, feed, fed}
+use Rattle.calls.specs.Call.{Answer, refused, done, bytes, made, all_sound, unsound_at, figures, placed, owned}
 use Rattle.calls.specs.Call.{accepted, number, shown, count, beside}
 use Rattle.calls.specs.Images.{others_in, Store, block, header, stored_in, recorded}
 use Rattle.calls.specs.Table.{Row, word, refusal_of, rows_bytes, refusal_bytes}

@@ -1,2 +1,1 @@
 pub mod Sample
-pub mod CutSample

@@ -1,3 +1,2 @@
 -- A computed case: a history through both machines.
 pub mod Sample
-pub mod CutSample

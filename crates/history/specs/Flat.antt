@@ -1,8 +1,7 @@
 -- Document 01: "The flat list is a small machine. It is fed each call's arguments, a write's data among them, and the lengths
 -- lent, and no byte of record or images. It holds n, m, B, T, t, health with the disk out, and a list of blocks; capacity is
--- that list's length." (Document 02, (d): "Health gains Rebuilding .. with disk and stripes done". The mark of (h) is
--- none of its numbers: it is never set here.)
-use Rattle.std.specs.Prelude.{ℕ, zero, suc, ◌+◌, ◌-◌, ◌*◌, ◌/◌, min, false, cond, List, [], ◌++◌, eqb, ltb, length, get_or, set, replicate}
+-- that list's length." (Document 02, (d): "Health gains Rebuilding .. with disk and stripes done".)
+use Rattle.std.specs.Prelude.{ℕ, zero, suc, ◌+◌, ◌-◌, ◌*◌, ◌/◌, min, cond, List, [], ◌++◌, eqb, ltb, length, get_or, set, replicate}
 use Rattle.layout.specs.Layout.{total_of, layout}
 use Rattle.blocks.specs.Block.{zeros}
 use Rattle.state.specs.declared.types.Health.TheVariants.{Whole, Out, Lost, Rebuilding}
@@ -10,8 +9,8 @@ use Rattle.state.specs.declared.types.Health.{Health}
 use Rattle.state.specs.declared.types.Record.{Record}
 use Rattle.state.specs.Good.{geometry}
 use Rattle.state.specs.Bytes.{stripes_done}
-use Rattle.calls.specs.Call.{Call, format, read, view, write, grow, advance, out, begin, continue, status, locate, owner, sweep, restart}
-use Rattle.calls.specs.Call.{Fed, Answer, refused, done, bytes, made, all_sound, figures, placed, owned}
+use Rattle.calls.specs.Call.{Call, format, read, view, write, grow, advance, out, begin, continue, status, locate, owner, sweep, Fed}
+use Rattle.calls.specs.Call.{Answer, refused, done, bytes, made, all_sound, figures, placed, owned}
 use Rattle.calls.specs.Table.{refusal}
 
 pub record Flat : Type 0 where
@@ -51,52 +50,43 @@ risen T (Out o) x = Out o
 risen T Lost x = Lost
 risen T (Rebuilding o c) x = cond (ltb (c + x) T) (Rebuilding o (c + x)) Whole
 
--- its numbers with another health
-abbrev turned : Record → Health → Record
-turned r h = record { old = r.old; new = r.new; health = h; block = r.block; stripes = r.stripes; moves = r.moves; mark = false }
-
 unfoldable pub flat_act : Call → Record → List (List ℕ) → Answer × Flat
 -- "Format: n, B, T as given, m = t = 0, whole, T × (n − 1) zero blocks."
 flat_act (format n B T) r bs =
-    let next : Record = record { old = n; new = 0; health = Whole; block = B; stripes = T; moves = 0; mark = false } in
-    (done, flat next (zero_blocks (T * (n - 1)) B))
+    (done, flat (record { old = n; new = 0; health = Whole; block = B; stripes = T; moves = 0 }) (zero_blocks (T * (n - 1)) B))
 -- "Read and view give block b; write replaces it by the data."
 flat_act (read b) r bs = (bytes (get_or bs b []), flat r bs)
 flat_act (view b) r bs = (bytes (get_or bs b []), flat r bs)
 flat_act (write b v) r bs = (done, flat r (set bs b v))
 -- "Grow: m as given, t = 0."
 flat_act (grow m) r bs =
-    let next : Record =
-    record { old = r.old; new = m; health = r.health; block = r.block; stripes = r.stripes; moves = 0; mark = false } in
+    let next : Record = record { old = r.old; new = m; health = r.health; block = r.block; stripes = r.stripes; moves = 0 } in
     (done, flat next (lengthened next bs))
 -- "Advance: the lesser of k and total − t is added to t and reported."
 flat_act (advance k) r bs =
     let c = min k (total_of (geometry r) - r.moves) in
-    let t = r.moves + c in
     let next : Record =
-    record { old = r.old; new = r.new; health = r.health; block = r.block; stripes = r.stripes; moves = t; mark = false } in
+    record { old = r.old; new = r.new; health = r.health; block = r.block; stripes = r.stripes; moves = r.moves + c } in
     (made c, flat next (lengthened next bs))
 flat_act (out d) r bs =
     let h = fallen r.health d in
-    (done, flat (turned r h) bs)
+    (done, flat (record { old = r.old; new = r.new; health = h; block = r.block; stripes = r.stripes; moves = r.moves }) bs)
 -- "begin (d), which changes the record only"
 flat_act (begin d) r bs =
     let h = Rebuilding d 0 in
-    (done, flat (turned r h) bs)
+    (done, flat (record { old = r.old; new = r.new; health = h; block = r.block; stripes = r.stripes; moves = r.moves }) bs)
 -- "continue (k stripes), which does stripes in rising order until k are done or none is left, and reports how many": the lesser of k and
 -- T less those done
 flat_act (continue k) r bs =
     let c = min k (r.stripes - stripes_done r.health) in
     let h = risen r.stripes r.health c in
-    (made c, flat (turned r h) bs)
+    (made c, flat (record { old = r.old; new = r.new; health = h; block = r.block; stripes = r.stripes; moves = r.moves }) bs)
 -- "Status, locate and owner answer from these numbers, by Layout."
 flat_act status r bs = (figures (length bs) r.moves (total_of (geometry r)) r.health, flat r bs)
 flat_act (locate b) r bs = (placed ((layout (geometry r)).place b), flat r bs)
 flat_act (owner S d) r bs = (owned ((layout (geometry r)).owner S d), flat r bs)
 -- "none", and "the stripes read (.. T where there is none)": the flat list has no stripe that could be unsound
 flat_act sweep r bs = (all_sound r.stripes, flat r bs)
--- restart mends what the flat list has none of
-flat_act restart r bs = (done, flat r bs)
 
 -- "Refused: the table, read on these numbers, gives the number .. Nothing changes."
 abbrev pub flat_settle : ℕ → Flat → Answer × Flat → Answer × Flat

@@ -10,25 +10,23 @@ use Rattle.calls.specs.Call.{Call, Event, accepted}
 use Rattle.calls.specs.Health.{absent}
 use Rattle.calls.specs.Images.{disks_of, place_in}
 use Rattle.calls.specs.Table.{Takes, nothing, anything, those, terms}
-use Rattle.calls.specs.Effect.{Left, called, called_bytes, begun, begun_bytes}
+use Rattle.calls.specs.Effect.{Left, called, called_bytes}
 
--- ---- the record in one of its two forms: what a call on it leaves, and what its first c stores leave (document 02, (h)); which record it
--- is, how a record is written in it, when it is good
+-- ---- the record in one of its two forms: what a call on it leaves, which record it is, how a record is written in it, when it is good
 
 pub record Form (R : Type 0) : Type 0 where
   pub call : Event → R → Left R
-  pub begun : ℕ → Event → R → Left R
   pub decoded : R → Record
   pub encoded : Record → R
   pub is_good : R → Bool
 
 -- "exported .. with the record as .. bytes"
 abbrev pub as_bytes : Form (List ℕ)
-as_bytes = record { call = called_bytes; begun = begun_bytes; decoded = decode; encoded = encode; is_good = good_bytes }
+as_bytes = record { call = called_bytes; decoded = decode; encoded = encode; is_good = good_bytes }
 
 -- "Inside the library the record is lent"
 abbrev pub as_record : Form Record
-as_record = record { call = called; begun = begun; decoded = λ r. r; encoded = λ r. r; is_good = good }
+as_record = record { call = called; decoded = λ r. r; encoded = λ r. r; is_good = good }
 
 -- what the line controller keeps from call to call: the record, in either form, and the images
 pub record Cabinet (R : Type 0) : Type 0 where

@@ -1,9 +1,7 @@
 -- Demand 3. `Flat` is the flat list, `Lent` what may be lent, `Theorem` the one claim about every list of calls and its short
--- form, `ReadBack` what it says of reads in the mills' words, `Cuts` the same claim for lists in which power is lost, `Cases` histories
--- computed through both machines.
+-- form, `ReadBack` what it says of reads in the mills' words, `Cases` a history computed through both machines.
 pub mod Flat
 pub mod Lent
 pub mod Theorem
 pub mod ReadBack
-pub mod Cuts
 pub mod Cases

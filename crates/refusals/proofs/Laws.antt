@@ -2,4 +2,3 @@ pub mod Bounds
 pub mod Places
 pub mod Called
 pub mod Ready
-pub mod Opened

@@ -15,26 +15,22 @@ use Rattle.refusals.specs.declared.types.Swept.{Swept}
 use Rattle.refusals.specs.declared.types.Swept.TheVariants as sweeping
 use Rattle.calls.specs.Call.{Answer, refused, done, made, all_sound, unsound_at, figures, placed, owned}
 
--- format, grow, out, begin and restart: the answer, and the record that is left of r
+-- format, grow, out and begin: the answer, and the record that is left of r
 abbrev pub changed_answer : Changed → Answer
 changed_answer (changed.Refused k) = refused k
-changed_answer changed.Cut = done
 changed_answer (changed.Done x) = done
 
 abbrev pub changed_record : Record → Changed → Record
 changed_record r (changed.Refused k) = r
-changed_record r changed.Cut = r
 changed_record r (changed.Done x) = x
 
 -- advance and continue
 abbrev pub counted_answer : Counted → Answer
 counted_answer (counting.Refused k) = refused k
-counted_answer (counting.Cut k) = made k
 counted_answer (counting.Made k x) = made k
 
 abbrev pub counted_record : Record → Counted → Record
 counted_record r (counting.Refused k) = r
-counted_record r (counting.Cut k) = r
 counted_record r (counting.Made k x) = x
 
 -- status, locate and owner

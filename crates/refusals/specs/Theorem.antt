@@ -27,8 +27,6 @@ pub record Tells : Type 0 where
       × (report_answer (report.Refused k) ≡ refused k) × (located_answer (located.Refused k) ≡ refused k)
       × (owned_answer (owning.Refused k) ≡ refused k) × (swept_answer (sweeping.Refused k) ≡ refused k)
   pub unchanged : (r : Record) (k : ℕ) → (changed_record r (changed.Refused k) ≡ r) × (counted_record r (counting.Refused k) ≡ r)
-  pub cuts : (r : Record) (k : ℕ) → (changed_answer changed.Cut ≡ done) × (changed_record r changed.Cut ≡ r)
-      × (counted_answer (counting.Cut k) ≡ made k) × (counted_record r (counting.Cut k) ≡ r)
   pub changes : (r x : Record) → (changed_answer (changed.Done x) ≡ done) × (changed_record r (changed.Done x) ≡ x)
   pub counts : (r x : Record) (k : ℕ) → (counted_answer (counting.Made k x) ≡ made k) × (counted_record r (counting.Made k x) ≡ x)
   pub statuses : (c t total : ℕ) (h : Health) → report_answer (report.Figures c t total h) ≡ figures c t total h
@@ -36,9 +34,8 @@ pub record Tells : Type 0 where
   pub owners : (o : Role) → owned_answer (owning.By o) ≡ owned o
   pub sweeps : (S x : ℕ) → (swept_answer (sweeping.Sound x) ≡ all_sound x) × (swept_answer (sweeping.Unsound S x) ≡ unsound_at S x)
   -- no enum has another value, and no struct another field
-  pub no_other_change : (x : Changed) → ((k : ℕ) × (x ≡ changed.Refused k)) ⊎ ((x ≡ changed.Cut) ⊎ ((r : Record) × (x ≡ changed.Done r)))
-  pub no_other_count : (x : Counted) → ((k : ℕ) × (x ≡ counting.Refused k))
-      ⊎ (((k : ℕ) × (x ≡ counting.Cut k)) ⊎ ((k : ℕ) × (r : Record) × (x ≡ counting.Made k r)))
+  pub no_other_change : (x : Changed) → ((k : ℕ) × (x ≡ changed.Refused k)) ⊎ ((r : Record) × (x ≡ changed.Done r))
+  pub no_other_count : (x : Counted) → ((k : ℕ) × (x ≡ counting.Refused k)) ⊎ ((k : ℕ) × (r : Record) × (x ≡ counting.Made k r))
   pub no_other_status : (x : Report) → ((k : ℕ) × (x ≡ report.Refused k))
       ⊎ ((c : ℕ) × (t : ℕ) × (total : ℕ) × (h : Health) × (x ≡ report.Figures c t total h))
   pub no_other_place : (x : Located) → ((k : ℕ) × (x ≡ located.Refused k)) ⊎ ((y : Standing) × (x ≡ located.At y))

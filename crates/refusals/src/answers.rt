@@ -12,7 +12,6 @@ pub fn stepped(r: Record, x: Changed) -> Step
 {
     match x {
         Changed::Refused(k) => Step { rec: r, number: k },
-        Changed::Cut => Step { rec: r, number: 0 },
         Changed::Done(y) => Step { rec: y, number: 0 },
     }
 }
@@ -24,13 +23,6 @@ pub fn progressed(r: Record, x: Counted) -> Progress
     match x {
         Counted::Refused(k) => {
             let c = Count { number: k, made: 0 };
-            Progress { rec: r, count: c }
-        }
-        Counted::Cut { count } => {
-            let c = Count {
-                number: 0,
-                made: count,
-            };
             Progress { rec: r, count: c }
         }
         Counted::Made { count, record } => {

@@ -4,18 +4,16 @@
 mod answers;
 mod budget;
 mod health;
-mod opening;
 mod places;
 mod refusal;
 mod types;
 
 pub use answers::{progressed, stepped};
-pub use budget::{ALL, due};
+pub use budget::due;
 pub use health::{after_out, is_absent, rebuilt_to};
-pub use opening::is_readable;
 pub use places::{place_at, sum_others};
 pub use refusal::{
     RECORD, disks_of, of_advance, of_begin, of_continue, of_format, of_grow, of_lent, of_locate,
-    of_out, of_owner, of_reach, of_restart, of_status, of_sweep,
+    of_out, of_owner, of_reach, of_status, of_sweep,
 };
 pub use types::{Changed, Count, Counted, Located, Owned, Progress, Report, Step, Swept};

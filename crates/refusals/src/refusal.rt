@@ -3,10 +3,9 @@
 ghost use Rattle.std.specs.Prelude.{◌≡◌, ◌≤◌, ltb};
 ghost use Rattle.layout.specs.Layout.{capacity};
 ghost use Rattle.state.specs.Good.{geometry, GoodRecord};
-ghost use Rattle.calls.specs.Call.{format, read, grow, advance, out, begin, continue, status, locate, owner, sweep};
-ghost use Rattle.calls.specs.Call.{restart, feed};
+ghost use Rattle.calls.specs.Call.{format, read, grow, advance, out, begin, continue, status, locate, owner, sweep, feed};
 ghost use Rattle.calls.specs.Images.{disks_of, size_with};
-ghost use Rattle.calls.specs.Table.{idle, formable, word, unfit_record, kept, kept_whole, kept_lent, refusal_of};
+ghost use Rattle.calls.specs.Table.{idle, formable, word, kept, kept_whole, kept_lent, refusal_of};
 
 use crate::health::{is_degraded, is_lost, is_out, is_rebuilding};
 use placement::{all_moved, has_block};
@@ -90,21 +89,11 @@ pub fn of_format(images: usize, n: u64, block: u64, stripes: u64) -> u8
     0
 }
 
-// Is the record no good for a call that takes none with a mark? That is every call but restart and status.
-fn is_unfit(r: Record) -> bool
-    ensures answer { result ≡ unfit_record r }
-{
-    if !is_good(r) {
-        return true;
-    }
-    r.mark
-}
-
 // How the rows of many calls begin: 1, 2 ..
 fn of_kept(r: Record) -> u8
     ensures number { result ≡ word (kept r) }
 {
-    if is_unfit(r) {
+    if !is_good(r) {
         return RECORD;
     }
     let health = r.health;
@@ -253,7 +242,7 @@ pub fn of_status(r: Record) -> u8
 pub fn of_locate(r: Record, b: u64) -> u8
     ensures number { result ≡ refusal_of r (feed (locate b) 0 0) }
 {
-    if is_unfit(r) {
+    if !is_good(r) {
         return RECORD;
     }
     if !is_block(r, b) {
@@ -265,7 +254,7 @@ pub fn of_locate(r: Record, b: u64) -> u8
 pub fn of_owner(r: Record, s: u64, d: u64) -> u8
     ensures number { result ≡ refusal_of r (feed (owner s d) 0 0) }
 {
-    if is_unfit(r) {
+    if !is_good(r) {
         return RECORD;
     }
     if (r.stripes as u64) <= s {
@@ -283,26 +272,6 @@ pub fn of_sweep(r: Record, images: usize) -> u8
     let k = of_whole(r);
     if k != 0 {
         return k;
-    }
-    if images as u64 != size_with(r, r.new as u64) {
-        return IMAGES;
-    }
-    0
-}
-
-// Its record may have a mark.
-pub fn of_restart(r: Record, images: usize) -> u8
-    ensures number { result ≡ refusal_of r (feed restart images 0) }
-{
-    if !is_good(r) {
-        return RECORD;
-    }
-    let health = r.health;
-    if is_lost(health) {
-        return LOST;
-    }
-    if is_degraded(health) {
-        return DEGRADED;
     }
     if images as u64 != size_with(r, r.new as u64) {
         return IMAGES;

@@ -2,20 +2,17 @@
 use layout::{Role, Standing};
 use state::{Health, Record};
 
-// Of format, grow, out, begin and restart: the refusal's number, or the record that the call stores. Where its budget of stores is used up
-// before the record there is none: the record stays as it was.
+// Of format, grow, out and begin: the refusal's number, or the record that the call leaves.
 #[derive(Drop)]
 pub enum Changed {
     Refused(u8),
-    Cut,
     Done(Record),
 }
 
-// Of advance and continue: the moves or stripes made as well, or those that would be.
+// Of advance and continue: the moves or stripes made as well.
 #[derive(Drop)]
 pub enum Counted {
     Refused(u8),
-    Cut { count: u64 },
     Made { count: u64, record: Record },
 }
 

@@ -1,3 +1,2 @@
-pub mod Budget
 pub mod Failing
 pub mod Rebuilding

@@ -6,10 +6,10 @@ ghost use Rattle.refusals.specs.Answers.{changed_answer, changed_record, counted
 ghost use Rattle.calls.specs.Call.{begin, continue, feed, on};
 ghost use Rattle.calls.specs.Images.{disks_of, size, others_in, stored_in, fill_disk};
 ghost use Rattle.calls.specs.Table.{refusal_of};
-ghost use Rattle.calls.specs.Effect.{called, act_up_to, begun};
+ghost use Rattle.calls.specs.Effect.{act, called};
 
 use blocks::rebuild_place;
-use refusals::{ALL, Changed, Counted, disks_of, due, of_begin, of_continue, rebuilt_to};
+use refusals::{Changed, Counted, disks_of, due, of_begin, of_continue, rebuilt_to};
 use state::{Health, Record, disk_byte, stripes_done, with_health};
 
 // Disk d of `count` stripes from `first` on, each summed into `block` and then stored: two slices are told apart once and for all, two
@@ -46,15 +46,12 @@ fn fill_disk_alone(r: Record, images: &mut [u8], d: u64, first: usize, count: us
     fill_disk(r, images, d, first, count, &mut block[..len]);
 }
 
-// Begin once the table lets it through. Its one store is the record's; the images are for the contract alone.
-fn start_rebuild(c: u64, r: Record, images: &[u8], d: u64) -> Changed
+// Begin once the table lets it through. The images are for the contract alone.
+fn start_rebuild(r: Record, images: &[u8], d: u64) -> Changed
     requires { refusal_of r (feed (begin d) (length images.now) 0) ≡ 0 }
-    ensures answer { changed_answer result ≡ (act_up_to c (on (begin d) images.now []) r).answer }
-    ensures state { changed_record r result ≡ (act_up_to c (on (begin d) images.now []) r).state }
+    ensures answer { changed_answer result ≡ (act (on (begin d) images.now []) r).answer }
+    ensures state { changed_record r result ≡ (act (on (begin d) images.now []) r).state }
 {
-    if c < 1 {
-        return Changed::Cut;
-    }
     Changed::Done(with_health(
         r,
         Health::Rebuilding {
@@ -64,66 +61,45 @@ fn start_rebuild(c: u64, r: Record, images: &[u8], d: u64) -> Changed
     ))
 }
 
-// Continue once the table lets it through: the stripes, and then the record.
-fn rebuild_due(c: u64, r: Record, images: &mut [u8], k: u64) -> Counted
+// Continue once the table lets it through.
+fn rebuild_due(r: Record, images: &mut [u8], k: u64) -> Counted
     requires { refusal_of r (feed (continue k) (length images.old) 0) ≡ 0 }
-    ensures answer { counted_answer result ≡ (act_up_to c (on (continue k) images.old []) r).answer }
-    ensures state { counted_record r result ≡ (act_up_to c (on (continue k) images.old []) r).state }
-    ensures images { images.new ≡ (act_up_to c (on (continue k) images.old []) r).images }
+    ensures answer { counted_answer result ≡ (act (on (continue k) images.old []) r).answer }
+    ensures state { counted_record r result ≡ (act (on (continue k) images.old []) r).state }
+    ensures images { images.new ≡ (act (on (continue k) images.old []) r).images }
 {
     let health = r.health;
     let disk = disk_byte(health);
     let done = stripes_done(health);
     let count = due(k, r.stripes - done);
-    let stored = due(c, count);
-    fill_disk_alone(r, images, disk as u64, done as usize, stored as usize);
-    if c <= count as u64 {
-        return Counted::Cut {
-            count: count as u64,
-        };
-    }
+    fill_disk_alone(r, images, disk as u64, done as usize, count as usize);
     Counted::Made {
         count: count as u64,
         record: with_health(r, rebuilt_to(r.stripes, disk, done + count)),
     }
 }
 
-// Begins to rebuild disk d; of its stores only the first c are made. The images are lent for their length.
-pub fn begin_rebuild_cut(c: u64, r: Record, images: &[u8], d: u64) -> Changed
-    ensures answer { changed_answer result ≡ (begun c (on (begin d) images.now []) r).answer }
-    ensures state { changed_record r result ≡ (begun c (on (begin d) images.now []) r).state }
+// Begins to rebuild disk d. The images are lent for their length.
+pub fn begin_rebuild(r: Record, images: &[u8], d: u64) -> Changed
+    ensures answer { changed_answer result ≡ (called (on (begin d) images.now []) r).answer }
+    ensures state { changed_record r result ≡ (called (on (begin d) images.now []) r).state }
 {
     let k = of_begin(r, images.len(), d);
     if k != 0 {
         return Changed::Refused(k);
     }
-    start_rebuild(c, r, images, d)
+    start_rebuild(r, images, d)
 }
 
-pub fn begin_rebuild(r: Record, images: &[u8], d: u64) -> Changed
-    ensures answer { changed_answer result ≡ (called (on (begin d) images.now []) r).answer }
-    ensures state { changed_record r result ≡ (called (on (begin d) images.now []) r).state }
-{
-    begin_rebuild_cut(ALL, r, images, d)
-}
-
-// Makes the next k stripes of the disk that is being rebuilt, or all that are left; of its stores only the first c are made.
-pub fn continue_rebuild_cut(c: u64, r: Record, images: &mut [u8], k: u64) -> Counted
-    ensures answer { counted_answer result ≡ (begun c (on (continue k) images.old []) r).answer }
-    ensures state { counted_record r result ≡ (begun c (on (continue k) images.old []) r).state }
-    ensures images { images.new ≡ (begun c (on (continue k) images.old []) r).images }
-{
-    let refused = of_continue(r, images.len(), k);
-    if refused != 0 {
-        return Counted::Refused(refused);
-    }
-    rebuild_due(c, r, images, k)
-}
-
+// Makes the next k stripes of the disk that is being rebuilt, or all that are left.
 pub fn continue_rebuild(r: Record, images: &mut [u8], k: u64) -> Counted
     ensures answer { counted_answer result ≡ (called (on (continue k) images.old []) r).answer }
     ensures state { counted_record r result ≡ (called (on (continue k) images.old []) r).state }
     ensures images { images.new ≡ (called (on (continue k) images.old []) r).images }
 {
-    continue_rebuild_cut(ALL, r, images, k)
+    let refused = of_continue(r, images.len(), k);
+    if refused != 0 {
+        return Counted::Refused(refused);
+    }
+    rebuild_due(r, images, k)
 }

@@ -35,7 +35,6 @@ round_trip =
       offsets = λ r. (refl, refl, refl, refl, omega arith, refl, refl, omega arith, omega arith, omega arith);
       health_bytes = (refl, refl, refl, (λ d. (refl, refl, refl)), refl, refl, refl, λ d c. (refl, refl, refl));
       healths = one_of;
-      mark_bytes = (refl, refl);
       example = refl;
     }
 
@@ -83,8 +82,8 @@ good-is =
       limits = λ r. (
         (λ l.
             let a = l.array in
-            (a.disks.n_low, a.disks.n_high, a.disks.m_high, l.block_low, l.block_high, a.stripes_low, a.stripes_high, a.moves, (λ d e. out-lt r d l e), λ d c e. rebuilding-lt r d c l e, l.marked)),
-        λ (n_low, n_high, m_high, B-low, B-high, T-low, T-high, moves, out, rebuilding, marked).
+            (a.disks.n_low, a.disks.n_high, a.disks.m_high, l.block_low, l.block_high, a.stripes_low, a.stripes_high, a.moves, (λ d e. out-lt r d l e), λ d c e. rebuilding-lt r d c l e)),
+        λ (n_low, n_high, m_high, B-low, B-high, T-low, T-high, moves, out, rebuilding).
             record {
               array = record {
                 disks = record { n_low = n_low; n_high = n_high; m_high = m_high };
@@ -95,7 +94,6 @@ good-is =
               block_low = B-low;
               block_high = B-high;
               health = below (r.old + r.new) r.stripes r.health out rebuilding;
-              marked = marked;
             },
       );
       array = λ r. refl;
@@ -104,4 +102,4 @@ good-is =
     }
 
 pub updates : Updates
-updates = record { formatted_is = λ n B T. refl; grown_is = λ r m. refl; moves_are = λ r t. refl; health_is = λ r h. refl; mark_is = λ r m. refl }
+updates = record { formatted_is = λ n B T. refl; grown_is = λ r m. refl; moves_are = λ r t. refl; health_is = λ r h. refl }

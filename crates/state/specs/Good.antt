@@ -1,8 +1,8 @@
 -- Which records are good. Document 01, Record: "A record is good exactly if each field is in its limits, bytes 6–7 zero
 -- included, the out disk is below N, t is at most the total of moves, .. with m = 0, t = 0." (What that asks of bytes which no field takes
 -- is `plain` of Bytes. Document 02, (a): "The divisor condition leaves .. the good record", so T is any number in its limits. Document 02,
--- (d): of a rebuild the disk is "below N", and the count of stripes "below T". (h): byte 6 may hold a mark.)
-use Rattle.std.specs.Prelude.{ℕ, ◌+◌, ◌≤◌, ◌<◌, ◌≡◌, Bool, true, not, ◌&&◌, ◌||◌, leb, ltb, eqb}
+-- (d): of a rebuild the disk is "below N", and the count of stripes "below T".)
+use Rattle.std.specs.Prelude.{ℕ, ◌+◌, ◌≤◌, ◌<◌, Bool, true, ◌&&◌, ◌||◌, leb, ltb, eqb}
 use Rattle.layout.specs.declared.Geometry.{Geometry}
 use Rattle.layout.specs.Layout.{total_of}
 use Rattle.layout.specs.Limits.{GoodArray}
@@ -50,14 +50,10 @@ health_good N T (Out d) = ltb d N
 health_good N T Lost = true
 health_good N T (Rebuilding d c) = ltb d N && ltb c T
 
--- "A marked record needs t above 0" (document 02, (h); that it "is good for restart and status only" is row 1 of the table)
-abbrev pub mark_good : Bool → ℕ → Bool
-mark_good m t = not m || ltb 0 t
-
 unfoldable pub good : Record → Bool
 good r =
     old_good r.old && (block_good r.block && (stripes_good r.stripes
-    && (moves_good (geometry r) && (health_good (r.old + r.new) r.stripes r.health && mark_good r.mark r.moves))))
+    && (moves_good (geometry r) && health_good (r.old + r.new) r.stripes r.health)))
 
 -- ---- the same as facts (`GoodIs.exactly` of Theorem)
 
@@ -72,4 +68,3 @@ pub record GoodRecord (r : Record) : Type 0 where
   pub block_low : 1 ≤ r.block
   pub block_high : r.block ≤ 4096
   pub health : HealthWithin (r.old + r.new) r.stripes r.health
-  pub marked : r.mark ≡ true → 0 < r.moves

@@ -2,7 +2,7 @@
 // bare numbers, as in `RoundTrip.offsets`: a named one would ask for a proof of each sum, and save no edit.
 ghost use Rattle.std.specs.Prelude.{◌≡◌, length};
 ghost use Rattle.state.specs.Bytes.{record_length, done_from, health_of, decode, health_plain, plain};
-ghost use Rattle.state.specs.Bytes.{health_byte, disk_byte, stripes_done, mark_byte, encode};
+ghost use Rattle.state.specs.Bytes.{health_byte, disk_byte, stripes_done, encode};
 
 use crate::types::{Health, Record};
 use blocks::{join_four, join_two};
@@ -45,7 +45,7 @@ pub fn is_plain(bytes: &[u8]) -> bool
     if !health_is_plain(bytes[2], bytes[3], done_from(bytes)) {
         return false;
     }
-    if 1 < bytes[6] {
+    if bytes[6] != 0 {
         return false;
     }
     bytes[7] == 0
@@ -82,7 +82,6 @@ pub fn decode(bytes: &[u8]) -> Record
         block: join_two(bytes[4], bytes[5]),
         stripes: join_four(bytes[8], bytes[9], bytes[10], bytes[11]),
         moves: join_four(bytes[12], bytes[13], bytes[14], bytes[15]),
-        mark: bytes[6] == 1,
     }
 }
 
@@ -122,16 +121,6 @@ pub fn stripes_done(health: Health) -> u32
     }
 }
 
-// Byte 6.
-pub fn mark_byte(mark: bool) -> u8
-    ensures { result ≡ mark_byte mark }
-{
-    if mark {
-        return 1;
-    }
-    0
-}
-
 // Writes the record's bytes.
 pub fn encode(r: Record, bytes: &mut [u8])
     requires { length bytes.old ≡ record_length }
@@ -145,7 +134,7 @@ pub fn encode(r: Record, bytes: &mut [u8])
     bytes[3] = disk_byte(health);
     bytes[4] = (r.block % 256) as u8;
     bytes[5] = (r.block / 256) as u8;
-    bytes[6] = mark_byte(r.mark);
+    bytes[6] = 0;
     bytes[7] = 0;
     bytes[8] = (r.stripes % 256) as u8;
     bytes[9] = (r.stripes / 256 % 256) as u8;

@@ -1,7 +1,7 @@
 // Which records are good. The limits of single fields are functions of their own: format and grow are held to them too.
 ghost use Rattle.std.specs.Prelude.{◌≤◌, ◌≡◌};
 ghost use Rattle.state.specs.Good.{geometry, within, old_good, new_good, added_good, block_good, stripes_good};
-ghost use Rattle.state.specs.Good.{moves_good, health_good, mark_good, good};
+ghost use Rattle.state.specs.Good.{moves_good, health_good, good};
 
 use crate::types::{Health, Record};
 use layout::Geometry;
@@ -96,16 +96,6 @@ fn health_is_good(disks: u64, stripes: u32, health: Health) -> bool
     }
 }
 
-// May a record with so many moves done have a mark, if it has one?
-fn mark_is_good(mark: bool, moves: u32) -> bool
-    ensures { result ≡ mark_good mark moves }
-{
-    if !mark {
-        return true;
-    }
-    0 < moves
-}
-
 // Is every field in its limits?
 pub fn is_good(r: Record) -> bool
     ensures { result ≡ good r }
@@ -125,8 +115,5 @@ pub fn is_good(r: Record) -> bool
     if !moves_are_good(r) {
         return false;
     }
-    if !health_is_good(n + m, r.stripes, health) {
-        return false;
-    }
-    mark_is_good(r.mark, r.moves)
+    health_is_good(n + m, r.stripes, health)
 }

@@ -8,8 +8,7 @@ pub enum Health {
     Rebuilding { disk: u8, done: u32 },
 }
 
-// n old disks, m new ones (0 before growth), B the block length, T stripes, t moves done, and whether the place that the last
-// move left is not cleared yet.
+// n old disks, m new ones (0 before growth), B the block length, T stripes, t moves done.
 #[derive(Drop)]
 pub struct Record {
     pub old: u8,
@@ -18,5 +17,4 @@ pub struct Record {
     pub block: u16,
     pub stripes: u32,
     pub moves: u32,
-    pub mark: bool,
 }

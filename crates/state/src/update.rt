@@ -1,6 +1,6 @@
 // The records that calls leave.
 ghost use Rattle.std.specs.Prelude.{◌≡◌};
-ghost use Rattle.state.specs.Update.{formatted, grown_by, with_moves, with_health, with_mark};
+ghost use Rattle.state.specs.Update.{formatted, grown_by, with_moves, with_health};
 
 use crate::types::{Health, Record};
 
@@ -15,7 +15,6 @@ pub fn formatted(n: u8, block: u16, stripes: u32) -> Record
         block: block,
         stripes: stripes,
         moves: 0,
-        mark: false,
     }
 }
 
@@ -31,7 +30,6 @@ pub fn grown_by(r: Record, m: u8) -> Record
         block: r.block,
         stripes: r.stripes,
         moves: 0,
-        mark: false,
     }
 }
 
@@ -47,7 +45,6 @@ pub fn with_moves(r: Record, moves: u32) -> Record
         block: r.block,
         stripes: r.stripes,
         moves: moves,
-        mark: false,
     }
 }
 
@@ -62,15 +59,5 @@ pub fn with_health(r: Record, health: Health) -> Record
         block: r.block,
         stripes: r.stripes,
         moves: r.moves,
-        mark: false,
     }
-}
-
-// With a mark, or without.
-pub fn with_mark(r: Record, mark: bool) -> Record
-    ensures { result ≡ with_mark r mark }
-{
-    let mut marked = r;
-    marked.mark = mark;
-    marked
 }

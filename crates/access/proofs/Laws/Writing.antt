@@ -1,13 +1,10 @@
--- The stores of a write, by which of its two disks is absent, and the first of them. Assumes nothing.
-use Prim.Native.Nat.{ℕ, ◌+◌, ◌≤◌, ◌<◌}
+-- The stores of a write, by which of its two disks is absent. Assumes nothing.
+use Prim.Native.Nat.{ℕ, ◌+◌, ◌≤◌}
 use mathlib.Core.Path.{◌≡◌, refl, sym, ap, ◌∙◌}
-use mathlib.Core.Bool.{Bool, true, false, true≢false}
-use mathlib.Core.Logic.{◌⊎◌, inl, inr, ◌≢◌}
-use mathlib.Core.List.{List, ◌++◌}
-use native.Mathlib.Nat.{le_trans}
-use native.Mathlib.Omega.{arith}
-use lib.ListN.{length, take}
-use lib.Seq.{take_all}
+use mathlib.Core.Bool.{Bool, true, false}
+use mathlib.Core.Logic.{◌≢◌, inr}
+use mathlib.Core.List.{List}
+use lib.ListN.{length}
 use Rattle.layout.specs.declared.Place.{Place}
 use Rattle.layout.specs.declared.Standing.{Standing}
 use Rattle.blocks.specs.Block.{store, Disjoint}
@@ -18,23 +15,11 @@ use Rattle.blocks.proofs.Laws.Block.{length-store}
 use Rattle.blocks.proofs.Laws.Stripe.{place-in, places-apart}
 use Rattle.state.specs.declared.types.Record.{Record}
 use Rattle.calls.specs.Health.{absent}
-use Rattle.calls.specs.Images.{disks_of, seen, Store, block, stored, unless}
-use Rattle.calls.specs.Effect.{place_of, parity_of, write_stores}
+use Rattle.calls.specs.Images.{disks_of, seen, stored}
+use Rattle.calls.specs.Effect.{write_stores}
 use Rattle.calls.proofs.Laws.Column.{Single}
 use Rattle.calls.proofs.Laws.Holding.{single}
 use Rattle.access.proofs.Laws.Reaching.{Reached, inside, short, summed}
-
--- two stores, of which either may be skipped: how many there are
-count : (a b : Bool) (s t : Store) → (length (unless a s ++ unless b t) ≤ 2) × ((a ≡ true) ⊎ (b ≡ true) → length (unless a s ++ unless b t) ≤ 1)
-count true true s t = (omega arith, λ h. omega arith)
-count true false s t = (omega arith, λ h. omega arith)
-count false true s t = (omega arith, λ h. omega arith)
-count false false s t = (omega arith, λ h. elim h [ inl z ↦ absurd (true≢false (sym z)) | inr z ↦ absurd (true≢false (sym z)) ])
-
--- a budget of none
-pub none_made : (r : Record) (c : ℕ) (ps : List Store) (img : List ℕ) → c < 1 → img ≡ stored r.block r.stripes (take c ps) img
-unfolding stored
-none_made r c ps img l = let z : c ≡ 0 = omega (arith, l) in rw z refl
 
 -- a write of v to block b, which stands as y says (a record, so that a proof need not name v)
 pub record Aimed (r : Record) (len b : ℕ) (v : List ℕ) (y : Standing) : Type 0 where
@@ -96,38 +81,3 @@ module _ {r : Record} {len b : ℕ} {v : List ℕ} {y : Standing} (a : Aimed r l
       → (length left ≡ length img) × (store left at v ≡ stored r.block r.stripes (write_stores r img b v) img)
   unfolding write_stores stored seen
   parity-out img f u w z = (ap length z, rw (z, f, x.is, rw x.is at w, rw x.is at u) refl)
-
-  -- ---- and the first c of them
-
-  abbrev gone : ℕ → Bool
-  gone d = absent r.health (place_of r b).stripe d
-
-  few : (img : List ℕ) → (length (write_stores r img b v) ≤ 2)
-      × ((gone (parity_of r b).disk ≡ true) ⊎ (gone (place_of r b).disk ≡ true) → length (write_stores r img b v) ≤ 1)
-  unfolding write_stores
-  few img =
-      let S : ℕ = (place_of r b).stripe in
-      let d : ℕ = (place_of r b).disk in
-      let p' : ℕ = (parity_of r b).disk in
-      count (gone p') (gone d) (block S p' (xor_b (xor_b (seen r img S p') (seen r img S d)) v)) (block S d v)
-
-  -- c are all
-  abbrev All : List ℕ → ℕ → Type 0
-  All img c = stored r.block r.stripes (write_stores r img b v) img ≡ stored r.block r.stripes (take c (write_stores r img b v)) img
-
-  all_made : (img : List ℕ) (c : ℕ) → length (write_stores r img b v) ≤ c → All img c
-  all_made img c l = ap (λ (ps : List Store). stored r.block r.stripes ps img) (sym (take_all c (write_stores r img b v) l))
-
-  -- two always, and one where the other is skipped
-  pub two_made : (img : List ℕ) {c : ℕ} → 2 ≤ c → All img c
-  two_made img {c} l = all_made img c (le_trans (few img).0 l)
-
-  pub one-made : (img : List ℕ) {c : ℕ} → (absent r.health q.stripe p ≡ true) ⊎ (absent r.health q.stripe q.disk ≡ true) → 1 ≤ c → All img c
-  one-made img {c} h l = all_made img c (le_trans ((few img).1 (rw x.is at h)) l)
-
-  -- else one is the parity's
-  pub parity-made : (img : List ℕ) {left : List ℕ} {c at to : ℕ} → at ≡ offset r.block r.stripes q.stripe q.disk → to ≡ offset r.block r.stripes q.stripe p
-      → absent r.health q.stripe q.disk ≡ false → absent r.health q.stripe p ≡ false → left ≡ store img to (folded img to at v) → 1 ≤ c → c < 2
-      → left ≡ stored r.block r.stripes (take c (write_stores r img b v)) img
-  unfolding write_stores stored seen
-  parity-made img {left} {c} f t u w z l h = let e : c ≡ 1 = omega (arith, l, h) in rw (e, z, f, t, x.whole, x.is, rw x.is at w, rw x.is at u) refl

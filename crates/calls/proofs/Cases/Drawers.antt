@@ -1,24 +1,18 @@
 -- One cabinet, byte by byte, by computation. Assumes nothing.
 use mathlib.Core.Path.{refl}
-use Rattle.layout.specs.Home.{data_disk, home_stripe, home_disk, rank_of, home_block, home_owner}
+use Rattle.layout.specs.Home.{data_disk, home_stripe, home_disk}
 use Rattle.layout.specs.Moves.{move_zone, move_to, move_lag, move_within, move_stripe, move_from, total}
 use Rattle.layout.specs.Closed.{lag, target, turn, is_moved, disk_at, source, taken}
-use Rattle.layout.specs.Blanks.{blanks_below, blanks, new_stripe, new_disk, new_block}
-use Rattle.layout.specs.Layout.{open_stripes, capacity, grown_place, grown_parity, new_owner, grown_owner}
+use Rattle.layout.specs.Blanks.{blanks_below, blanks, new_stripe, new_disk}
+use Rattle.layout.specs.Layout.{open_stripes, capacity, grown_place, grown_parity}
 use Rattle.state.specs.Good.{moves_good, good}
 use Rattle.calls.specs.Images.{seen, stored, recorded, fill_disk, zero_disks}
 use Rattle.calls.specs.Table.{idle, formable, terms, later_rows, table, refusal}
-use Rattle.calls.specs.Effect.{view_of, scratch_left, write_stores, move_stores, advance_stores, continue_stores}
-use Rattle.calls.specs.Effect.{clear_stores, zero_blanks, mend_stripe, mend_stripes, restart_stores, effect, called, begun}
+use Rattle.calls.specs.Effect.{view_of, scratch_left, write_stores, move_stores, advance_stores, continue_stores, effect, called}
 use Rattle.calls.specs.Cases.Drawers.{Drawers}
 
 pub drawers : Drawers
-unfolding data_disk home_stripe home_disk rank_of home_block home_owner move_zone move_to move_lag move_within move_stripe move_from total
-    lag target turn is_moved disk_at source taken blanks_below blanks new_stripe new_disk new_block
-    open_stripes capacity grown_place grown_parity new_owner grown_owner
-    moves_good good seen stored recorded fill_disk zero_disks idle formable terms later_rows table refusal
-    view_of scratch_left write_stores move_stores advance_stores continue_stores
-    clear_stores zero_blanks mend_stripe mend_stripes restart_stores effect called begun
+unfolding data_disk home_stripe home_disk move_zone move_to move_lag move_within move_stripe move_from total lag target turn is_moved disk_at source taken blanks_below blanks new_stripe new_disk open_stripes capacity grown_place grown_parity moves_good good seen stored recorded fill_disk zero_disks idle formable terms later_rows table refusal view_of scratch_left write_stores move_stores advance_stores continue_stores effect called
 drawers = record {
   move = refl;
   no_move = refl;
@@ -63,12 +57,6 @@ drawers = record {
   last_stores = refl;
   format_stores = refl;
   grow_stores = refl;
-  restart-stores = refl;
-  restarted = refl;
-  restarted_last = refl;
-  restarted_sound = refl;
-  cut_copy = refl;
-  cut_marked = refl;
   any_first_byte = refl;
   written_unsound = refl;
   written_beside_unsound = refl;

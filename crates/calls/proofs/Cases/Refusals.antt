@@ -4,7 +4,7 @@ use Rattle.layout.specs.Layout.{open_stripes, capacity}
 use Rattle.layout.specs.Moves.{total}
 use Rattle.state.specs.Good.{moves_good, good}
 use Rattle.state.specs.Bytes.{decode, plain, encode}
-use Rattle.calls.specs.Call.{format, read, view, write, grow, advance, out, begin, continue, status, locate, owner, sweep, restart}
+use Rattle.calls.specs.Call.{format, read, view, write, grow, advance, out, begin, continue, status, locate, owner, sweep}
 use Rattle.calls.specs.Table.{idle, formable, terms, later_rows, table, rows_bytes, refusal_bytes}
 use Rattle.calls.specs.Cases.Refusals.{Rowwise, Refusals}
 
@@ -23,7 +23,6 @@ rowwise status short bad r cap len room = refl
 rowwise (locate b) short bad r cap len room = refl
 rowwise (owner S d) short bad r cap len room = refl
 rowwise sweep short bad r cap len room = refl
-rowwise restart short bad r cap len room = refl
 
 pub refusals : Refusals
 unfolding open_stripes capacity total moves_good good decode plain encode idle formable terms later_rows table rows_bytes refusal_bytes
@@ -44,6 +43,4 @@ refusals = record {
   locates = refl;
   owners = refl;
   sweeps = refl;
-  restarts = refl;
-  marked_others = refl;
 }

@@ -30,11 +30,6 @@ use Rattle.calls.proofs.Laws.Passed as passed
 abbrev pub advanced : ℕ → Record → Record
 advanced k r = with_moves r (r.moves + min k (total_of (geometry r) - r.moves))
 
--- an unmarked record with the moves that it has
-pub as_moved : (r : Record) → r.mark ≡ false → (t : ℕ) → r.moves ≡ t → r ≡ with_moves r t
-as_moved r clean t q =
-    λ i. record { old = r.old; new = r.new; health = r.health; block = r.block; stripes = r.stripes; moves = q i; mark = clean i }
-
 -- ---- what a move keeps, the moves of an advance keep; and they are as many as are asked for or left
 
 module _ (P : Record → List ℕ → Type 0) where
@@ -44,12 +39,12 @@ module _ (P : Record → List ℕ → Type 0) where
     pub kept : P (recorded ps r) (stored r.block r.stripes ps img)
 
   pub carried : ((r : Record) (img : List ℕ) → GoodArray (geometry r) → idle (geometry r) ≡ false → P r img → P (moved r) (stored r.block r.stripes (move_stores r img) img))
-      → (k : ℕ) (r : Record) (img : List ℕ) → GoodArray (geometry r) → r.new ≢ 0 → r.mark ≡ false → P r img → Carried k r (advance_stores k r img) img
+      → (k : ℕ) (r : Record) (img : List ℕ) → GoodArray (geometry r) → r.new ≢ 0 → P r img → Carried k r (advance_stores k r img) img
   unfolding advance_stores stored recorded move_stores
-  carried step zero r img gd nz clean p =
-      record { state = as_moved r clean (r.moves + min 0 (total_of (geometry r) - r.moves)) (omega arith); good = gd; kept = p }
-  carried step (suc k) r img gd nz clean p =
-      go (idle (geometry r)) refl (λ q. carried step k (moved r) (stored r.block r.stripes (move_stores r img) img) (good-moved r gd q) nz refl (step r img gd q p))
+  carried step zero r img gd nz p =
+      record { state = ap {B = Record} (λ (x : ℕ). with_moves r x) (let e : r.moves ≡ r.moves + min 0 (total_of (geometry r) - r.moves) = omega arith in e); good = gd; kept = p }
+  carried step (suc k) r img gd nz p =
+      go (idle (geometry r)) refl (λ q. carried step k (moved r) (stored r.block r.stripes (move_stores r img) img) (good-moved r gd q) nz (step r img gd q p))
     where
       J : List ℕ
       J = stored r.block r.stripes (move_stores r img) img
@@ -72,7 +67,7 @@ module _ (P : Record → List ℕ → Type 0) where
       go true q f =
           let all : r.moves ≡ total_of (geometry r) = none_left (geometry r) nz q in
           record {
-            state = as_moved r clean (r.moves + min (suc k) (total_of (geometry r) - r.moves)) (omega arith);
+            state = ap {B = Record} (λ (x : ℕ). with_moves r x) (let e : r.moves ≡ r.moves + min (suc k) (total_of (geometry r) - r.moves) = omega arith in e);
             good = gd;
             kept = p;
           }
@@ -111,12 +106,12 @@ advance-split (suc i) k r img = ap (λ (x : ℕ). advance_stores x r img) (suc-a
 
 -- ---- what the moves of an advance keep: images that hold the list they began with, as long as it is by then ..
 
-pub record Moving (bs : List (List ℕ)) (r : Record) (img : List ℕ) : Type 0 where
-  pub whole : r.health ≡ Whole
-  pub enough : length bs ≤ capacity (geometry r)
-  pub holding : Holding r img (with-new (geometry r) r.block bs)
+record Moving (bs : List (List ℕ)) (r : Record) (img : List ℕ) : Type 0 where
+  whole : r.health ≡ Whole
+  enough : length bs ≤ capacity (geometry r)
+  holding : Holding r img (with-new (geometry r) r.block bs)
 
-pub moving : (bs : List (List ℕ)) (r : Record) (img : List ℕ) → GoodArray (geometry r) → idle (geometry r) ≡ false → Moving bs r img
+moving : (bs : List (List ℕ)) (r : Record) (img : List ℕ) → GoodArray (geometry r) → idle (geometry r) ≡ false → Moving bs r img
     → Moving bs (moved r) (stored r.block r.stripes (move_stores r img) img)
 moving bs r img good busy p =
     let rise : capacity (geometry r) ≤ capacity (geometry (moved r)) = capacity-rises (geometry r) good (suc r.moves) (omega arith) (some_left (geometry r) good busy) in
@@ -133,13 +128,13 @@ moving bs r img good busy p =
 unfoldable Parities : (ℕ → List ℕ) → Record → List ℕ → Type 0
 Parities f r img = (length img ≡ size r) × ((S : ℕ) → S < r.stripes → place_in r img S ((layout (geometry r)).parity S) ≡ f S)
 
-pub parity-kept : (k : ℕ) (r : Record) (img : List ℕ) → GoodArray (geometry r) → r.new ≢ 0 → r.mark ≡ false → length img ≡ size r → (S : ℕ) → S < r.stripes
+pub parity-kept : (k : ℕ) (r : Record) (img : List ℕ) → GoodArray (geometry r) → r.new ≢ 0 → length img ≡ size r → (S : ℕ) → S < r.stripes
     → parity_after k r img S ≡ place_in r img S ((layout (geometry r)).parity S)
 unfolding Parities parity_after
-parity-kept k r img good nz clean long S lS =
+parity-kept k r img good nz long S lS =
     let f : ℕ → List ℕ = λ s. place_in r img s ((layout (geometry r)).parity s) in
     let x : Carried (Parities f) k r (advance_stores k r img) img =
-    carried (Parities f) (λ y J gd q p. (long-move y J gd q p.0, λ s ls. parity-move y J gd q p.0 s ls ∙ p.1 s ls)) k r img good nz clean (long, λ s ls. refl) in
+    carried (Parities f) (λ y J gd q p. (long-move y J gd q p.0, λ s ls. parity-move y J gd q p.0 s ls ∙ p.1 s ls)) k r img good nz (long, λ s ls. refl) in
     let p : Parities f (advanced k r) (stored r.block r.stripes (advance_stores k r img) img) =
     subst (λ (y : Record). Parities f y (stored r.block r.stripes (advance_stores k r img) img)) x.state x.kept in
     rw x.state (p.1 S lS)
@@ -157,7 +152,7 @@ module _ (r : Record) (img room : List ℕ) (bs : List (List ℕ)) (lends : leng
       let g : Geometry = geometry r in
       let begun : Moving bs r img =
       record { whole = q.all_in; enough = omega (arith, h.count); holding = rw (same-with-new g r.block bs h.count) h } in
-      let c : Carried (Moving bs) k r (advance_stores k r img) img = carried (Moving bs) (moving bs) k r img h.limits.array (some-new g q.busy) h.clean begun in
+      let c : Carried (Moving bs) k r (advance_stores k r img) img = carried (Moving bs) (moving bs) k r img h.limits.array (some-new g q.busy) begun in
       let p : Moving bs (advanced k r) (stored r.block r.stripes (advance_stores k r img) img) =
       subst (λ (x : Record). Moving bs x (stored r.block r.stripes (advance_stores k r img) img)) c.state c.kept in
       record {

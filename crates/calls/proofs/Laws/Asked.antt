@@ -9,7 +9,7 @@ use borrow.Author.Tests.{eqb-false, not-true}
 use Rattle.state.specs.declared.types.Record.{Record}
 use Rattle.state.specs.Good.{good}
 use Rattle.calls.specs.Call.{Call, feed}
-use Rattle.calls.specs.Table.{Row, bad_record, images, Takes, those, images_row, terms, later_rows, looks, unfit, table, refusal}
+use Rattle.calls.specs.Table.{Row, bad_record, images, Takes, those, images_row, terms, later_rows, looks, table, refusal}
 use Rattle.calls.proofs.Laws.Rows.{rises, given}
 
 -- a call that takes images of length n, and is lent other ones where 7 is given
@@ -22,7 +22,7 @@ turned-away r cap len room n c q z =
     rows = table c false (not (good r)) r cap len room
 
     first : List Row
-    first = bad_record (cond (looks c) (false || unfit c (not (good r)) r) false) ∷ (terms c r).before
+    first = bad_record (cond (looks c) (false || not (good r)) false) ∷ (terms c r).before
 
     behind : List Row
     behind = (terms c r).behind cap room

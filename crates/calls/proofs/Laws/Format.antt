@@ -17,7 +17,6 @@ use Rattle.state.specs.declared.types.Record.{Record}
 use Rattle.state.specs.Good.{geometry, GoodRecord}
 use Rattle.state.specs.Update.{formatted}
 use Rattle.calls.specs.Call.{format, on, done}
-use Rattle.state.proofs.Laws.Good.{no-mark}
 use Rattle.calls.specs.Health.{absent}
 use Rattle.calls.specs.Images.{disks_of, size, Store, stored, zero_disks}
 use Rattle.calls.specs.Table.{formable, later_rows, word}
@@ -61,7 +60,6 @@ module _ (n B T : ℕ) where
         block_low = bl;
         block_high = bh;
         health = tt;
-        marked = no-mark;
       }
 
   empty : T * (n - 1) ≡ capacity (geometry r)
@@ -82,7 +80,6 @@ module _ (n B T : ℕ) where
           holding =
               record {
                 limits = limits q.fits;
-                clean = refl;
                 long = rw (stored_last B T ps r img) (length-stored B T ps img ∙ long);
                 count = length-replicate (T * (n - 1)) (zeros B) ∙ empty;
                 whole = λ b h. whole-blank (T * (n - 1)) B b (rw (length-replicate (T * (n - 1)) (zeros B)) at h);

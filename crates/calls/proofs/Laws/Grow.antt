@@ -21,7 +21,7 @@ use Rattle.state.specs.declared.types.Health.TheVariants.{Whole}
 use Rattle.state.specs.declared.types.Record.{Record}
 use Rattle.state.specs.Good.{geometry, new_good}
 use Rattle.state.specs.Update.{grown_by}
-use Rattle.state.proofs.Laws.Good.{within-true, no-mark}
+use Rattle.state.proofs.Laws.Good.{within-true}
 use Rattle.calls.specs.Call.{grow, on, done}
 use Rattle.calls.specs.Health.{is_lost, absent}
 use Rattle.calls.specs.Images.{disks_of, size_with, Store, stored, zero_disks}
@@ -136,8 +136,7 @@ module _ (r : Record) (left img room : List ℕ) (bs : List (List ℕ)) (h : Hol
         state = recorded-last ps x r;
         holding =
             record {
-              limits = record { array = good; block_low = h.limits.block_low; block_high = h.limits.block_high; health = rw hw tt; marked = no-mark };
-              clean = refl;
+              limits = record { array = good; block_low = h.limits.block_low; block_high = h.limits.block_high; health = rw hw tt };
               long = rw (stored_last r.block r.stripes ps x img) (length-stored r.block r.stripes ps img ∙ long);
               count = count-with-new g' r.block bs (enough mz);
               whole = whole-with-new g' r.block bs h.whole;

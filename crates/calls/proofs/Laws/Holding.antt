@@ -34,7 +34,6 @@ cell_in r img j = cell r.block r.stripes img j
 -- (so a write has no cases on health)
 pub record Holding (r : Record) (img : List ℕ) (bs : List (List ℕ)) : Type 0 where
   pub limits : GoodRecord r
-  pub clean : r.mark ≡ false
   pub long : length img ≡ size r
   pub count : length bs ≡ capacity (geometry r)
   pub whole : (b : ℕ) → b < length bs → length (get_or bs b []) ≡ r.block
@@ -109,7 +108,6 @@ module _ (r : Record) (img : List ℕ) (bs : List (List ℕ)) (h : Holding r img
   relends lent z k =
       record {
         limits = h.limits;
-        clean = h.clean;
         long = z;
         count = h.count;
         whole = h.whole;

@@ -11,26 +11,25 @@ use Rattle.layout.proofs.Laws.Layout.{lawful}
 use Rattle.blocks.proofs.Laws.Stripe.{length-others}
 use Rattle.state.specs.declared.types.Record.{Record}
 use Rattle.state.specs.Good.{geometry, GoodRecord}
-use Rattle.calls.specs.Call.{Call, format, read, view, write, grow, advance, out, begin, continue, status, locate, owner, sweep, restart}
+use Rattle.calls.specs.Call.{Call, format, read, view, write, grow, advance, out, begin, continue, status, locate, owner, sweep}
 use Rattle.calls.specs.Call.{Event, Fed, feed, Answer, accepted, number, done}
 use Rattle.state.specs.Update.{formatted, grown_by}
 use Rattle.calls.specs.Health.{absent}
 use Rattle.calls.specs.Images.{disks_of, others_in, Store, header, stored, stored_in, recorded, zero_disks}
 use Rattle.calls.specs.Sound.{unsound_stripes}
-use Rattle.calls.specs.Table.{looks, takes_marked, refusal_of}
-use Rattle.calls.specs.Effect.{place_of, scratch_left, write_stores, advance_stores, continue_stores, restart_stores, swept_to, Effect, tells, fills, stores, effect, answer_of, record_left, images_left, room_left}
+use Rattle.calls.specs.Table.{looks, refusal_of}
+use Rattle.calls.specs.Effect.{place_of, scratch_left, write_stores, advance_stores, continue_stores, swept_to, Effect, tells, fills, stores, effect, answer_of, record_left, images_left, room_left}
 use Rattle.calls.specs.Alone.{Inside, StoresInside, FillsRoom, read-fills, view-fills}
-use Rattle.calls.specs.Alone.{StoresBlocks, format_stores, write-stores, grow_stores, advance-stores, continue-stores, restart-stores}
-use Rattle.calls.specs.Acts.{StoresRecord, format-records, grow-records, advance-records, out-records, begin-records, continue-records, restart-records}
+use Rattle.calls.specs.Alone.{StoresBlocks, format_stores, write-stores, grow_stores, advance-stores, continue-stores}
+use Rattle.calls.specs.Acts.{StoresRecord, format-records, grow-records, advance-records, out-records, begin-records, continue-records}
 use Rattle.calls.proofs.Laws.Stores.{Within, length-stored, within-append, within-zero}
 use Rattle.calls.proofs.Laws.Acting.{zero-done}
 use Rattle.calls.proofs.Laws.Holding.{length_seen}
 use Rattle.calls.proofs.Laws.Write.{within-write, recorded-write}
 use Rattle.calls.proofs.Laws.Passed as passed
-use Rattle.calls.proofs.Laws.Passed.{Formats, Reaches, Grows, Moves, Continues, SweepsAll, in-limits, no-mark-on}
+use Rattle.calls.proofs.Laws.Passed.{Formats, Reaches, Grows, Moves, Continues, in-limits}
 use Rattle.calls.proofs.Laws.Kept.{inside-within, within-advance}
 use Rattle.calls.proofs.Laws.Rebuild.{within-remade, stores-are}
-use Rattle.calls.proofs.Laws.Restart.{within-restart}
 
 -- a sweep answers, whatever it finds
 swept-accepted : (T : ℕ) (l : List ℕ) → accepted (swept_to T l) ≡ true
@@ -61,9 +60,6 @@ module _ (r : Record) (e : Event) where
   pub bounds : (c : Call) → looks c ≡ true → Passed c → GoodRecord r
   bounds c l z = in-limits r cap (asked c) l z
 
-  pub unmarked : (c : Call) → looks c ≡ true → takes_marked c ≡ false → Passed c → r.mark ≡ false
-  unmarked c l m z = no-mark-on r cap (asked c) l m z
-
   pub formatting : (n B T : ℕ) → Passed (format n B T) → Formats n B T (length img)
   formatting n B T z = passed.formats r cap (length img) (length e.room) n B T (passed.passed r cap (asked (format n B T)) z)
 
@@ -84,9 +80,6 @@ module _ (r : Record) (e : Event) where
 
   pub continuing : (k : ℕ) → Passed (continue k) → Continues r (length img)
   continuing k z = passed.continues r cap (length img) (length e.room) k (passed.passed r cap (asked (continue k)) z)
-
-  pub mending : Passed restart → SweepsAll r (length img)
-  mending z = passed.restarts r cap (length img) (length e.room) (passed.passed r cap (asked restart) z)
 
   -- ---- the stores of each call that makes any
 
@@ -128,12 +121,6 @@ module _ (r : Record) (e : Event) where
       inside-within (disks_of r) r.block r.stripes (length img) w.long (continue_stores k r img)
       (rw (stores-are r img w.disk w.done w.health k)
       (within-last (disks_of r) r.block r.stripes _ _ (within-remade r img w.disk w.done w.health k l)))
-
-  restart-inside : Passed restart → Inside (length img) r.block r.stripes (restart_stores r img)
-  restart-inside z =
-      let w = mending z in
-      inside-within (disks_of r) r.block r.stripes (length img) w.long (restart_stores r img)
-      (within-restart r img (bounds restart refl z) w.long)
 
   -- ---- the block or scratch of each call that fills it is as long as it was
 
@@ -218,7 +205,6 @@ module _ (r : Record) (e : Event) where
   facts (locate b) = telling (locate b) _ refl
   facts (owner S d) = telling (owner S d) _ refl
   facts sweep = telling sweep _ (swept-accepted r.stripes (unsound_stripes r e.images))
-  facts restart = storing restart done r _ refl restart-inside (λ no. absurd (no restart-stores)) (λ z no. absurd (no restart-records))
 
 -- "0 is done"
 pub numbered : (r : Record) (e : Event) (c : Call) → number (answer_of (effect c r e)) ≡ 0

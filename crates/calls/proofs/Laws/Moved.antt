@@ -23,7 +23,6 @@ use Rattle.state.specs.declared.types.Health.{Health}
 use Rattle.state.specs.declared.types.Record.{Record}
 use Rattle.state.specs.Good.{geometry}
 use Rattle.state.specs.Update.{with_moves}
-use Rattle.state.proofs.Laws.Good.{no-mark}
 use Rattle.calls.specs.Health.{absent}
 use Rattle.calls.specs.Images.{disks_of, size, place_in, block, stored}
 use Rattle.calls.specs.Table.{idle}
@@ -126,8 +125,7 @@ module _ (r : Record) (img : List ℕ) (bs : List (List ℕ)) (h : Holding r img
   pub holding-move : Holding (moved r) (stored r.block r.stripes (move_stores r img) img) (with-new (geometry (moved r)) r.block bs)
   holding-move =
       record {
-        limits = record { array = good-moved r good busy; block_low = h.limits.block_low; block_high = h.limits.block_high; health = rw whole tt; marked = no-mark };
-        clean = refl;
+        limits = record { array = good-moved r good busy; block_low = h.limits.block_low; block_high = h.limits.block_high; health = rw whole tt };
         long = long-move r img good busy h.long;
         count = count-with-new (geometry (moved r)) r.block bs enough-moved;
         whole = whole-with-new (geometry (moved r)) r.block bs h.whole;

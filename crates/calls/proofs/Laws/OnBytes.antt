@@ -1,9 +1,9 @@
 -- A call on a record's bytes is the call on the record. Assumes nothing.
 use Prim.Native.Nat.{ℕ, zero, suc}
-use mathlib.Core.Path.{◌≡◌, refl, ap, ap₂, ◌∙◌}
+use mathlib.Core.Path.{◌≡◌, refl, ap₂}
 use mathlib.Core.Bool.{Bool, true, false, cond, not, ◌||◌}
 use mathlib.Core.Logic.{◌≢◌}
-use mathlib.Core.List.{List, [], ◌∷◌}
+use mathlib.Core.List.{List}
 use native.Mathlib.Omega.{arith}
 use lib.ListN.{length}
 use borrow.Author.Tests.{eq-eqb, ne_eqb}
@@ -14,9 +14,9 @@ use Rattle.state.specs.Bytes.{record_length, decode, plain, good_bytes, encode}
 use Rattle.state.specs.Update.{formatted}
 use Rattle.state.proofs.Laws.Bytes.{decode-encode, length-encode, plain-encode}
 use Rattle.calls.specs.Call.{Call, format, Event, on, Fed, feed, fed, number}
-use Rattle.calls.specs.Images.{Store, block, header, stored_in, recorded, recorded_bytes, zero_disks}
-use Rattle.calls.specs.Table.{looks, takes_marked, unfit, terms, later_rows, table, word, refusal, refusal_of, rows_bytes, refusal_bytes}
-use Rattle.calls.specs.Effect.{Effect, tells, fills, stores, effect, Left, left_by, act, untouched, settle, called, sealed, called_bytes, first_of, act_up_to, begun, left_of, begun_bytes}
+use Rattle.calls.specs.Images.{zero_disks}
+use Rattle.calls.specs.Table.{looks, terms, later_rows, table, word, refusal, rows_bytes, refusal_bytes}
+use Rattle.calls.specs.Effect.{effect, Left, act, untouched, settle, called, sealed, called_bytes}
 use Rattle.calls.proofs.Laws.Stores.{recorded-last}
 use Rattle.calls.proofs.Laws.Acting.{zero-done}
 use Rattle.calls.proofs.Laws.Kinds.{facts}
@@ -28,37 +28,13 @@ pub refusal-encode : (r : Record) (e : Fed) → refusal_bytes (encode r) e ≡ r
 unfolding refusal_bytes rows_bytes refusal
 refusal-encode r e = rw (length-encode r, good-encode r, decode-encode r)
 
-settled : (e : Event) (r : Record) (x : Left Record) (n : ℕ) → settle n (untouched e (encode r)) (sealed x) ≡ sealed (settle n (untouched e r) x)
-settled e r x zero = refl
-settled e r x (suc n) = refl
-
 pub on_bytes : (e : Event) (r : Record) → called_bytes e (encode r) ≡ sealed (called e r)
 unfolding called_bytes called
-on_bytes e r = rw (refusal-encode r (fed e), decode-encode r) (settled e r (act e r) (refusal_of r (fed e)))
-
--- and so are its first c stores
-recorded-encode : (ps : List Store) (r : Record) → recorded_bytes ps (encode r) ≡ encode (recorded ps r)
-unfolding recorded_bytes recorded
-recorded-encode [] r = refl
-recorded-encode (block S d v ∷ ps) r = recorded-encode ps r
-recorded-encode (header x ∷ ps) r = recorded-encode ps x
-
-left-encode : (x : Effect) (e : Event) (r : Record) → left_of x e (encode r) ≡ sealed (left_by x e r)
-left-encode (tells a) e r = refl
-left-encode (fills shown room) e r = refl
-left-encode (stores a shape ps) e r =
-    ap (λ (b : List ℕ). record { answer = a; state = b; images = stored_in shape ps e.images; room = e.room }) (recorded-encode ps r)
-
-pub begun-encode : (c : ℕ) (e : Event) (r : Record)
-    → begun_bytes c e (encode r) ≡ settle (refusal_of r (fed e)) (untouched e (encode r)) (sealed (act_up_to c e r))
-unfolding begun_bytes
-begun-encode c e r =
-    rw (refusal-encode r (fed e), decode-encode r)
-    (ap (settle (refusal_of r (fed e)) (untouched e (encode r))) (left-encode (first_of c (effect e.call r e)) e r))
-
-pub begun-on-bytes : (c : ℕ) (e : Event) (r : Record) → begun_bytes c e (encode r) ≡ sealed (begun c e r)
-unfolding begun
-begun-on-bytes c e r = begun-encode c e r ∙ settled e r (act_up_to c e r) (refusal_of r (fed e))
+on_bytes e r = rw (refusal-encode r (fed e), decode-encode r) (go (refusal r (capacity (geometry r)) (fed e)))
+  where
+    go : (n : ℕ) → settle n (untouched e (encode r)) (sealed (act e r)) ≡ sealed (settle n (untouched e r) (act e r))
+    go zero = refl
+    go (suc n) = refl
 
 -- ---- the same by the bytes lent, for a call that decodes them
 
@@ -68,44 +44,23 @@ module _ (bad : Bool) (r : Record) (cap len room : ℕ) (c : Call) where
   unfolding table
   short-first = go (looks c)
     where
-      go : (l : Bool) → ◌≡◌ {A = ℕ} (cond (cond l (true || unfit c bad r) true) 1 (word (later_rows c r cap len room))) 1
+      go : (l : Bool) → ◌≡◌ {A = ℕ} (cond (cond l (true || bad) true) 1 (word (later_rows c r cap len room))) 1
       go true = refl
       go false = refl
 
   bad-first : looks c ≡ true → bad ≡ true → word (table c false bad r cap len room) ≡ 1
   unfolding table
-  bad-first l q = rw (l, q) (go (takes_marked c))
-    where
-      go : (m : Bool) → ◌≡◌ {A = ℕ} (cond (cond m true (true || r.mark)) 1 (word (later_rows c r cap len room))) 1
-      go true = refl
-      go false = refl
+  bad-first l q = rw (l, q) refl
 
--- bytes that are not so many, or that no record is written as: refusal 1
-refused-short : (e : Event) (b : List ℕ) → length b ≢ record_length → refusal_bytes b (fed e) ≡ 1
-unfolding refusal_bytes rows_bytes
-refused-short e b h = rw (ne_eqb _ _ h) (short-first (not (good_bytes b)) (decode b) (capacity (geometry (decode b))) (length e.images) (length e.room) e.call)
-
-refused-damaged : (e : Event) (b : List ℕ) → length b ≡ record_length → looks e.call ≡ true → plain b ≡ false → refusal_bytes b (fed e) ≡ 1
-unfolding refusal_bytes rows_bytes
-refused-damaged e b long l p =
-    rw (eq-eqb _ _ long) (bad-first (not (good_bytes b)) (decode b) (capacity (geometry (decode b))) (length e.images) (length e.room) e.call l (rw p refl))
-
+-- bytes that are not so many, or that no record is written as
 pub bytes-short : (e : Event) (b : List ℕ) → length b ≢ record_length → called_bytes e b ≡ untouched e b 1
-unfolding called_bytes
-bytes-short e b h = rw (refused-short e b h) refl
+unfolding called_bytes refusal_bytes rows_bytes
+bytes-short e b h = rw (ne_eqb _ _ h, short-first (not (good_bytes b)) (decode b) (capacity (geometry (decode b))) (length e.images) (length e.room) e.call) refl
 
 pub bytes-damaged : (e : Event) (b : List ℕ) → length b ≡ record_length → looks e.call ≡ true → plain b ≡ false → called_bytes e b ≡ untouched e b 1
-unfolding called_bytes
-bytes-damaged e b long l p = rw (refused-damaged e b long l p) refl
-
-pub begun-short : (c : ℕ) (e : Event) (b : List ℕ) → length b ≢ record_length → begun_bytes c e b ≡ untouched e b 1
-unfolding begun_bytes
-begun-short c e b h = rw (refused-short e b h) refl
-
-pub begun-damaged : (c : ℕ) (e : Event) (b : List ℕ) → length b ≡ record_length → looks e.call ≡ true → plain b ≡ false
-    → begun_bytes c e b ≡ untouched e b 1
-unfolding begun_bytes
-begun-damaged c e b long l p = rw (refused-damaged e b long l p) refl
+unfolding called_bytes refusal_bytes rows_bytes
+bytes-damaged e b long l p =
+    rw (eq-eqb _ _ long, bad-first (not (good_bytes b)) (decode b) (capacity (geometry (decode b))) (length e.images) (length e.room) e.call l (rw p refl)) refl
 
 -- what a call on bytes b leaves, beside the same call on a record
 pub record Seals (b : List ℕ) (x : Left (List ℕ)) (y : Left Record) : Type 0 where

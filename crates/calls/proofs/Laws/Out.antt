@@ -53,7 +53,6 @@ module _ (r : Record) (left : List ℕ) (bs : List (List ℕ)) (h : Holding r le
       let q = passed.falls r c len room d z in
       record {
         limits = turned r (after_out r.health d) h.limits (out_within r.health q.disk_lt);
-        clean = refl;
         long = h.long;
         count = h.count;
         whole = h.whole;

@@ -1,7 +1,7 @@
 -- What a call has passed that the table lets through: a good record, if it looks at it, and then call by call. Assumes nothing.
 use Prim.Native.Nat.{ℕ, ◌*◌, ◌<◌}
-use mathlib.Core.Path.{◌≡◌, refl, sym, ◌∙◌}
-use mathlib.Core.Bool.{Bool, true, false, true≢false, cond, not, ◌||◌}
+use mathlib.Core.Path.{◌≡◌}
+use mathlib.Core.Bool.{Bool, true, false, cond, not, ◌||◌}
 use mathlib.Core.List.{List}
 use lib.Dec.{eqb, ltb}
 use lib.ListN.{length}
@@ -10,13 +10,13 @@ use Rattle.state.specs.declared.types.Health.TheVariants.{Whole, Out, Rebuilding
 use Rattle.state.specs.declared.types.Record.{Record}
 use Rattle.layout.specs.Layout.{capacity}
 use Rattle.state.specs.Good.{geometry, new_good, good, GoodRecord}
-use Rattle.state.specs.Bytes.{record_length, decode, plain, good_bytes}
+use Rattle.state.specs.Bytes.{record_length, decode, good_bytes}
 use Rattle.state.proofs.Laws.Good.{limits}
-use Rattle.calls.specs.Call.{Call, Fed, format, read, view, write, grow, advance, out, begin, continue, locate, owner, sweep, restart}
+use Rattle.calls.specs.Call.{Call, Fed, format, read, view, write, grow, advance, out, begin, continue, locate, owner, sweep}
 use Rattle.calls.specs.Health.{is_lost, is_degraded, is_out, is_rebuilding}
 use Rattle.calls.specs.Images.{disks_of, size, size_with}
-use Rattle.calls.specs.Table.{idle, formable, looks, takes_marked, unfit, terms, later_rows, word, table, refusal, rows_bytes, refusal_bytes}
-use Rattle.conditions.proofs.Tests.{equal, below, both, neither}
+use Rattle.calls.specs.Table.{idle, formable, looks, terms, later_rows, word, table, refusal, rows_bytes, refusal_bytes}
+use Rattle.conditions.proofs.Tests.{equal, below, neither}
 use Rattle.calls.proofs.Laws.Health.{all_in, which, rebuilt}
 use Rattle.calls.proofs.Laws.Table.{passes}
 
@@ -60,7 +60,6 @@ pub record Owns (r : Record) (S d : ℕ) : Type 0 where
   pub stripe_lt : S < r.stripes
   pub disk_lt : d < disks_of r
 
--- sweep and restart
 pub record SweepsAll (r : Record) (len : ℕ) : Type 0 where
   pub all_in : r.health ≡ Whole
   pub long : len ≡ size r
@@ -70,7 +69,7 @@ pub record SweepsAll (r : Record) (len : ℕ) : Type 0 where
 -- a call that is let through passes the rows after it
 pub passed_on : (x : Call) (short bad : Bool) (r : Record) (c len room : ℕ) → word (table x short bad r c len room) ≡ 0 → word (later_rows x r c len room) ≡ 0
 unfolding table
-passed_on x short bad r c len room z = (passes (cond (looks x) (short || unfit x bad r) short) 0 (word (later_rows x r c len room)) z).1
+passed_on x short bad r c len room z = (passes (cond (looks x) (short || bad) short) 0 (word (later_rows x r c len room)) z).1
 
 pub passed : (r : Record) (c : ℕ) (e : Fed) → refusal r c e ≡ 0 → word (later_rows e.call r c e.images e.room) ≡ 0
 unfolding refusal
@@ -83,48 +82,18 @@ passed-bytes b e z =
     passed_on e.call (not (eqb (length b) record_length)) (not (good_bytes b)) r (capacity (geometry r)) e.images e.room z
 
 -- if the call looks at the record, that is good
-fit : (x : Call) (bad : Bool) (r : Record) → unfit x bad r ≡ false → (bad ≡ false) × (takes_marked x ≡ false → r.mark ≡ false)
-fit x bad r = go (takes_marked x) refl
-  where
-    go : (m : Bool) → takes_marked x ≡ m → cond m bad (bad || r.mark) ≡ false → (bad ≡ false) × (takes_marked x ≡ false → r.mark ≡ false)
-    go true q e = (e, λ u. absurd (true≢false (sym q ∙ u)))
-    go false q e = let z = neither bad r.mark e in (z.0, λ u. z.1)
-
-looked : (x : Call) (short bad : Bool) (r : Record) (c len room : ℕ) → looks x ≡ true → word (table x short bad r c len room) ≡ 0
-    → (bad ≡ false) × (takes_marked x ≡ false → r.mark ≡ false)
+looked : (x : Call) (short bad : Bool) (r : Record) (c len room : ℕ) → looks x ≡ true → word (table x short bad r c len room) ≡ 0 → bad ≡ false
 unfolding table
 looked x short bad r c len room l z =
-    let p = (passes (cond (looks x) (short || unfit x bad r) short) 0 (word (later_rows x r c len room)) z).0 in
-    fit x bad r (neither short (unfit x bad r) (rw l at p)).1
+    let p = (passes (cond (looks x) (short || bad) short) 0 (word (later_rows x r c len room)) z).0 in
+    (neither short bad (rw l at p)).1
 
 was-good : (r : Record) (c : ℕ) (e : Fed) → looks e.call ≡ true → refusal r c e ≡ 0 → good r ≡ true
 unfolding refusal
-was-good r c e l z = not-false _ (looked e.call false (not (good r)) r c e.images e.room l z).0
+was-good r c e l z = not-false _ (looked e.call false (not (good r)) r c e.images e.room l z)
 
 pub in-limits : (r : Record) (c : ℕ) (e : Fed) → looks e.call ≡ true → refusal r c e ≡ 0 → GoodRecord r
 in-limits r c e l z = limits r (was-good r c e l z)
-
--- and unmarked, but for restart and status
-pub no-mark-on : (r : Record) (c : ℕ) (e : Fed) → looks e.call ≡ true → takes_marked e.call ≡ false → refusal r c e ≡ 0 → r.mark ≡ false
-unfolding refusal
-no-mark-on r c e l m z = (looked e.call false (not (good r)) r c e.images e.room l z).1 m
-
-pub no-mark-bytes : (b : List ℕ) (e : Fed) → looks e.call ≡ true → takes_marked e.call ≡ false → refusal_bytes b e ≡ 0 → (decode b).mark ≡ false
-unfolding refusal_bytes rows_bytes
-no-mark-bytes b e l m z =
-    let r : Record = decode b in
-    (looked e.call (not (eqb (length b) record_length)) (not (good_bytes b)) r (capacity (geometry r)) e.images e.room l z).1 m
-
--- a call on bytes that looks at them passes only if a record is written so
-pub readable-bytes : (b : List ℕ) (e : Fed) → looks e.call ≡ true → refusal_bytes b e ≡ 0 → (length b ≡ record_length) × (plain b ≡ true)
-unfolding refusal_bytes rows_bytes table
-readable-bytes b e l z =
-    let r : Record = decode b in
-    let short : Bool = not (eqb (length b) record_length) in
-    let odd : Bool = unfit e.call (not (good_bytes b)) r in
-    let p = (passes (cond (looks e.call) (short || odd) short) 0 (word (later_rows e.call r (capacity (geometry r)) e.images e.room)) z).0 in
-    let q = neither short odd (rw l at p) in
-    (equal (length b) record_length q.0, (both (plain b) (good r) (not-false _ (fit e.call (not (good_bytes b)) r q.1).0)).0)
 
 -- ---- the rows after it
 
@@ -211,10 +180,6 @@ module _ (r : Record) (c len room : ℕ) where
       let (p₃, z₃) = passes (is_degraded r.health) 2 _ z₂ in
       let (p₇, z₇) = passes (not (eqb len (size r))) 6 _ z₃ in
       record { all_in = all_in r.health p₃; long = equal len (size r) p₇ }
-
-  pub restarts : word (later_rows restart r c len room) ≡ 0 → SweepsAll r len
-  unfolding later_rows terms
-  restarts z = sweeps z
 
 pub writes : (r : Record) (c len room b : ℕ) (v : List ℕ) → word (later_rows (write b v) r c len room) ≡ 0 → Reaches r c len b (length v)
 unfolding later_rows terms

@@ -116,10 +116,6 @@ not-both : {A B : Type 0} (a b : Bool) → Tells (not a) A → Tells (not b) B �
 not-both true b p q = record { yes = λ e. inr (q.yes e); no = λ e o. elim o [ inl x ↦ p.no refl x | inr y ↦ q.no e y ] }
 not-both false b p q = record { yes = λ e. inl (p.yes refl); no = λ e o. let w : ◌≡◌ {A = ℕ} 0 1 = cc in omega arith }
 
--- a record that is not good, or marked
-pub not-fit : (r : Record) → Tells (not (good r) || r.mark) ((GoodRecord r → ⊥) ⊎ (r.mark ≡ true))
-not-fit r = either (not (good r)) r.mark (not_good r) (record { yes = λ e. e; no = λ e q. true≢false (sym q ∙ e) })
-
 pub unformable : (n B T : ℕ) → Tells (not (formable n B T)) (Outside 3 n 16 ⊎ (Outside 1 B 4096 ⊎ Outside 1 T 1048576))
 unfolding formable
 unformable n B T = not-both (old_good n) (block_good B && stripes_good T) (outside 3 n 16) (not-both (block_good B) (stripes_good T) (outside 1 B 4096) (outside 1 T 1048576))

@@ -92,7 +92,6 @@ module _ (r : Record) (img room : List ℕ) (bs : List (List ℕ)) (lends : leng
         holding =
             record {
               limits = turned r (Rebuilding d 0) h.limits (out-lt r d h.limits hd, omega (arith, h.limits.array.stripes_low));
-              clean = refl;
               long = h.long;
               count = h.count;
               whole = h.whole;
@@ -178,7 +177,6 @@ module _ (r : Record) (img : List ℕ) (o c : ℕ) (hd : r.health ≡ Rebuilding
             holding =
                 record {
                   limits = turned r further limits further-within;
-                  clean = refl;
                   long = rw images-are long-left;
                   count = h.count;
                   whole = h.whole;

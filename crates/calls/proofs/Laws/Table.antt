@@ -17,11 +17,11 @@ use Rattle.state.specs.declared.types.Health.TheVariants.{Lost}
 use Rattle.state.specs.declared.types.Record.{Record}
 use Rattle.state.specs.Good.{new_good, good}
 use Rattle.calls.specs.Call.{Call, format, read, view, write, grow, advance, out, begin, continue}
-use Rattle.calls.specs.Call.{status, locate, owner, sweep, restart, feed}
+use Rattle.calls.specs.Call.{status, locate, owner, sweep, feed}
 use Rattle.calls.specs.Health.{is_out, is_rebuilding}
 use Rattle.calls.specs.Images.{disks_of, size, size_with}
 use Rattle.calls.specs.Table.{Row, bad_record, grown_already, idle, nothing_to_move, formable, bad_geometry, images, past_end, block_length, disk}
-use Rattle.calls.specs.Table.{lost, degraded, unmarked, looks, takes_marked, later_rows, terms, table, word, kept, kept_whole, kept_lent, refusal}
+use Rattle.calls.specs.Table.{lost, looks, later_rows, terms, table, word, kept, kept_whole, kept_lent, refusal}
 
 -- a row that is passed
 pub passes : (c : Bool) (k w : ℕ) → cond c (suc k) w ≡ 0 → (c ≡ false) × (w ≡ 0)
@@ -126,12 +126,12 @@ module _ (r : Record) (c len room : ℕ) where
   unfolding refusal table later_rows terms
   status-rows = refl
 
-  pub locate-rows : (b : ℕ) → refusal r c (feed (locate b) len room) ≡ word (unmarked r ∷ past_end b c ∷ [])
+  pub locate-rows : (b : ℕ) → refusal r c (feed (locate b) len room) ≡ word (bad_record (not (good r)) ∷ past_end b c ∷ [])
   unfolding refusal table later_rows terms
   locate-rows b = refl
 
   pub owner-rows : (S d : ℕ) → refusal r c (feed (owner S d) len room)
-      ≡ word (unmarked r ∷ past_end S r.stripes ∷ disk (not (ltb d (disks_of r))) ∷ [])
+      ≡ word (bad_record (not (good r)) ∷ past_end S r.stripes ∷ disk (not (ltb d (disks_of r))) ∷ [])
   unfolding refusal table later_rows terms
   owner-rows S d = refl
 
@@ -139,23 +139,18 @@ module _ (r : Record) (c len room : ℕ) where
   unfolding refusal table later_rows terms
   sweep-rows = refl
 
-  pub restart-rows : refusal r c (feed restart len room) ≡ word (bad_record (not (good r)) ∷ lost r ∷ degraded r ∷ images (size r) len ∷ [])
-  unfolding refusal table later_rows terms
-  restart-rows = refl
-
 -- ---- a lost array: a call whose rows from 2 on begin with 2 is given that
 
 abbrev pub StopsLost : Record → Call → Type 0
 StopsLost r x = (rows : List Row) × ((terms x r).before ≡ lost r ∷ rows)
 
-pub given-2 : (r : Record) (c len room : ℕ) (x : Call) → StopsLost r x → good r ≡ true → r.mark ≡ false → r.health ≡ Lost → refusal r c (feed x len room) ≡ 2
+pub given-2 : (r : Record) (c len room : ℕ) (x : Call) → StopsLost r x → good r ≡ true → r.health ≡ Lost → refusal r c (feed x len room) ≡ 2
 unfolding refusal table later_rows
-given-2 r c len room x s g clean h = rw (g, s.1, h) (go (looks x) (takes_marked x) r.mark clean)
+given-2 r c len room x s g h = rw (g, s.1, h) (go (looks x))
   where
-    go : (l m k : Bool) → k ≡ false → ◌≡◌ {A = ℕ} (cond (cond l (cond m false k) false) 1 2) 2
-    go true true k q = refl
-    go true false k q = rw q refl
-    go false m k q = refl
+    go : (l : Bool) → ◌≡◌ {A = ℕ} (cond (cond l false false) 1 2) 2
+    go true = refl
+    go false = refl
 
 -- ---- 5's condition
 

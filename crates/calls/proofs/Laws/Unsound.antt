@@ -48,7 +48,7 @@ answered Parity z f = refl
 answered Blank z f = f refl
 
 -- the xor of some bytes, as the laws of rows have it
-pub same_sum : (k : ℕ) (f : ℕ → ℕ) → sum k f ≡ xor_of k f
+same_sum : (k : ℕ) (f : ℕ → ℕ) → sum k f ≡ xor_of k f
 unfolding sum xor_of
 same_sum zero f = refl
 same_sum (suc k) f = ap (λ (x : ℕ). bit_xor x (f k)) (same_sum k f)

@@ -185,7 +185,6 @@ module _ (r : Record) (img : List ℕ) (bs : List (List ℕ)) (h : Holding r img
   holding-write nl =
       record {
         limits = h.limits;
-        clean = h.clean;
         long = length-stored r.block r.stripes (write_stores r img b v) img ∙ h.long;
         count = length-set bs b v ∙ h.count;
         whole = λ c l. go c (rw (length-set bs b v) at l) (ℕ_discrete c b);

@@ -2,16 +2,16 @@
 -- stripes, is finished, so that blocks 24 to 27 are there, still zero. What some calls leave of it, by a program that was written from
 -- documents 01 and 02 and replays the moves; `drawers` of proofs/Cases/Drawers.antt computes that the definitions say the same. Then the
 -- same cabinet with blocks of two bytes, `wide`.
-use Rattle.std.specs.Prelude.{ℕ, ◌≡◌, true, List, [], ◌∷◌, ◌++◌}
+use Rattle.std.specs.Prelude.{ℕ, ◌≡◌, List, [], ◌∷◌, ◌++◌}
 use Rattle.blocks.specs.Block.{zeros}
 use Rattle.state.specs.declared.types.Health.TheVariants.{Whole, Out, Lost, Rebuilding}
 use Rattle.state.specs.declared.types.Health.{Health}
 use Rattle.state.specs.declared.types.Record.{Record}
-use Rattle.state.specs.Update.{formatted, grown_by, with_moves, with_health, with_mark}
-use Rattle.calls.specs.Call.{Call, format, read, view, write, grow, advance, out, begin, continue, restart}
+use Rattle.state.specs.Update.{formatted, grown_by, with_moves, with_health}
+use Rattle.calls.specs.Call.{Call, format, read, view, write, grow, advance, out, begin, continue}
 use Rattle.calls.specs.Call.{on, Answer, refused, bytes, made, done}
 use Rattle.calls.specs.Images.{block, header}
-use Rattle.calls.specs.Effect.{write_stores, move_stores, continue_stores, restart_stores, stores, effect, Left, called, begun}
+use Rattle.calls.specs.Effect.{write_stores, move_stores, continue_stores, stores, effect, Left, called}
 
 -- before growth, and with this health after t moves
 abbrev pub fresh : Record
@@ -70,28 +70,9 @@ with_new = disk0 ++ disk1_written ++ disk2_written ++ disk3
 abbrev pub new_degraded : List ℕ
 new_degraded = disk0 ++ garbage ++ disk2_written ++ disk3
 
--- move 4 cut after its marked record: block 12 stands on disk 3 of stripe 6, and still on disk 2. Wrong as well: the parities of stripes 0
--- and 2, and the blanks of stripes 4 (disk 3) and 7 (disk 1). Block 26 is written.
-abbrev pub cut_move : List ℕ
-cut_move =
-    (255 ∷ 4 ∷ 6 ∷ 0 ∷ 10 ∷ 12 ∷ 3 ∷ 16 ∷ 18 ∷ 7 ∷ 22 ∷ 24 ∷ [])
-    ++ (2 ∷ 7 ∷ 200 ∷ 8 ∷ 3 ∷ 11 ∷ 14 ∷ 77 ∷ 17 ∷ 20 ∷ 3 ∷ 23 ∷ [])
-    ++ (1 ∷ 0 ∷ 99 ∷ 7 ∷ 9 ∷ 7 ∷ 13 ∷ 15 ∷ 3 ∷ 19 ∷ 21 ∷ 15 ∷ [])
-    ++ (0 ∷ 3 ∷ 5 ∷ 15 ∷ 77 ∷ 0 ∷ 13 ∷ 31 ∷ 0 ∷ 0 ∷ 0 ∷ 0 ∷ [])
-
--- move 5, the last of zone 1, cut there: block 11 stands on disk 3 of stripe 5, and still on disk 0, where there is a new block now
-abbrev pub cut_last : List ℕ
-cut_last =
-    disk0 ++ disk1 ++ (1 ∷ 0 ∷ 3 ∷ 7 ∷ 9 ∷ 7 ∷ 0 ∷ 15 ∷ 3 ∷ 19 ∷ 21 ∷ 15 ∷ [])
-    ++ (0 ∷ 3 ∷ 5 ∷ 15 ∷ 0 ∷ 12 ∷ 13 ∷ 31 ∷ 0 ∷ 0 ∷ 0 ∷ 0 ∷ [])
-
 -- a call on these images, with a block or scratch of one byte, 9
 abbrev pub run : List ℕ → Record → Call → Left Record
 run img r c = called (on c img (9 ∷ [])) r
-
--- and its first c stores alone
-abbrev pub run_first : ℕ → List ℕ → Record → Call → Left Record
-run_first c img r x = begun c (on x img (9 ∷ [])) r
 
 abbrev pub left : Record → List ℕ → List ℕ → Answer → Left Record
 left r img room a = record { answer = a; state = r; images = img; room = room }
@@ -234,9 +215,8 @@ pub record Drawers : Type 0 where
   pub rebuilt_new : run new_degraded (cabinet (Rebuilding 1 0) 4) (continue 12) ≡ left (cabinet Whole 4) with_new (9 ∷ []) (made 12)
   -- zone 1 is not finished: there is no block 28
   pub no_block : run standing (cabinet Whole 4) (read 28) ≡ left (cabinet Whole 4) standing (9 ∷ []) (refused 8)
-  -- in order: the copy, the record marked, the zeroes, the record; the parity, the data; the stripes, the record
-  pub move-stores : move_stores (cabinet Whole 4) standing
-      ≡ block 6 3 (13 ∷ []) ∷ header (with_mark (cabinet Whole 5) true) ∷ block 6 2 (0 ∷ []) ∷ header (cabinet Whole 5) ∷ []
+  -- in order: the copy, the zeroes, the record; the parity, the data; the stripes, the record
+  pub move-stores : move_stores (cabinet Whole 4) standing ≡ block 6 3 (13 ∷ []) ∷ block 6 2 (0 ∷ []) ∷ header (cabinet Whole 5) ∷ []
   pub write-stores : write_stores (cabinet Whole 4) standing 6 (200 ∷ []) ≡ block 3 3 (192 ∷ []) ∷ block 3 2 (200 ∷ []) ∷ []
   pub continue-stores : continue_stores 2 (cabinet (Rebuilding 2 5) 4) halfway
       ≡ block 5 2 (7 ∷ []) ∷ block 6 2 (13 ∷ []) ∷ header (cabinet (Rebuilding 2 7) 4) ∷ []
@@ -250,34 +230,6 @@ pub record Drawers : Type 0 where
   pub grow_stores : effect (grow 2) (formatted 3 1 2) (on (grow 2) [] [])
       ≡ stores done (formatted 3 1 2)
       (block 0 3 (0 ∷ []) ∷ block 1 3 (0 ∷ []) ∷ block 0 4 (0 ∷ []) ∷ block 1 4 (0 ∷ []) ∷ header (grown_by (formatted 3 1 2) 2) ∷ [])
-  -- ---- restart: the place left, the blanks by the t left, each parity, the record; and what that leaves
-  pub restart-stores : restart_stores (with_mark (cabinet Whole 5) true) cut_move
-      ≡ block 6 2 (0 ∷ [])
-      ∷ block 0 0 (3 ∷ []) ∷ block 1 1 (7 ∷ []) ∷ block 2 2 (203 ∷ []) ∷ block 3 3 (15 ∷ [])
-      ∷ block 4 3 (0 ∷ []) ∷ block 4 1 (3 ∷ []) ∷ block 5 3 (0 ∷ []) ∷ block 5 2 (7 ∷ [])
-      ∷ block 6 2 (0 ∷ []) ∷ block 6 0 (3 ∷ []) ∷ block 7 1 (0 ∷ []) ∷ block 7 3 (31 ∷ [])
-      ∷ block 8 3 (0 ∷ []) ∷ block 8 2 (3 ∷ []) ∷ block 9 3 (0 ∷ []) ∷ block 9 0 (7 ∷ [])
-      ∷ block 10 3 (0 ∷ []) ∷ block 10 1 (3 ∷ []) ∷ block 11 3 (0 ∷ []) ∷ block 11 2 (15 ∷ [])
-      ∷ header (cabinet Whole 5) ∷ []
-  pub restarted : run cut_move (with_mark (cabinet Whole 5) true) restart
-      ≡ left (cabinet Whole 5)
-      (disk0 ++ disk1_written ++ (1 ∷ 0 ∷ 203 ∷ 7 ∷ 9 ∷ 7 ∷ 0 ∷ 15 ∷ 3 ∷ 19 ∷ 21 ∷ 15 ∷ [])
-      ++ (0 ∷ 3 ∷ 5 ∷ 15 ∷ 0 ∷ 0 ∷ 13 ∷ 31 ∷ 0 ∷ 0 ∷ 0 ∷ 0 ∷ []))
-      (9 ∷ []) done
-  -- the place left is a new block, zero, and the parity of stripe 5 counts it so: 11 xor 12 is 7
-  pub restarted_last : run cut_last (with_mark (cabinet Whole 6) true) restart
-      ≡ left (cabinet Whole 6)
-      ((3 ∷ 4 ∷ 6 ∷ 0 ∷ 10 ∷ 0 ∷ 3 ∷ 16 ∷ 18 ∷ 7 ∷ 22 ∷ 24 ∷ []) ++ disk1 ++ (1 ∷ 0 ∷ 3 ∷ 7 ∷ 9 ∷ 7 ∷ 0 ∷ 15 ∷ 3 ∷ 19 ∷ 21 ∷ 15 ∷ [])
-      ++ (0 ∷ 3 ∷ 5 ∷ 15 ∷ 0 ∷ 12 ∷ 13 ∷ 31 ∷ 0 ∷ 0 ∷ 0 ∷ 0 ∷ []))
-      (9 ∷ []) done
-  -- an array that no cut has hit
-  pub restarted_sound : run standing (cabinet Whole 4) restart ≡ left (cabinet Whole 4) standing (9 ∷ []) done
-  -- the first stores alone: the copy; the marked record too
-  pub cut_copy : run_first 1 standing (cabinet Whole 4) (advance 2)
-      ≡ left (cabinet Whole 4) (disk0 ++ disk1 ++ disk2 ++ (0 ∷ 3 ∷ 5 ∷ 15 ∷ 0 ∷ 0 ∷ 13 ∷ 31 ∷ 0 ∷ 0 ∷ 0 ∷ 0 ∷ [])) (9 ∷ []) (made 2)
-  pub cut_marked : run_first 2 standing (cabinet Whole 4) (advance 2)
-      ≡ left (with_mark (cabinet Whole 5) true) (disk0 ++ disk1 ++ disk2 ++ (0 ∷ 3 ∷ 5 ∷ 15 ∷ 0 ∷ 0 ∷ 13 ∷ 31 ∷ 0 ∷ 0 ∷ 0 ∷ 0 ∷ []))
-      (9 ∷ []) (made 2)
   -- what the images hold is no matter for a refusal: 3 disks of one byte, the first of them 255
   pub any_first_byte : run (255 ∷ 7 ∷ 248 ∷ []) (formatted 3 1 1) (read 0)
       ≡ left (formatted 3 1 1) (255 ∷ 7 ∷ 248 ∷ []) (248 ∷ []) (bytes (248 ∷ []))

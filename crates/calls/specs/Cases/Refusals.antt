@@ -2,14 +2,14 @@
 -- case where the condition of that number and of every higher one holds, and no lower one's; for each number that the table does not
 -- have for it: a case where its condition would hold, which is not refused; and both sides of the bounds. `rowwise` and `refusals` of
 -- proofs/Cases/Refusals.antt compute them.
-use Rattle.std.specs.Prelude.{ℕ, suc, ◌-◌, ◌≡◌, Bool, true, cond, List, [], ◌∷◌, ◌++◌, eqb, get_or, take, drop, replicate}
+use Rattle.std.specs.Prelude.{ℕ, suc, ◌-◌, ◌≡◌, Bool, cond, List, [], ◌∷◌, ◌++◌, eqb, get_or, take, drop, replicate}
 use Rattle.state.specs.declared.types.Health.TheVariants.{Whole, Out, Lost, Rebuilding}
 use Rattle.state.specs.declared.types.Health.{Health}
 use Rattle.state.specs.declared.types.Record.{Record}
 use Rattle.state.specs.Bytes.{record_length, encode}
-use Rattle.state.specs.Update.{formatted, grown_by, with_moves, with_health, with_mark}
+use Rattle.state.specs.Update.{formatted, grown_by, with_moves, with_health}
 use Rattle.calls.specs.Call.{Call, column, format, read, view, write, grow, advance, out, begin, continue}
-use Rattle.calls.specs.Call.{status, locate, owner, sweep, feed, restart}
+use Rattle.calls.specs.Call.{status, locate, owner, sweep, feed}
 use Rattle.calls.specs.Table.{Row, table, refusal_bytes}
 
 -- ---- which calls each number is for: the table's last column, a line a number, a column a call (`column` of Call). `rowwise` proves that
@@ -17,17 +17,17 @@ use Rattle.calls.specs.Table.{Row, table, refusal_bytes}
 
 abbrev pub marks : List (List ℕ)
 marks =
-    -- format, read, view, write, grow, advance, out, begin, continue, status, locate, owner, sweep, restart
-    (1 ∷ 1 ∷ 1 ∷ 1 ∷ 1 ∷ 1 ∷ 1 ∷ 1 ∷ 1 ∷ 1 ∷ 1 ∷ 1 ∷ 1 ∷ 1 ∷ [])  -- 1 record
-    ∷ (0 ∷ 1 ∷ 1 ∷ 1 ∷ 1 ∷ 1 ∷ 1 ∷ 1 ∷ 1 ∷ 0 ∷ 0 ∷ 0 ∷ 1 ∷ 1 ∷ [])  -- 2 lost
-    ∷ (0 ∷ 0 ∷ 0 ∷ 0 ∷ 1 ∷ 1 ∷ 0 ∷ 0 ∷ 0 ∷ 0 ∷ 0 ∷ 0 ∷ 1 ∷ 1 ∷ [])  -- 3 degraded
-    ∷ (0 ∷ 0 ∷ 0 ∷ 0 ∷ 1 ∷ 0 ∷ 0 ∷ 0 ∷ 0 ∷ 0 ∷ 0 ∷ 0 ∷ 0 ∷ 0 ∷ [])  -- 4 grown
-    ∷ (0 ∷ 0 ∷ 0 ∷ 0 ∷ 0 ∷ 1 ∷ 0 ∷ 0 ∷ 0 ∷ 0 ∷ 0 ∷ 0 ∷ 0 ∷ 0 ∷ [])  -- 5 nothing to move
-    ∷ (1 ∷ 0 ∷ 0 ∷ 0 ∷ 1 ∷ 0 ∷ 0 ∷ 0 ∷ 0 ∷ 0 ∷ 0 ∷ 0 ∷ 0 ∷ 0 ∷ [])  -- 6 geometry
-    ∷ (1 ∷ 1 ∷ 1 ∷ 1 ∷ 1 ∷ 1 ∷ 0 ∷ 1 ∷ 1 ∷ 0 ∷ 0 ∷ 0 ∷ 1 ∷ 1 ∷ [])  -- 7 images
-    ∷ (0 ∷ 1 ∷ 1 ∷ 1 ∷ 0 ∷ 0 ∷ 0 ∷ 0 ∷ 0 ∷ 0 ∷ 1 ∷ 1 ∷ 0 ∷ 0 ∷ [])  -- 8 past the end
-    ∷ (0 ∷ 1 ∷ 1 ∷ 1 ∷ 0 ∷ 0 ∷ 0 ∷ 0 ∷ 0 ∷ 0 ∷ 0 ∷ 0 ∷ 0 ∷ 0 ∷ [])  -- 9 block length
-    ∷ (0 ∷ 0 ∷ 0 ∷ 0 ∷ 0 ∷ 0 ∷ 1 ∷ 1 ∷ 1 ∷ 0 ∷ 0 ∷ 1 ∷ 0 ∷ 0 ∷ [])  -- 10 disk
+    -- format, read, view, write, grow, advance, out, begin, continue, status, locate, owner, sweep
+    (1 ∷ 1 ∷ 1 ∷ 1 ∷ 1 ∷ 1 ∷ 1 ∷ 1 ∷ 1 ∷ 1 ∷ 1 ∷ 1 ∷ 1 ∷ [])  -- 1 record
+    ∷ (0 ∷ 1 ∷ 1 ∷ 1 ∷ 1 ∷ 1 ∷ 1 ∷ 1 ∷ 1 ∷ 0 ∷ 0 ∷ 0 ∷ 1 ∷ [])  -- 2 lost
+    ∷ (0 ∷ 0 ∷ 0 ∷ 0 ∷ 1 ∷ 1 ∷ 0 ∷ 0 ∷ 0 ∷ 0 ∷ 0 ∷ 0 ∷ 1 ∷ [])  -- 3 degraded
+    ∷ (0 ∷ 0 ∷ 0 ∷ 0 ∷ 1 ∷ 0 ∷ 0 ∷ 0 ∷ 0 ∷ 0 ∷ 0 ∷ 0 ∷ 0 ∷ [])  -- 4 grown
+    ∷ (0 ∷ 0 ∷ 0 ∷ 0 ∷ 0 ∷ 1 ∷ 0 ∷ 0 ∷ 0 ∷ 0 ∷ 0 ∷ 0 ∷ 0 ∷ [])  -- 5 nothing to move
+    ∷ (1 ∷ 0 ∷ 0 ∷ 0 ∷ 1 ∷ 0 ∷ 0 ∷ 0 ∷ 0 ∷ 0 ∷ 0 ∷ 0 ∷ 0 ∷ [])  -- 6 geometry
+    ∷ (1 ∷ 1 ∷ 1 ∷ 1 ∷ 1 ∷ 1 ∷ 0 ∷ 1 ∷ 1 ∷ 0 ∷ 0 ∷ 0 ∷ 1 ∷ [])  -- 7 images
+    ∷ (0 ∷ 1 ∷ 1 ∷ 1 ∷ 0 ∷ 0 ∷ 0 ∷ 0 ∷ 0 ∷ 0 ∷ 1 ∷ 1 ∷ 0 ∷ [])  -- 8 past the end
+    ∷ (0 ∷ 1 ∷ 1 ∷ 1 ∷ 0 ∷ 0 ∷ 0 ∷ 0 ∷ 0 ∷ 0 ∷ 0 ∷ 0 ∷ 0 ∷ [])  -- 9 block length
+    ∷ (0 ∷ 0 ∷ 0 ∷ 0 ∷ 0 ∷ 0 ∷ 1 ∷ 1 ∷ 1 ∷ 0 ∷ 0 ∷ 1 ∷ 0 ∷ [])  -- 10 disk
     ∷ []
 
 -- the numbers marked in a column, counted from k
@@ -58,12 +58,8 @@ of-stripes T = encode (formatted 3 1 T)
 abbrev pub growing : Health → ℕ → List ℕ
 growing h t = encode (with_health (with_moves (grown_by fresh 2) t) h)
 
--- .. and with a mark beside them
-abbrev pub marking : Health → ℕ → List ℕ
-marking h t = encode (with_mark (with_health (with_moves (grown_by fresh 2) t) h) true)
-
--- not good, of 2 disks; good but for the health's bytes and bytes 6 and 7, and so for byte 6, a mark with no move done; good but for
--- health, disk and the stripes done; lost; a byte short and a byte long
+-- not good, of 2 disks; good but for the health's bytes and bytes 6 and 7, and so for byte 6; good but for health, disk and the stripes
+-- done; lost; a byte short and a byte long
 abbrev pub bad : List ℕ
 bad = encode (with_health (with_moves (grown_by (formatted 2 2 15) 2) 18) Lost)
 
@@ -93,7 +89,7 @@ asks b c len room = refusal_bytes b (feed c len room)
 abbrev pub ones : Call → ℕ → ℕ → List ℕ
 ones c len room =
     asks short c len room ∷ asks long c len room ∷ asks [] c len room
-    ∷ asks bad c len room ∷ asks sixth c len room ∷ asks (spoilt 0 0 0 1) c len room ∷ asks (spoilt 0 0 2 0) c len room
+    ∷ asks bad c len room ∷ asks sixth c len room ∷ asks (spoilt 0 0 0 1) c len room
     -- no such health; a disk beside whole and beside lost
     ∷ asks (spoilt 4 0 0 0) c len room ∷ asks (spoilt 0 1 0 0) c len room ∷ asks (spoilt 2 1 0 0) c len room
     -- stripes done, in each of their bytes, beside whole, out and lost
@@ -134,9 +130,9 @@ pub record Refusals : Type 0 where
   pub row_1 :
       ones (read 29) 90 2 ++ ones (view 29) 90 2 ++ ones (write 29 (bytes 2)) 90 0 ++ ones (grow 2) 150 0 ++ ones (advance 1) 90 0
       ++ ones (out 2) 0 0 ++ ones (begin 2) 90 0 ++ ones (continue 1) 90 0
-      ++ ones status 0 0 ++ ones (locate 29) 0 0 ++ ones (owner 14 2) 0 0 ++ ones sweep 90 0 ++ ones restart 90 0
-      ≡ replicate 221 1
-  pub row_1_format : ones (format 3 2 15) 90 0 ≡ 1 ∷ 1 ∷ 1 ∷ replicate 14 0
+      ++ ones status 0 0 ++ ones (locate 29) 0 0 ++ ones (owner 14 2) 0 0 ++ ones sweep 90 0
+      ≡ replicate 192 1
+  pub row_1_format : ones (format 3 2 15) 90 0 ≡ 1 ∷ 1 ∷ 1 ∷ replicate 13 0
   -- 1 for its length alone; 6, 7; health lost, a bad record, m and t are no matter
   pub formats :
       asks short (format 2 2 15) 89 0 ∷ asks small (format 2 2 15) 89 0 ∷ asks small (format 3 2 15) 89 0 ∷ asks small (format 3 2 15) 90 0
@@ -232,23 +228,3 @@ pub record Refusals : Type 0 where
       ∷ asks (growing (Out 4) 17) sweep 150 0 ∷ asks (growing (Rebuilding 4 0) 18) sweep 150 0
       ∷ []
       ≡ 1 ∷ 1 ∷ 2 ∷ 3 ∷ 3 ∷ 7 ∷ 7 ∷ 0 ∷ 0 ∷ 0 ∷ 7 ∷ 0 ∷ 7 ∷ 0 ∷ 3 ∷ 3 ∷ []
-  -- 1, 2, 3 with a disk out or being rebuilt, 7, none: with a mark and without, before, in and after a growth
-  pub restarts :
-      asks short restart 149 0 ∷ asks bad restart 149 0 ∷ asks lost restart 149 0 ∷ asks (marking Lost 17) restart 149 0
-      ∷ asks (growing (Out 4) 17) restart 149 0 ∷ asks (marking (Out 4) 17) restart 150 0
-      ∷ asks (growing (Rebuilding 4 14) 17) restart 149 0 ∷ asks (marking (Rebuilding 4 0) 17) restart 150 0
-      ∷ asks (marking Whole 17) restart 149 0 ∷ asks (growing Whole 17) restart 151 0
-      ∷ asks (marking Whole 17) restart 150 0 ∷ asks (marking Whole 1) restart 150 0 ∷ asks (marking Whole 18) restart 150 0
-      ∷ asks (growing Whole 0) restart 150 0 ∷ asks (growing Whole 18) restart 150 0 ∷ asks small restart 90 0
-      ∷ asks (marking Whole 0) restart 150 0 ∷ asks (marking Whole 19) restart 150 0
-      ∷ []
-      ≡ 1 ∷ 1 ∷ 2 ∷ 2 ∷ 3 ∷ 3 ∷ 3 ∷ 3 ∷ 7 ∷ 7 ∷ 0 ∷ 0 ∷ 0 ∷ 0 ∷ 0 ∷ 0 ∷ 1 ∷ 1 ∷ []
-  -- a marked record is good for restart and status only, whatever else the call is lent; format does not look
-  pub marked_others :
-      asks (marking Whole 17) (read 49) 150 2 ∷ asks (marking Whole 17) (view 49) 150 2 ∷ asks (marking Whole 17) (write 49 (bytes 2)) 150 0
-      ∷ asks (marking Whole 17) (grow 2) 150 0 ∷ asks (marking Whole 17) (advance 1) 150 0 ∷ asks (marking Whole 17) (out 4) 0 0
-      ∷ asks (marking (Out 4) 17) (begin 4) 150 0 ∷ asks (marking (Rebuilding 4 0) 17) (continue 1) 150 0
-      ∷ asks (marking Whole 17) (locate 49) 0 0 ∷ asks (marking Whole 17) (owner 14 4) 0 0 ∷ asks (marking Whole 17) sweep 150 0
-      ∷ asks (marking Whole 17) status 0 0 ∷ asks (marking Lost 17) status 0 0 ∷ asks (marking Whole 17) (format 3 2 15) 90 0
-      ∷ []
-      ≡ 1 ∷ 1 ∷ 1 ∷ 1 ∷ 1 ∷ 1 ∷ 1 ∷ 1 ∷ 1 ∷ 1 ∷ 1 ∷ 0 ∷ 0 ∷ 0 ∷ []

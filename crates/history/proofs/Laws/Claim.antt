@@ -23,7 +23,7 @@ use Rattle.calls.proofs.Theorem.{demand1}
 use Rattle.calls.proofs.Laws.Acting.{fills, shows, parity_first, parity_last}
 use Rattle.calls.proofs.Laws.OnBytes.{good-encode}
 use Rattle.calls.proofs.Laws.Table.{some-new}
-use Rattle.calls.proofs.Laws.Passed.{passed-bytes, no-mark-bytes, moves}
+use Rattle.calls.proofs.Laws.Passed.{passed-bytes, moves}
 use Rattle.calls.proofs.Laws.Holding.{Holding, block-is}
 use Rattle.calls.proofs.Laws.Sound.{sound}
 use Rattle.calls.proofs.Laws.Advance.{parity-kept}
@@ -76,7 +76,7 @@ module _ (e : Event) (a : Cabinet (List ℕ)) where
       go zero v = refl
       go (suc n) v = absurd (let w : ◌≡◌ {A = ℕ} 0 1 = cc in omega arith)
 
-  pub parities : GoodArray (geometry (decode a.rec)) → (k i S : ℕ) → e.call ≡ advance k → accepted (leaves as_bytes e a).answer ≡ true → S < (decode a.rec).stripes
+  parities : GoodArray (geometry (decode a.rec)) → (k i S : ℕ) → e.call ≡ advance k → accepted (leaves as_bytes e a).answer ≡ true → S < (decode a.rec).stripes
       → parity_after (suc i) (decode a.rec) e.images S ≡ parity_after i (decode a.rec) e.images S
   parities gd k i S q u lS =
       let r : Record = decode a.rec in
@@ -85,8 +85,7 @@ module _ (e : Event) (a : Cabinet (List ℕ)) where
       subst (λ (c : Call). word (later_rows c r cap (length e.images) (length e.room)) ≡ 0) q (passed-bytes a.rec (fed e) (let_through u)) in
       let w = moves r cap (length e.images) (length e.room) k z in
       let nz : r.new ≢ 0 = some-new (geometry r) w.busy in
-      let clean : r.mark ≡ false = no-mark-bytes a.rec (fed e) (rw q refl) (rw q refl) (let_through u) in
-      parity-kept (suc i) r e.images gd nz clean w.long S lS ∙ sym (parity-kept i r e.images gd nz clean w.long S lS)
+      parity-kept (suc i) r e.images gd nz w.long S lS ∙ sym (parity-kept i r e.images gd nz w.long S lS)
 
 -- ---- the record's bytes read back
 
@@ -105,7 +104,7 @@ bench-bytes b r img bs p h = rw (read_back b r p) (λ nl k lk. block-is r img bs
 
 -- ---- one call
 
-pub claim : (e : Event) (a : Cabinet (List ℕ)) (f : Flat) (sum : ℕ) → Alike e a (flat_step (fed e) f) → Counted (flat_step (fed e) f).1 sum
+claim : (e : Event) (a : Cabinet (List ℕ)) (f : Flat) (sum : ℕ) → Alike e a (flat_step (fed e) f) → Counted (flat_step (fed e) f).1 sum
     → ((k i S : ℕ) → e.call ≡ advance k → accepted (leaves as_bytes e a).answer ≡ true → S < (decode a.rec).stripes
     → parity_after (suc i) (decode a.rec) e.images S ≡ parity_after i (decode a.rec) e.images S)
     → Claim as_bytes e a f sum
@@ -132,14 +131,14 @@ claim e a f sum s h p =
 
 -- ---- every list
 
-pub holds-next : (e : Event) (a : Cabinet (List ℕ)) (y : Answer × Flat) → Alike e a y → Holds (next as_bytes e a) y.1
+holds-next : (e : Event) (a : Cabinet (List ℕ)) (y : Answer × Flat) → Alike e a y → Holds (next as_bytes e a) y.1
 unfolding next
 holds-next e a y s = record { fields = s.fields; holding = s.holding }
 
-pub counted_next : (e : Event) (a : Cabinet (List ℕ)) (f : Flat) (sum : ℕ) → Counted f sum → Alike e a (flat_step (fed e) f) → Counted (flat_step (fed e) f).1 (tally e.call (leaves as_bytes e a).answer sum)
+counted_next : (e : Event) (a : Cabinet (List ℕ)) (f : Flat) (sum : ℕ) → Counted f sum → Alike e a (flat_step (fed e) f) → Counted (flat_step (fed e) f).1 (tally e.call (leaves as_bytes e a).answer sum)
 counted_next e a f sum h s = rw s.answer (counted_step (fed e) f sum h)
 
-pub good-bytes : (b : List ℕ) (r : Record) → b ≡ encode r → GoodArray (geometry r) → GoodArray (geometry (decode b))
+good-bytes : (b : List ℕ) (r : Record) → b ≡ encode r → GoodArray (geometry r) → GoodArray (geometry (decode b))
 good-bytes b r p g = rw (read_back b r p) g
 
 claims : (es : List Event) (a : Cabinet (List ℕ)) (f : Flat) (sum : ℕ) → Holds a f → Counted f sum → Claims as_bytes es a f sum
@@ -155,7 +154,7 @@ claims (e ∷ es) a f sum h c =
     )
 
 -- a format starts the count anew
-pub counted-format : (n B T : ℕ) (img room : List ℕ) (a : Cabinet (List ℕ)) (f : Flat) (sum : ℕ) → accepted (leaves as_bytes (opening n B T img room) a).answer ≡ true → Alike (opening n B T img room) a (flat_step (fed (opening n B T img room)) f)
+counted-format : (n B T : ℕ) (img room : List ℕ) (a : Cabinet (List ℕ)) (f : Flat) (sum : ℕ) → accepted (leaves as_bytes (opening n B T img room) a).answer ≡ true → Alike (opening n B T img room) a (flat_step (fed (opening n B T img room)) f)
     → Counted (flat_step (fed (opening n B T img room)) f).1 sum
 unfolding flat_step flat_act Counted
 counted-format n B T img room a f sum u s = go (refusal f.numbers (length f.blocks) (fed (opening n B T img room))) (ap accepted (sym s.answer) ∙ u)

@@ -26,7 +26,7 @@ use Rattle.history.specs.Theorem.{FreeToLend}
 -- ---- what stands may be lent
 
 module _ (r : Record) (left behind : List ℕ) (long : length left ≡ size r) where
-  pub keeps : Keeps r left (left ++ behind)
+  keeps : Keeps r left (left ++ behind)
   unfolding Keeps
   keeps S d lS ld q =
       let more : size r ≤ length (left ++ behind) = rw (length-append left behind, long) (omega arith) in
@@ -50,7 +50,7 @@ module _ (e : Event) (r : Record) (left : List ℕ) where
       go (anything len) q = tt
       go (those len) q = k len q
 
-  pub by-keeping : Keeps r left e.images → Lends e r left
+  by-keeping : Keeps r left e.images → Lends e r left
   by-keeping k = by-asked (λ len q z. k)
 
   by_length : ((len : ℕ) → takes e.call r ≡ those len → length e.images ≢ len) → Lends e r left

@@ -5,7 +5,7 @@ use mathlib.Core.Path.{◌≡◌, refl}
 use mathlib.Core.List.{List}
 use Rattle.state.specs.declared.types.Health.{Health}
 use Rattle.state.specs.declared.types.Record.{Record}
-use Rattle.calls.specs.Call.{Call, format, read, view, write, grow, advance, out, begin, continue, status, locate, owner, sweep, restart}
+use Rattle.calls.specs.Call.{Call, format, read, view, write, grow, advance, out, begin, continue, status, locate, owner, sweep}
 use Rattle.state.specs.Update.{with_health}
 use Rattle.calls.specs.Table.{terms}
 use Rattle.calls.proofs.Laws.Table.{StopsLost}
@@ -41,4 +41,3 @@ look r bs status = tells status refl (λ k sum. refl)
 look r bs (locate b) = tells (locate b) refl (λ k sum. refl)
 look r bs (owner S d) = tells (owner S d) refl (λ k sum. refl)
 look r bs sweep = tells sweep refl (λ k sum. refl)
-look r bs restart = tells restart refl (λ k sum. refl)

@@ -37,7 +37,7 @@ module _ (f : Flat) where
   given e k q = (ap (λ (n : ℕ). (Y e n).0) q, ap (λ (n : ℕ). (Y e n).1) q)
 
   -- a call whose effect leaves the list leaves it, refused or not
-  pub quiet : (e : Fed) → (flat_act e.call f.numbers f.blocks).1 ≡ f → (flat_step e f).1 ≡ f
+  quiet : (e : Fed) → (flat_act e.call f.numbers f.blocks).1 ≡ f → (flat_step e f).1 ≡ f
   unfolding flat_step
   quiet e q = go (R e)
     where
@@ -45,13 +45,13 @@ module _ (f : Flat) where
       go zero = q
       go (suc n) = refl
 
-  module _ (len room : ℕ) (g : good f.numbers ≡ true) (clean : f.numbers.mark ≡ false) (h : f.numbers.health ≡ Lost) where
+  module _ (len room : ℕ) (g : good f.numbers ≡ true) (h : f.numbers.health ≡ Lost) where
     abbrev call : Call → Fed
     call c = feed c len room
 
     -- the number of a call whose rows go on with 2
     is-2 : (c : Call) → StopsLost f.numbers c → R (call c) ≡ 2
-    is-2 c s = given-2 f.numbers (length f.blocks) len room c s g clean h
+    is-2 c s = given-2 f.numbers (length f.blocks) len room c s g h
 
     no_read : (b : ℕ) → R (call (read b)) ≡ 2
     unfolding terms
@@ -78,13 +78,13 @@ module _ (f : Flat) where
     frozen (turns c x e n s) u = (given (call c) 1 (is-2 c s)).1
     frozen (tells c e n) u = quiet (call c) e
 
-no_reads : (es : List Fed) (f : Flat) → good f.numbers ≡ true → f.numbers.mark ≡ false → f.numbers.health ≡ Lost → NoReads es f
+no_reads : (es : List Fed) (f : Flat) → good f.numbers ≡ true → f.numbers.health ≡ Lost → NoReads es f
 unfolding NoReads
-no_reads [] f g clean h = tt
-no_reads (e ∷ es) f g clean h = (
-  λ b q. (given f e 1 (subst (λ (c : Call). R f (feed c e.images e.room) ≡ 2) (sym q) (no_read f e.images e.room g clean h b))).0,
-  λ b q. (given f e 1 (subst (λ (c : Call). R f (feed c e.images e.room) ≡ 2) (sym q) (no-view f e.images e.room g clean h b))).0,
-  λ u. rw (frozen f e.images e.room g clean h (look f.numbers f.blocks e.call) u) (no_reads es f g clean h),
+no_reads [] f g h = tt
+no_reads (e ∷ es) f g h = (
+  λ b q. (given f e 1 (subst (λ (c : Call). R f (feed c e.images e.room) ≡ 2) (sym q) (no_read f e.images e.room g h b))).0,
+  λ b q. (given f e 1 (subst (λ (c : Call). R f (feed c e.images e.room) ≡ 2) (sym q) (no-view f e.images e.room g h b))).0,
+  λ u. rw (frozen f e.images e.room g h (look f.numbers f.blocks e.call) u) (no_reads es f g h),
 )
 
 -- an accepted out of a second disk
@@ -109,4 +109,4 @@ pub other-lost : (h : Health) (first done second : ℕ) → h ≡ Rebuilding fir
 other-lost h first done second q ne = ap (λ (x : Health). fallen x second) q ∙ rw (ne_eqb first second (λ p. ne (sym p))) refl
 
 pub lost-reads : (es : List Fed) (f : Flat) (r : Record) → good r ≡ true → f.numbers ≡ with_health r Lost → NoReads es f
-lost-reads es f r g q = no_reads es f (ap good q ∙ good-lost r g) (ap (λ (x : Record). x.mark) q) (ap (λ (x : Record). x.health) q)
+lost-reads es f r g q = no_reads es f (ap good q ∙ good-lost r g) (ap (λ (x : Record). x.health) q)

@@ -13,29 +13,29 @@ use Rattle.history.specs.Lent.{as_bytes, as_record, Cabinet, leaves, next}
 use Rattle.history.specs.Theorem.{tally, Claim, Claims, opening, Demand3On}
 
 -- a cabinet with its record as bytes
-abbrev pub in_bytes : Cabinet Record → Cabinet (List ℕ)
+abbrev in_bytes : Cabinet Record → Cabinet (List ℕ)
 in_bytes a = record { rec = encode a.rec; img = a.img }
 
 -- and back
-pub out_of_bytes : Cabinet (List ℕ) → Cabinet Record
+out_of_bytes : Cabinet (List ℕ) → Cabinet Record
 out_of_bytes a = record { rec = decode a.rec; img = a.img }
 
-pub back : (a : Cabinet Record) → out_of_bytes (in_bytes a) ≡ a
+back : (a : Cabinet Record) → out_of_bytes (in_bytes a) ≡ a
 unfolding out_of_bytes
 back a = rw (decode-encode a.rec) refl
 
-pub same-record : {r s : Record} → encode r ≡ encode s → r ≡ s
+same-record : {r s : Record} → encode r ≡ encode s → r ≡ s
 same-record {r} {s} p = sym (decode-encode r) ∙ ap decode p ∙ decode-encode s
 
 module _ (e : Event) (a : Cabinet Record) where
-  pub left_is : leaves as_bytes e (in_bytes a) ≡ sealed (leaves as_record e a)
+  left_is : leaves as_bytes e (in_bytes a) ≡ sealed (leaves as_record e a)
   left_is = on_bytes e a.rec
 
-  pub next_is : next as_bytes e (in_bytes a) ≡ in_bytes (next as_record e a)
+  next_is : next as_bytes e (in_bytes a) ≡ in_bytes (next as_record e a)
   unfolding next
   next_is = rw (left_is, decode-encode a.rec) refl
 
-  pub claim : (f : Flat) (sum : ℕ) → Claim as_bytes e (in_bytes a) f sum → Claim as_record e a f sum
+  claim : (f : Flat) (sum : ℕ) → Claim as_bytes e (in_bytes a) f sum → Claim as_record e a f sum
   claim f sum c =
       let before = decode-encode a.rec in
       let after = decode-encode (leaves as_record e a).state in

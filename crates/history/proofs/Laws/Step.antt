@@ -17,10 +17,10 @@ use Rattle.state.specs.declared.types.Health.{Health}
 use Rattle.state.specs.declared.types.Record.{Record}
 use Rattle.state.specs.Good.{geometry}
 use Rattle.state.specs.Bytes.{record_length, decode, stripes_done, encode}
-use Rattle.state.specs.Update.{grown_by, with_health, with_mark}
+use Rattle.state.specs.Update.{grown_by, with_health}
 use Rattle.state.proofs.Laws.Bytes.{decode-encode}
 use Rattle.calls.specs.Call.{Call, format, read, view, write, grow, advance, out, begin, continue}
-use Rattle.calls.specs.Call.{status, locate, owner, sweep, on, Event, fed, Answer, made, accepted, restart, done}
+use Rattle.calls.specs.Call.{status, locate, owner, sweep, on, Event, fed, Answer, made, accepted}
 use Rattle.calls.specs.Health.{after_out, rebuilt_to}
 use Rattle.calls.specs.Images.{size, recorded}
 use Rattle.calls.specs.Table.{terms, later_rows, table, word, refusal, refusal_of, rows_bytes, refusal_bytes}
@@ -38,7 +38,6 @@ use Rattle.calls.proofs.Laws.Passed.{passed}
 use Rattle.calls.proofs.Laws.Out.{outs}
 use Rattle.calls.proofs.Laws.Rebuild.{come-to, come-to-end, begins, as_many, carries}
 use Rattle.calls.proofs.Laws.Swept.{sweeps}
-use Rattle.calls.proofs.Laws.Restart.{torn-holding, restarts}
 use Rattle.history.specs.Flat.{Flat, flat, zero_blocks, reached, lengthened, fallen, risen, flat_act, flat_settle, flat_step}
 use Rattle.history.specs.Lent.{as_bytes, Cabinet, takes, Keeps, Lends, leaves, images_after, next}
 
@@ -52,7 +51,7 @@ pub record Acted (c : Call) (x : Left Record) (r : Record) (before : List ℕ) (
   pub holding : Holding y.1.numbers (images_after true (takes c r) before x.images) y.1.blocks
 
 -- places that are kept are kept byte by byte
-pub kept-bytes : (r : Record) (left lent : List ℕ) → Keeps r left lent → Kept r left lent
+kept-bytes : (r : Record) (left lent : List ℕ) → Keeps r left lent → Kept r left lent
 unfolding Keeps
 kept-bytes r left lent k S d j lS ld lj q =
     sym (get_or-place r.block r.stripes lent S d j lj) ∙ ap (λ (v : List ℕ). get_or v j 0) (k S d lS ld q) ∙ get_or-place r.block r.stripes left S d j lj
@@ -76,7 +75,7 @@ same-rise T o c x l = go (le-or-lt T (c + x))
     go (inr h) = rw (come-to T o (c + x) h, lt-ltb (c + x) T h)
 
 -- the flat list's length is the capacity, so both machines lengthen it alike
-pub same_length : (r : Record) → capacity (geometry r) ≡ reached r
+same_length : (r : Record) → capacity (geometry r) ≡ reached r
 unfolding capacity open_stripes
 same_length r = go (eqb r.moves (total_of (geometry r)))
   where
@@ -91,16 +90,12 @@ same_length r = go (eqb r.moves (total_of (geometry r)))
 longer : {x : Left Record} {a : Answer} (r : Record) (bs : List (List ℕ)) → Leaves x a r (with-new (geometry r) r.block bs) → Leaves x a r (lengthened r bs)
 longer {x} {a} r bs l = subst (λ (n : ℕ). Leaves x a r (bs ++ zero_blocks (n - length bs) r.block)) (same_length r) l
 
--- a record without a mark
-pub unmarked : (r : Record) → r.mark ≡ false → with_mark r false ≡ r
-unmarked r clean = ap {B = Record} (λ (m : Bool). with_mark r m) (sym clean)
-
 module _ (r : Record) (left : List ℕ) (bs : List (List ℕ)) (h : Holding r left bs) (img room : List ℕ) where
-  abbrev pub Passes : Call → Type 0
+  abbrev Passes : Call → Type 0
   Passes c = word (later_rows c r (capacity (geometry r)) (length img) (length room)) ≡ 0
 
   -- images that may be lent hold the list too
-  pub lent : (length img ≡ size r → Keeps r left img) → length img ≡ size r → Holding r img bs
+  lent : (length img ≡ size r → Keeps r left img) → length img ≡ size r → Holding r img bs
   lent k z = relends r left bs h img z (kept-bytes r left img (k z))
 
   -- a call that takes images leaves them standing
@@ -126,13 +121,7 @@ module _ (r : Record) (left : List ℕ) (bs : List (List ℕ)) (h : Holding r le
       X : Left Record
       X = act (on (continue k) img room) r
 
-  mends : (length img ≡ size r → Keeps r left img) → Passes restart → Leaves (act (on restart img room) r) done r bs
-  mends l z =
-      let q = rows.restarts r cap (length img) (length room) z in
-      subst (λ (y : Record). Leaves (act (on restart img room) r) done y bs) (unmarked r h.clean)
-      (restarts r img room bs (λ long. torn-holding r img bs (lent l long) q.all_in) cap (length room) z)
-
-  pub acts : (c : Call) → Lends (on c img room) r left → Passes c → Acted c (act (on c img room) r) r left (flat_act c r bs)
+  acts : (c : Call) → Lends (on c img room) r left → Passes c → Acted c (act (on c img room) r) r left (flat_act c r bs)
   unfolding Lends terms flat_act effect recorded
   acts (format n B T) l z = left_by (format n B T) refl refl (formats n B T img room r cap (length room) z)
   acts (read b) l z = left_by (read b) refl refl (reads r img room bs (lent l) b z)
@@ -150,7 +139,6 @@ module _ (r : Record) (left : List ℕ) (bs : List (List ℕ)) (h : Holding r le
   acts (locate b) l z = record { answer = refl; taken = refl; state = refl; holding = h }
   acts (owner S d) l z = record { answer = refl; taken = refl; state = refl; holding = h }
   acts sweep l z = left_by sweep refl refl (sweeps r img room bs (lent l) cap (length room) z)
-  acts restart l z = left_by restart refl refl (mends l z)
 
 -- ---- a call, refused or not
 
@@ -159,7 +147,7 @@ pub record Alike (e : Event) (a : Cabinet (List ℕ)) (y : Answer × Flat) : Typ
   pub fields : (leaves as_bytes e a).state ≡ encode y.1.numbers
   pub holding : Holding y.1.numbers (next as_bytes e a).img y.1.blocks
 
-abbrev pub cabinet : Record → List ℕ → Cabinet (List ℕ)
+abbrev cabinet : Record → List ℕ → Cabinet (List ℕ)
 cabinet r left = record { rec = encode r; img = left }
 
 -- the same by what the call leaves

@@ -5,18 +5,17 @@ use mathlib.Core.Bool.{Bool, true, false, not}
 use mathlib.Core.Logic.{◌≢◌}
 use mathlib.Core.List.{List, [], ◌∷◌, ◌++◌}
 use borrow.Author.Tests.{not-false}
-use Rattle.conditions.proofs.Tests.{neither}
 use Rattle.state.specs.declared.types.Record.{Record}
 use Rattle.state.specs.Good.{good, GoodRecord}
 use Rattle.state.proofs.Laws.Good.{limits}
 use Rattle.calls.specs.Images.{size}
-use Rattle.calls.specs.Table.{Row, unfit_record, unmarked, lost, degraded, images, disk, word, kept, kept_whole, kept_lent}
+use Rattle.calls.specs.Table.{Row, bad_record, lost, degraded, images, disk, word, kept, kept_whole, kept_lent}
 use Rattle.calls.proofs.Laws.Table.{passes, stops, given, skipped, lent-on}
 
 -- k is the number of these rows
 module _ (r : Record) {k : ℕ} where
-  ready : (rows : List Row) → k ≡ word (unmarked r ∷ rows) → k ≡ 0 → GoodRecord r
-  ready rows e z = limits r (not-false _ (neither (not (good r)) r.mark (passes (unfit_record r) 0 (word rows) (sym e ∙ z)).0).0)
+  ready : (rows : List Row) → k ≡ word (bad_record (not (good r)) ∷ rows) → k ≡ 0 → GoodRecord r
+  ready rows e z = limits r (not-false _ (passes (not (good r)) 0 (word rows) (sym e ∙ z)).0)
 
   pub ready-kept : k ≡ word (kept r) → k ≡ 0 → GoodRecord r
   ready-kept e z = ready (lost r ∷ []) e z

@@ -1,11 +1,11 @@
 -- Begin; and continue: disk d, stripe by stripe from S₀ on, as the xor of the others; what is stored on it changes none of these. Assumes nothing.
 use Prim.Native.Nat.{ℕ, suc, ◌+◌, ◌-◌, ◌≤◌, ◌<◌, min}
 use mathlib.Core.Path.{◌≡◌, refl, sym, ap, ap₂, ◌∙◌}
-use mathlib.Core.List.{List, [], ◌∷◌, ◌++◌}
+use mathlib.Core.List.{List, [], ◌∷◌}
 use native.Mathlib.Nat.{le_antisymm}
 use native.Mathlib.Numerals.{add-one}
 use native.Mathlib.Omega.{arith}
-use lib.ListN.{length, take}
+use lib.ListN.{length}
 use Rattle.layout.specs.Layout.{capacity}
 use Rattle.blocks.specs.Block.{store}
 use Rattle.blocks.specs.Stripe.{offset, others}
@@ -18,15 +18,12 @@ use Rattle.state.specs.Bytes.{disk_byte, stripes_done}
 use Rattle.state.proofs.Laws.Good.{out-lt, rebuilding-lt}
 use Rattle.calls.specs.Call.{begin, continue, feed, on, done, made}
 use Rattle.calls.specs.Health.{rebuilt_to}
-use Rattle.calls.specs.Images.{disks_of, size, others_in, Store, block, header, stored, recorded, fill_disk}
+use Rattle.calls.specs.Images.{disks_of, size, others_in, Store, block, stored, recorded, fill_disk}
 use Rattle.calls.specs.Table.{refusal_of}
-use Rattle.calls.specs.Effect.{continue_stores, effect, Left, act_up_to}
-use Rattle.calls.proofs.Laws.Stores.{length-stored, stored-append}
-use Rattle.calls.proofs.Laws.Blocks.{Any, blocks-fill}
-use Rattle.calls.proofs.Laws.Few.{length-fill}
+use Rattle.calls.specs.Effect.{continue_stores, effect, act}
+use Rattle.calls.proofs.Laws.Stores.{length-stored, stored-append, stored_last, recorded-last}
 use Rattle.calls.proofs.Laws.Passed.{passed, in-limits, begins, Continues, continues}
 use Rattle.calls.proofs.Laws.Rebuild.{sums, others-filled}
-use Rattle.repair.proofs.Laws.Budget.{kept, replaced, blocks-alone, kept-alone, replaced-alone, take-fill}
 
 module _ (B T N d S₀ : ℕ) (img : List ℕ) where
   -- the xors of the others, before any of it
@@ -77,14 +74,9 @@ module _ (img : List ℕ) (r : Record) (d : ℕ) (z : refusal_of r (feed (begin 
       let q = begins r (capacity (geometry r)) (length img) 0 d (passed r (capacity (geometry r)) (feed (begin d) (length img) 0) z) in
       omega (arith, out-lt r d l q.is-out, l.array.disks)
 
-module _ (c : ℕ) (img : List ℕ) (r : Record) (d : ℕ) where
-  pub begin-none : c < 1 → let x = act_up_to c (on (begin d) img []) r in (done ≡ x.answer) × (r ≡ x.state)
-  unfolding effect
-  begin-none l = (refl, kept-alone c (with_health r (Rebuilding d 0)) r l)
-
-  pub begin-done : 1 ≤ c → let x = act_up_to c (on (begin d) img []) r in (done ≡ x.answer) × (with_health r (Rebuilding d 0) ≡ x.state)
-  unfolding effect
-  begin-done l = (refl, replaced-alone c (with_health r (Rebuilding d 0)) r l)
+  pub begin-done : let x = act (on (begin d) img []) r in (done ≡ x.answer) × (with_health r (Rebuilding d 0) ≡ x.state)
+  unfolding effect recorded
+  begin-done = (refl, refl)
 
 -- ---- continue
 
@@ -92,10 +84,10 @@ module _ (img : List ℕ) (r : Record) (k : ℕ) (z : refusal_of r (feed (contin
   at_once : Continues r (length img)
   at_once = continues r (capacity (geometry r)) (length img) 0 k (passed r (capacity (geometry r)) (feed (continue k) (length img) 0) z)
 
-  abbrev disk : ℕ
+  abbrev pub disk : ℕ
   disk = disk_byte r.health
 
-  abbrev first : ℕ
+  abbrev pub first : ℕ
   first = stripes_done r.health
 
   within : GoodRecord r
@@ -110,47 +102,17 @@ module _ (img : List ℕ) (r : Record) (k : ℕ) (z : refusal_of r (feed (contin
       let lc' : first < r.stripes = rw q.health lc in
       (within, ld', lc', omega (arith, lc'), q.long)
 
--- the numbers that it goes by: the disk, its stripes that are done, and how many it makes
-pub record Numbers (r : Record) (k d first count : ℕ) : Type 0 where
-  pub disk-is : d ≡ disk_byte r.health
-  pub first-is : first ≡ stripes_done r.health
-  pub count-is : count ≡ min k (r.stripes - stripes_done r.health)
-
--- what its first c stores leave: of the stripes min c count, and the record where c is more than count
-module _ (c : ℕ) (img : List ℕ) (r : Record) (k : ℕ) {d first count : ℕ} (n : Numbers r k d first count) where
-  abbrev left : Left Record
-  left = act_up_to c (on (continue k) img []) r
-
-  abbrev stripes : ℕ → List Store
-  stripes more = fill_disk first more d (λ S. others_in r img S d)
-
-  abbrev rebuilt : Record
-  rebuilt = with_health r (rebuilt_to r.stripes d (first + count))
-
-  all-is : stripes count ++ header rebuilt ∷ [] ≡ continue_stores k r img
-  unfolding continue_stores
-  all-is = rw (n.count-is, n.first-is, n.disk-is) refl
-
-  length-is : length (stripes count) ≡ count
-  length-is = length-fill first count d (λ S. others_in r img S d)
-
-  pub continue-images : {most : ℕ} → most ≡ min c count → stored r.block r.stripes (stripes most) img ≡ left.images
-  unfolding effect
-  continue-images e =
-      let images : List Store → List ℕ = λ ps. stored r.block r.stripes ps img in
-      ap images (ap stripes e ∙ sym (take-fill first d (λ S. others_in r img S d) c count)) ∙ blocks-alone c (stripes count) rebuilt r.block r.stripes img
-      ∙ ap (λ (ps : List Store). images (take c ps)) all-is
-
-  pub continue-short : c ≤ count → (made count ≡ left.answer) × (r ≡ left.state)
-  unfolding effect
-  continue-short l = (
-    ap made n.count-is,
-    kept c (stripes count) rebuilt r (blocks-fill Any first count d (λ S. others_in r img S d) (λ S h. tt)) (rw length-is l) ∙ ap (λ (ps : List Store). recorded (take c ps) r) all-is,
-  )
-
-  pub continue-done : count < c → (made count ≡ left.answer) × (rebuilt ≡ left.state)
-  unfolding effect
-  continue-done l = (
-    ap made n.count-is,
-    replaced c (stripes count) rebuilt r (rw length-is l) ∙ ap (λ (ps : List Store). recorded (take c ps) r) all-is,
-  )
+  pub continue-done : (count : ℕ) → count ≡ min k (r.stripes - first)
+      → let x = act (on (continue k) img []) r in
+      (made count ≡ x.answer)
+      × (with_health r (rebuilt_to r.stripes disk (first + count)) ≡ x.state)
+      × (stored r.block r.stripes (fill_disk first count disk (λ S. others_in r img S disk)) img ≡ x.images)
+  unfolding effect continue_stores
+  continue-done count e =
+      let left : ℕ → Record = λ n. with_health r (rebuilt_to r.stripes disk (first + n)) in
+      let ps : ℕ → List Store = λ n. fill_disk first n disk (λ S. others_in r img S disk) in
+      let n : ℕ = min k (r.stripes - first) in (
+        ap made e,
+        ap left e ∙ sym (recorded-last (ps n) (left n) r),
+        ap (λ (i : ℕ). stored r.block r.stripes (ps i) img) e ∙ sym (stored_last r.block r.stripes (ps n) (left n) img),
+      )

@@ -1,12 +1,12 @@
 -- The record and its bytes: each way there and back. Assumes nothing.
 use Prim.Native.Nat.{ℕ, zero, suc, ◌+◌, ◌/◌, ◌%◌, ◌<◌, ◌≤◌}
 use mathlib.Core.Path.{◌≡◌, refl, sym, ap, ◌∙◌}
-use mathlib.Core.Bool.{Bool, true, false, ◌&&◌, ◌||◌}
+use mathlib.Core.Bool.{true, ◌&&◌, ◌||◌}
 use mathlib.Core.List.{List, [], ◌∷◌}
 use native.Mathlib.Omega.{arith}
 use lib.ListN.{length, get_or, drop}
 use lib.Seq.{drop-cons, drop-length}
-use lib.Dec.{eqb, leb}
+use lib.Dec.{eqb}
 use borrow.Author.Tests.{leb-true, eqb-true}
 use Rattle.blocks.specs.Block.{AreBytes}
 use Rattle.blocks.proofs.Laws.Number.{two_back, four-back, two_bytes, four_bytes}
@@ -14,7 +14,7 @@ use Rattle.state.specs.declared.types.Health.TheVariants.{Whole, Out, Lost, Rebu
 use Rattle.state.specs.declared.types.Health.{Health}
 use Rattle.state.specs.declared.types.Record.{Record}
 use Rattle.state.specs.Good.{HealthWithin}
-use Rattle.state.specs.Bytes.{record_length, done_from, health_of, decode, health_plain, plain, health_byte, disk_byte, stripes_done, mark_byte, encode}
+use Rattle.state.specs.Bytes.{record_length, done_from, health_of, decode, health_plain, plain, health_byte, disk_byte, stripes_done, encode}
 use Rattle.conditions.proofs.Tests.{both}
 
 -- ---- from the record to its bytes and back
@@ -25,13 +25,9 @@ health-back (Out d) = refl
 health-back Lost = refl
 health-back (Rebuilding d c) = refl
 
-mark-back : (m : Bool) → eqb (mark_byte m) 1 ≡ m
-mark-back true = refl
-mark-back false = refl
-
 pub decode-encode : (r : Record) → decode (encode r) ≡ r
 unfolding decode encode
-decode-encode r = simp (two_back r.block, four-back r.stripes, four-back r.moves, four-back (stripes_done r.health), health-back r.health, mark-back r.mark)
+decode-encode r = simp (two_back r.block, four-back r.stripes, four-back r.moves, four-back (stripes_done r.health), health-back r.health)
 
 -- ---- what the bytes of a record are
 
@@ -45,13 +41,9 @@ plain-health (Out d) = refl
 plain-health Lost = refl
 plain-health (Rebuilding d c) = refl
 
-plain-mark : (m : Bool) → leb (mark_byte m) 1 ≡ true
-plain-mark true = refl
-plain-mark false = refl
-
 pub plain-encode : (r : Record) → plain (encode r) ≡ true
 unfolding plain encode
-plain-encode r = simp (four-back (stripes_done r.health), plain-health r.health, plain-mark r.mark)
+plain-encode r = simp (four-back (stripes_done r.health), plain-health r.health)
 
 -- each field fits its bytes
 pub record Fits (r : Record) : Type 0 where
@@ -78,10 +70,6 @@ health-fits (Out d) o = (omega arith, o, omega arith)
 health-fits Lost o = (omega arith, omega arith, omega arith)
 health-fits (Rebuilding d c) o = (omega arith, o.0, o.1)
 
-mark-fits : (m : Bool) → mark_byte m < 256
-mark-fits true = omega arith
-mark-fits false = omega arith
-
 two_fits : (x : ℕ) {b : List ℕ} → x < 65536 → Small b → Small (x % 256 ∷ x / 256 ∷ b)
 two_fits x h t =
     let a : x % 256 < 256 = omega arith in
@@ -103,7 +91,7 @@ bytes-encode r f =
     let zero-fits : 0 < 256 = omega arith in
     let done = four-fits (stripes_done r.health) h.2 none in
     let counts = four-fits r.stripes f.stripes-fits (four-fits r.moves f.moves-fits done) in
-    let sizes = two_fits r.block f.block-fits (more (mark-fits r.mark) (more zero-fits counts)) in
+    let sizes = two_fits r.block f.block-fits (more zero-fits (more zero-fits counts)) in
     small (more f.old-fits (more f.new-fits (more h.0 (more h.1 sizes))))
 
 -- ---- from the bytes to the record and back
@@ -149,22 +137,17 @@ health_bytes h d c e =
     go (is_lost z) u v = let u' = rw z at u in let v' = rw z at v in rw z (refl, sym (eqb-true d 0 v'), sym (eqb-true c 0 u'))
     go (is-rebuilding z) u v = rw z (refl, refl, refl)
 
-mark_bytes : (x : ℕ) → leb x 1 ≡ true → mark_byte (eqb x 1) ≡ x
-mark_bytes zero e = refl
-mark_bytes (suc zero) e = refl
-mark_bytes (suc (suc x)) e = absurd (let l : suc (suc x) ≤ 1 = leb-true (suc (suc x)) 1 e in omega arith)
-
 spelt : (b : List ℕ) → AreBytes b → plain b ≡ true → encode (decode b) ≡ spell 0 record_length b
 unfolding encode decode plain
 spelt b by e =
-    let p = both (health_plain (get_or b 2 0) (get_or b 3 0) (done_from b)) (leb (get_or b 6 0) 1 && eqb (get_or b 7 0) 0) e in
-    let q = both (leb (get_or b 6 0) 1) (eqb (get_or b 7 0) 0) p.1 in
+    let p = both (health_plain (get_or b 2 0) (get_or b 3 0) (done_from b)) (eqb (get_or b 6 0) 0 && eqb (get_or b 7 0) 0) e in
+    let q = both (eqb (get_or b 6 0) 0) (eqb (get_or b 7 0) 0) p.1 in
     let h = health_bytes (get_or b 2 0) (get_or b 3 0) (done_from b) p.0 in
     cc (
       h.0,
       h.1,
       h.2,
-      mark_bytes (get_or b 6 0) q.0,
+      eqb-true (get_or b 6 0) 0 q.0,
       eqb-true (get_or b 7 0) 0 q.1,
       two_bytes (get_or b 4 0) (get_or b 5 0) (by 4),
       four_bytes (get_or b 8 0) (get_or b 9 0) (get_or b 10 0) (get_or b 11 0) (by 8) (by 9) (by 10),

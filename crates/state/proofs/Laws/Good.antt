@@ -1,10 +1,10 @@
 -- The limits of a record, from the tests to the facts and back. Assumes nothing.
 use Prim.Native.Nat.{ℕ, ◌+◌, ◌≤◌, ◌<◌}
 use mathlib.Core.Path.{◌≡◌, refl, sym, ◌∙◌, subst}
-use mathlib.Core.Bool.{Bool, true, false, true≢false}
+use mathlib.Core.Bool.{true, false}
 use native.Mathlib.Decide.{ℕ_discrete}
 use native.Mathlib.Omega.{arith}
-use lib.Dec.{leb, ltb, eqb}
+use lib.Dec.{leb, eqb}
 use borrow.Author.Tests.{ltb-true, leb-true, lt-ltb, le-leb, eq-eqb, ne_eqb}
 use Rattle.layout.specs.declared.Geometry.{Geometry}
 use Rattle.layout.specs.Layout.{total_of}
@@ -12,7 +12,7 @@ use Rattle.state.specs.declared.types.Health.TheVariants.{Whole, Out, Lost, Rebu
 use Rattle.state.specs.declared.types.Health.{Health}
 use Rattle.state.specs.declared.types.Record.{Record}
 use Rattle.state.specs.Update.{with_health}
-use Rattle.state.specs.Good.{geometry, within, new_good, added_good, moves_good, health_good, mark_good, good, HealthWithin, GoodRecord}
+use Rattle.state.specs.Good.{geometry, within, new_good, added_good, moves_good, health_good, good, HealthWithin, GoodRecord}
 use Rattle.conditions.proofs.Tests.{both, and-true, and-false, second}
 
 -- ---- between two bounds
@@ -67,23 +67,6 @@ module _ (N T : ℕ) where
   within-health Lost o = refl
   within-health (Rebuilding d c) o = and-true _ _ (lt-ltb d N o.0) ∙ lt-ltb c T o.1
 
--- ---- the mark
-
-pub no-mark : {A : Type 0} → false ≡ true → A
-no-mark q = absurd (true≢false (sym q))
-
-mark-marked : (m : Bool) (t : ℕ) → mark_good m t ≡ true → m ≡ true → 0 < t
-mark-marked true t e q = ltb-true 0 t e
-mark-marked false t e q = no-mark q
-
-marked-mark : (m : Bool) (t : ℕ) → (m ≡ true → 0 < t) → mark_good m t ≡ true
-marked-mark true t f = lt-ltb 0 t (f refl)
-marked-mark false t f = refl
-
--- what a program says that asks for the mark, and then for the moves
-pub mark-asked : (m : Bool) (t : ℕ) → m ≡ true → mark_good m t ≡ ltb 0 t
-mark-asked m t q = rw q refl
-
 -- ---- the record
 
 pub limits : (r : Record) → good r ≡ true → GoodRecord r
@@ -93,7 +76,6 @@ limits r e =
     let b = both _ _ a.1 in
     let c = both _ _ b.1 in
     let d = both _ _ c.1 in
-    let h = both _ _ d.1 in
     let n = within-true 3 r.old 16 a.0 in
     let l = within-true 1 r.block 4096 b.0 in
     let s = within-true 1 r.stripes 1048576 c.0 in
@@ -107,8 +89,7 @@ limits r e =
       };
       block_low = l.0;
       block_high = l.1;
-      health = health-within (r.old + r.new) r.stripes r.health h.0;
-      marked = mark-marked r.mark r.moves h.1;
+      health = health-within (r.old + r.new) r.stripes r.health d.1;
     }
 
 pub within-limits : (r : Record) → GoodRecord r → good r ≡ true
@@ -119,8 +100,7 @@ within-limits r l =
     ∙ and-true _ _ (true-within 1 r.block 4096 l.block_low l.block_high)
     ∙ and-true _ _ (true-within 1 r.stripes 1048576 a.stripes_low a.stripes_high)
     ∙ and-true _ _ (good-moves (geometry r) a.disks.m_high a.moves)
-    ∙ and-true _ _ (within-health (r.old + r.new) r.stripes r.health l.health)
-    ∙ marked-mark r.mark r.moves l.marked
+    ∙ within-health (r.old + r.new) r.stripes r.health l.health
 
 -- the disk that is out is a disk of the array
 pub out-lt : (r : Record) (d : ℕ) → GoodRecord r → r.health ≡ Out d → d < r.old + r.new
@@ -132,4 +112,4 @@ rebuilding-lt r d c l e = subst (λ (x : Health). HealthWithin (r.old + r.new) r
 
 -- another health
 pub turned : (r : Record) (h : Health) → GoodRecord r → HealthWithin (r.old + r.new) r.stripes h → GoodRecord (with_health r h)
-turned r h l o = record { array = l.array; block_low = l.block_low; block_high = l.block_high; health = o; marked = no-mark }
+turned r h l o = record { array = l.array; block_low = l.block_low; block_high = l.block_high; health = o }

@@ -1,5 +1,4 @@
 -- `progressed` meets its contract. Assumes nothing.
-use mathlib.Core.Path.{refl}
 use borrow.Author.Rules.{rules}
 use Rattle.refusals.proofs.answers.progressed.Statement.{statement}
 use Rattle.refusals.proofs.answers.progressed.Tie as tie
@@ -10,17 +9,11 @@ enum-known-x c = search rules
 enum-known-x-2 : tie.Need-enum-known-x-2
 enum-known-x-2 c = search rules
 
-enum-known-x-3 : tie.Need-enum-known-x-3
-enum-known-x-3 c = search rules
-
 returns : tie.Need-returns
 returns c = search rules
 
 returns-2 : tie.Need-returns-2
 returns-2 c = search rules
 
-returns-3 : tie.Need-returns-3
-returns-3 c = rw c.before.x3.given.1 ((refl, refl), refl)
-
 pub progressed-spec : {M : Type 1} → statement M
-progressed-spec = tie.close (tie.spec enum-known-x enum-known-x-2 enum-known-x-3 returns returns-2 returns-3)
+progressed-spec = tie.close (tie.spec enum-known-x enum-known-x-2 returns returns-2)

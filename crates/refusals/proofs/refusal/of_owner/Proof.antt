@@ -5,7 +5,8 @@ use mathlib.Core.Bool.{not}
 use mathlib.Core.List.{List, [], ◌∷◌}
 use borrow.Author.Rules.{rules}
 use lib.Dec.{ltb}
-use Rattle.conditions.proofs.Asked.{under, over, told}
+use Rattle.conditions.proofs.Tests.{went_on, returned}
+use Rattle.conditions.proofs.Asked.{under, over}
 use Rattle.layout.specs.Layout.{capacity}
 use Rattle.state.specs.declared.types.Record.{Record}
 use Rattle.state.specs.Good.{geometry}
@@ -23,20 +24,20 @@ from-10 r d = disk (not (ltb d (disks_of r))) ∷ []
 abbrev from-8 : Record → ℕ → ℕ → List Row
 from-8 r s d = past_end s r.stripes ∷ from-10 r d
 
-is-unfit-requires : tie.Need-is-unfit-requires
-is-unfit-requires c κs = search rules
+is-good-requires : tie.Need-is-good-requires
+is-good-requires c κs = search rules
 
 returns : tie.Need-returns
 returns c =
     let a = c.before.before.args in
     sym (owner-rows a.r (capacity (geometry a.r)) 0 0 a.s a.d
-    ∙ given 1 (from-8 a.r a.s a.d) (told c.before.is-unfit.ensures c.if1.true))
+    ∙ given 1 (from-8 a.r a.s a.d) (ap not (returned c.before.is-good.ensures c.if1.true)))
 
 past-1 : (c : tie.Else1) → let a = c.before.before.args in refusal_of a.r (feed (owner a.s a.d) 0 0) ≡ word (from-8 a.r a.s a.d)
 past-1 c =
     let a = c.before.before.args in
     owner-rows a.r (capacity (geometry a.r)) 0 0 a.s a.d
-    ∙ skipped 1 (from-8 a.r a.s a.d) (told c.before.is-unfit.ensures c.if1.false)
+    ∙ skipped 1 (from-8 a.r a.s a.d) (ap not (went_on c.before.is-good.ensures c.if1.false))
 
 cast-if2 : tie.Need-overflow-cast-if2
 cast-if2 c = search rules
@@ -60,7 +61,7 @@ pub of-owner-spec : {M : Type 1} → statement M
 of-owner-spec =
     tie.close
     (tie.spec
-    is-unfit-requires
+    is-good-requires
     returns
     cast-if2
     returns-2

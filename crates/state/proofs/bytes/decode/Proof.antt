@@ -61,17 +61,13 @@ shared-slice-read-join-four-8 c = search rules
 join-four-requires-2 : tie.Need-join-four-requires-2
 join-four-requires-2 c κs = search rules
 
-shared-slice-read-t36 : tie.Need-shared-slice-read-t36
-shared-slice-read-t36 c = search rules
-
 returns : tie.Need-returns
 unfolding decode
 returns c =
-    let d = c.before in
-    let stripes = d.before.before.before.before.before in
+    let stripes = c.before.before.before.before.before in
     let block = stripes.before.before.before.before.before in
     let health = block.before.before.before in
-    simp (health.before.done-from.ensures, health.health-from.ensures, block.join-two.ensures, stripes.join-four.ensures, d.join-four2.ensures)
+    simp (health.before.done-from.ensures, health.health-from.ensures, block.join-two.ensures, stripes.join-four.ensures, c.join-four2.ensures)
 
 pub decode-spec : {M : Type 1} → statement M
 decode-spec =
@@ -96,5 +92,4 @@ decode-spec =
     shared-slice-read-join-four-7
     shared-slice-read-join-four-8
     join-four-requires-2
-    shared-slice-read-t36
     returns)

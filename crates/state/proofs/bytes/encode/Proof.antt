@@ -40,9 +40,6 @@ cast-bytes-2 c = search rules
 slice-write-bytes-6 : tie.Need-slice-write-bytes-6
 slice-write-bytes-6 c = simp length-set (omega arith)
 
-mark-byte-requires : tie.Need-mark-byte-requires
-mark-byte-requires c κs = search rules
-
 slice-write-bytes-7 : tie.Need-slice-write-bytes-7
 slice-write-bytes-7 c = simp length-set (omega arith)
 
@@ -89,37 +86,37 @@ cast-bytes-9 : tie.Need-overflow-cast-bytes-9
 cast-bytes-9 c = search rules
 
 slice-write-bytes-15 : tie.Need-slice-write-bytes-15
-slice-write-bytes-15 c = simp length-set (omega (arith, c.before.before.before.before.before.before.before.before.before.before.before.before.before.before.requires))
+slice-write-bytes-15 c = simp length-set (omega (arith, c.before.before.before.before.before.before.before.before.before.before.before.before.before.requires))
 
 cast-bytes-10 : tie.Need-overflow-cast-bytes-10
 cast-bytes-10 c = search rules
 
 slice-write-bytes-16 : tie.Need-slice-write-bytes-16
-slice-write-bytes-16 c = simp length-set (omega (arith, c.before.before.before.before.before.before.before.before.before.before.before.before.before.before.before.requires))
+slice-write-bytes-16 c = simp length-set (omega (arith, c.before.before.before.before.before.before.before.before.before.before.before.before.before.before.requires))
 
 cast-bytes-11 : tie.Need-overflow-cast-bytes-11
 cast-bytes-11 c = search rules
 
 slice-write-bytes-17 : tie.Need-slice-write-bytes-17
-slice-write-bytes-17 c = simp length-set (omega (arith, c.before.before.before.before.before.before.before.before.before.before.before.before.before.before.before.requires))
+slice-write-bytes-17 c = simp length-set (omega (arith, c.before.before.before.before.before.before.before.before.before.before.before.before.before.before.requires))
 
 cast-bytes-12 : tie.Need-overflow-cast-bytes-12
 cast-bytes-12 c = search rules
 
 slice-write-bytes-18 : tie.Need-slice-write-bytes-18
-slice-write-bytes-18 c = simp length-set (omega (arith, c.before.before.before.before.before.before.before.before.before.before.before.before.before.before.before.requires))
+slice-write-bytes-18 c = simp length-set (omega (arith, c.before.before.before.before.before.before.before.before.before.before.before.before.before.before.requires))
 
 cast-bytes-13 : tie.Need-overflow-cast-bytes-13
 cast-bytes-13 c = search rules
 
 slice-write-bytes-19 : tie.Need-slice-write-bytes-19
-slice-write-bytes-19 c = simp length-set (omega (arith, c.before.before.before.before.before.before.before.before.before.before.before.before.before.before.before.requires))
+slice-write-bytes-19 c = simp length-set (omega (arith, c.before.before.before.before.before.before.before.before.before.before.before.before.before.before.requires))
 
 cast-bytes-14 : tie.Need-overflow-cast-bytes-14
-cast-bytes-14 c = omega (arith, c.before.before.before.before.before.before.before.before.before.before.before.before.before.stripes-done.type-inv)
+cast-bytes-14 c = omega (arith, c.before.before.before.before.before.before.before.before.before.before.before.before.stripes-done.type-inv)
 
 slice-write-bytes-20 : tie.Need-slice-write-bytes-20
-slice-write-bytes-20 c = simp length-set (omega (arith, c.before.before.before.before.before.before.before.before.before.before.before.before.before.before.before.requires))
+slice-write-bytes-20 c = simp length-set (omega (arith, c.before.before.before.before.before.before.before.before.before.before.before.before.before.before.requires))
 
 same_length : tie.Need-same-length
 same_length c = simp length-set
@@ -127,12 +124,11 @@ same_length c = simp length-set
 returns : tie.Need-returns
 unfolding encode
 returns c =
-    let m = c.before.before.before.before.before.before.before.before in
-    let d = m.before.before.before in
+    let d = c.before.before.before.before.before.before.before.before.before.before in
     let h = d.before in
     let n = h.before in
     let s = n.before.before in
-    rw (← spelled s.args.bytes.now s.requires, h.health-byte.ensures, d.disk-byte.ensures, n.stripes-done.ensures, m.mark-byte.ensures)
+    rw (← spelled s.args.bytes.now s.requires, h.health-byte.ensures, d.disk-byte.ensures, n.stripes-done.ensures)
 
 pub encode-spec : {M : Type 1} → statement M
 encode-spec =
@@ -149,7 +145,6 @@ encode-spec =
     slice-write-bytes-5
     cast-bytes-2
     slice-write-bytes-6
-    mark-byte-requires
     slice-write-bytes-7
     slice-write-bytes-8
     cast-bytes-3

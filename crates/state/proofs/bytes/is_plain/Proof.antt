@@ -2,7 +2,7 @@
 use mathlib.Core.Path.{◌≡◌, sym, ap, ◌∙◌}
 use Prim.Native.Nat.{ℕ}
 use lib.ListN.{get_or}
-use borrow.Author.Tests.{le-leb, lt-leb}
+use borrow.Author.Tests.{eq-eqb, ne_eqb}
 use Rattle.state.specs.Bytes.{done_from, health_plain, plain}
 use Rattle.conditions.proofs.Tests.{and-true, and-false, went_on, returned}
 use borrow.Author.Rules.{rules}
@@ -41,7 +41,7 @@ unfolding plain
 returns-2 c =
     let e1 = c.before.before in
     sym (and-true _ _ (went_on (health-asked e1.before) e1.if1.false)
-    ∙ and-false _ _ (lt-leb _ _ c.if2.true))
+    ∙ and-false _ _ (ne_eqb _ _ c.if2.true))
 
 shared-slice-read-result : tie.Need-shared-slice-read-result
 shared-slice-read-result c = search rules
@@ -52,7 +52,7 @@ returns-3 c =
     let e2 = c.before in
     let e1 = e2.before.before in
     sym (and-true _ _ (went_on (health-asked e1.before) e1.if1.false)
-    ∙ and-true _ _ (le-leb _ _ e2.if2.false))
+    ∙ and-true _ _ (eq-eqb _ _ e2.if2.false))
 
 pub is-plain-spec : {M : Type 1} → statement M
 is-plain-spec =

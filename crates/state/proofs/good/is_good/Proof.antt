@@ -1,5 +1,5 @@
 -- `is_good` meets its contract. Assumes nothing.
--- Below, c1 to c5 are the states past the first to the fifth test.
+-- Below, c1 to c4 are the states past the first to the fourth test.
 use mathlib.Core.Path.{sym, ◌∙◌}
 use borrow.Author.Rules.{rules}
 use Rattle.state.specs.Good.{good}
@@ -83,36 +83,16 @@ health-is-good-requires c κs = search rules
 returns-5 : tie.Need-returns-5
 unfolding good
 returns-5 c =
-    let c4 = c.before.before in
+    let c4 = c.before in
     let c3 = c4.before.before in
     let c2 = c3.before.before.before in
     let c1 = c2.before.before.before in
-    sym (
-    and-true _ _ (went_on c1.before.old-is-good.ensures c1.if1.false)
-    ∙ and-true _ _ (went_on c2.before.block-is-good.ensures c2.if2.false)
-    ∙ and-true _ _ (went_on c3.before.stripes-are-good.ensures c3.if3.false)
-    ∙ and-true _ _ (went_on c4.before.moves-are-good.ensures c4.if4.false)
-    ∙ and-false _ _ (returned c.before.health-is-good.ensures c.if5.true)
-    )
-
-mark-is-good-requires : tie.Need-mark-is-good-requires
-mark-is-good-requires c κs = search rules
-
-returns-6 : tie.Need-returns-6
-unfolding good
-returns-6 c =
-    let c5 = c.before in
-    let c4 = c5.before.before in
-    let c3 = c4.before.before in
-    let c2 = c3.before.before.before in
-    let c1 = c2.before.before.before in
-    c.mark-is-good.ensures
+    c.health-is-good.ensures
     ∙ sym (
     and-true _ _ (went_on c1.before.old-is-good.ensures c1.if1.false)
     ∙ and-true _ _ (went_on c2.before.block-is-good.ensures c2.if2.false)
     ∙ and-true _ _ (went_on c3.before.stripes-are-good.ensures c3.if3.false)
     ∙ and-true _ _ (went_on c4.before.moves-are-good.ensures c4.if4.false)
-    ∙ and-true _ _ (went_on c5.before.health-is-good.ensures c5.if5.false)
     )
 
 pub is-good-spec : {M : Type 1} → statement M
@@ -133,6 +113,4 @@ is-good-spec =
     returns-4
     add-health-is-good
     health-is-good-requires
-    returns-5
-    mark-is-good-requires
-    returns-6)
+    returns-5)
