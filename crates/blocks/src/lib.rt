@@ -1,5 +1,7 @@
 // One block inside the images: zeroed, copied, moved, xored and tested for zeroes, and the places of a stripe; and bytes as a number. Bytes
 // only; no layout and no record.
+#![tactic(auto)]
+
 mod copy;
 mod number;
 mod place;

@@ -1,5 +1,5 @@
 // The places of one stripe on the disks from `first` to before `last`, but for disk `out`, summed at once. A disk has `stripes` blocks.
-#[derive(Drop)]
+#[derive(Clone, Copy)]
 pub struct Group {
     pub stripes: usize,
     pub stripe: usize,

@@ -1,6 +1,8 @@
 // Where everything stands, and which move comes next: the functions of crate `layout`'s definitions. Numbers only, of 32 bits, which hold
 // them all: no array has more than 2^25 blocks or 2^23 moves. (Before it divides numbers of 64 bits the compiler asks each time if 32 will
 // do.) Only a block is asked for by any number; a stripe or disk that a caller gives in 64 bits is tested before it is cast.
+#![tactic(auto)]
+
 mod blanks;
 mod choice;
 mod closed;
