@@ -4,7 +4,7 @@ use mathlib.Core.Path.{◌≡◌, refl, sym, ◌∙◌}
 use mathlib.Core.Bool.{Bool, true, false, not, ◌&&◌, ◌||◌}
 use native.Mathlib.Omega.{arith}
 use lib.Dec.{eqb, ltb}
-use borrow.Author.Tests.{eqb-true, ltb-true, not-true, not-false}
+use borrow.Author.Tests.{eqb-true, ltb-true, not-false}
 
 pub equal : (a b : ℕ) → not (eqb a b) ≡ false → a ≡ b
 equal a b e = eqb-true a b (not-false _ e)
@@ -40,8 +40,8 @@ second true b q u = absurd (let w : ◌≡◌ {A = ℕ} 0 1 = cc in omega arith)
 second false b q u = q
 
 -- the code asked for t, which is the test a, and went on or returned by `if !t`
-pub went_on : {t a : Bool} → t ≡ a → not t ≡ false → a ≡ true
-went_on e h = sym e ∙ not-false _ h
+pub went_on : {t a : Bool} → t ≡ a → t ≡ true → a ≡ true
+went_on e h = sym e ∙ h
 
-pub returned : {t a : Bool} → t ≡ a → not t ≡ true → a ≡ false
-returned e h = sym e ∙ not-true _ h
+pub returned : {t a : Bool} → t ≡ a → t ≡ false → a ≡ false
+returned e h = sym e ∙ h
