@@ -1,1 +1,3 @@
 // What each call answers and leaves: definitions and laws alone, no code.
+
+#![tactic(auto)]

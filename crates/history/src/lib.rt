@@ -1,1 +1,3 @@
 // Demand 3: definitions and theorems alone, no code.
+
+#![tactic(auto)]

@@ -1,5 +1,7 @@
 // The record of an array: its fields, which ones are good, its bytes, and those that calls leave. Contracts cite the definitions of
 // specs/, which follow document 01.
+#![tactic(auto)]
+
 mod bytes;
 mod good;
 mod types;

@@ -16,7 +16,7 @@ use Rattle.state.specs.declared.types.Record.{Record}
 use Rattle.state.specs.Good.{geometry}
 use Rattle.state.specs.Update.{with_moves}
 use Rattle.calls.specs.Call.{advance, on, made}
-use Rattle.calls.specs.Images.{size, place_in, Store, block, stored, recorded}
+use Rattle.calls.specs.Images.{size, place_in, Store, stored, recorded}
 use Rattle.calls.specs.Table.{idle, later_rows, word}
 use Rattle.calls.specs.Effect.{move_stores, advance_stores, parity_after, effect, act}
 use Rattle.calls.proofs.Laws.Stores.{stored-append, recorded-append}

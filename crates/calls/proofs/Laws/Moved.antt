@@ -24,7 +24,7 @@ use Rattle.state.specs.declared.types.Record.{Record}
 use Rattle.state.specs.Good.{geometry}
 use Rattle.state.specs.Update.{with_moves}
 use Rattle.calls.specs.Health.{absent}
-use Rattle.calls.specs.Images.{disks_of, size, place_in, block, stored}
+use Rattle.calls.specs.Images.{disks_of, size, place_in, stored}
 use Rattle.calls.specs.Table.{idle}
 use Rattle.calls.specs.Effect.{move_stores}
 use Rattle.calls.proofs.Laws.Column.{Agree, Stored, relent}

@@ -1,7 +1,7 @@
 -- Read and view: both give the block of the list, and leave the images as they were lent. Assumes nothing.
 use Prim.Native.Nat.{ℕ}
 use mathlib.Core.Path.{◌≡◌, refl, ap, ◌∙◌}
-use mathlib.Core.Bool.{Bool, true, false, cond, ◌||◌}
+use mathlib.Core.Bool.{Bool, true, false, cond}
 use mathlib.Core.List.{List, []}
 use lib.ListN.{length, get_or}
 use Rattle.layout.specs.Layout.{capacity}

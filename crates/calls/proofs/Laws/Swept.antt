@@ -1,12 +1,12 @@
 -- Sweep: of images that hold a list of blocks it finds no stripe unsound, and it leaves them as they were lent. Assumes nothing.
 use Prim.Native.Nat.{ℕ}
-use mathlib.Core.Path.{◌≡◌, refl, ap, ◌∙◌}
+use mathlib.Core.Path.{◌≡◌, refl, ap}
 use mathlib.Core.List.{List}
 use lib.ListN.{length}
 use Rattle.state.specs.declared.types.Record.{Record}
 use Rattle.calls.specs.Call.{sweep, on, all_sound}
 use Rattle.calls.specs.Health.{is_lost}
-use Rattle.calls.specs.Images.{size, stored, recorded}
+use Rattle.calls.specs.Images.{size}
 use Rattle.calls.specs.Table.{later_rows, word}
 use Rattle.calls.specs.Effect.{effect, act}
 use Rattle.calls.proofs.Laws.Passed as passed

@@ -1,7 +1,7 @@
 -- The test of a stripe is `Sound`; the list of unsound stripes, and what a sweep answers of it. Assumes nothing.
 use Prim.Native.Nat.{ℕ, zero, suc, ◌+◌, ◌≤◌, ◌<◌}
 use mathlib.Core.Path.{◌≡◌, refl, sym, ap, ap₂, ◌∙◌}
-use mathlib.Core.Bool.{Bool, true, false, true≢false, cond, not, ◌&&◌, ◌||◌}
+use mathlib.Core.Bool.{Bool, true, false, true≢false, cond, not, ◌||◌}
 use mathlib.Core.Logic.{◌⊎◌, inl, inr}
 use mathlib.Core.List.{List, [], ◌∷◌, ◌++◌}
 use native.Mathlib.Decide.{ℕ_discrete}
@@ -96,6 +96,7 @@ module _ (r : Record) (img : List ℕ) where
   module _ (S : ℕ) where
     blanks-zero : (k : ℕ) → blanks_zero r img S k ≡ true → (d : ℕ) → d < k → owner S d ≡ Blank → seen r img S d ≡ zeros r.block
     unfolding blanks_zero
+    blanks-zero zero q d l o = absurd (omega arith)
     blanks-zero (suc k) q d l o =
         let (p, z) = both (blanks_zero r img S k) (not (is_blank (owner S k)) || is_zeros r.block (seen r img S k)) q in
         elim (ℕ_discrete d k) [
@@ -212,6 +213,7 @@ module _ (r : Record) (img : List ℕ) where
   -- .. and from the first that is not on, that is its head
   pub first_below : (k S : ℕ) → S < k → unsound_below r img S ≡ [] → is_sound r img S ≡ false → (more : List ℕ) × (unsound_below r img k ≡ S ∷ more)
   unfolding unsound_below
+  first_below zero S l none q = absurd (omega arith)
   first_below (suc k) S l none q = elim (ℕ_discrete S k) [
     | yes e ↦ ([], rw (← e) (rw (none, q) refl))
     | no ne ↦ (let (more, h) = first_below k S (omega arith) none q in
@@ -241,6 +243,7 @@ module _ (r : Record) (img : List ℕ) where
 
   pub on_list : (k S : ℕ) → S < k → is_sound r img S ≡ false → Listed S (unsound_below r img k)
   unfolding unsound_below
+  on_list zero S l q = absurd (omega arith)
   on_list (suc k) S l q = elim (ℕ_discrete S k) [
     | yes e ↦ rw (← e) (rw q (length (unsound_below r img S), omega (arith, length-append (unsound_below r img S) (S ∷ [])), get_or-append_seam (unsound_below r img S) S [] 0))
     | no ne ↦ (let (i, h, g) = on_list k S (omega arith) q in
