@@ -1,6 +1,8 @@
 // Deciding: the number that each call is given, by the table of documents 01 and 02, and 0 where the call is made. Beside it what the
 // crates of the calls share: what health means for a disk, where places lie, how much of what is left a call does, and the answers
 // (specs/Answers.antt says what the enums are in document 01's numbers and values).
+#![tactic(auto)]
+
 mod answers;
 mod budget;
 mod health;
