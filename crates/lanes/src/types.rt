@@ -1,5 +1,5 @@
 // Sixteen bytes side by side.
-#[derive(Drop)]
+#[derive(Clone, Copy)]
 pub struct Lane {
     pub b0: u8,
     pub b1: u8,
@@ -20,7 +20,7 @@ pub struct Lane {
 }
 
 // Four lanes, one after the other.
-#[derive(Drop)]
+#[derive(Clone, Copy)]
 pub struct Quad {
     pub a: Lane,
     pub b: Lane,
