@@ -1,5 +1,5 @@
 // A stripe with two gaps: its places on all disks but `out` and the parity's. A disk has `stripes` blocks of len bytes.
-#[derive(Drop)]
+#[derive(Clone, Copy)]
 pub struct Gapped {
     pub disks: usize,
     pub stripes: usize,
