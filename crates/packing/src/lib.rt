@@ -1,4 +1,6 @@
 // Scan points packed side by side, and unpacked: the functions of crate `points`'s definitions, from one lent slice into another.
+#![tactic(auto)]
+
 mod packing;
 mod point;
 mod unpacking;
