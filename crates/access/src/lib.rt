@@ -1,5 +1,7 @@
 // The calls that reach one block: read, view and write. None requires anything: each asks
 // `refusals` for its number, and is made where that is 0.
+#![tactic(auto)]
+
 mod reading;
 mod types;
 mod viewing;

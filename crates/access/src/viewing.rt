@@ -86,7 +86,7 @@ pub fn view<'a>(
         images.entry.ref_ptr scratch.entry.ref_ptr }
     ensures number { refusal.new ≡ number (called (on (view b) images.now scratch.old) r).answer }
     ensures scratch { left.new.now ≡ (called (on (view b) images.now scratch.old) r).room }
-    ensures scratch_place { left.new.ptr ≡ scratch.entry.ref_ptr }
+    ensures scratch_place { left.new.ref_ptr ≡ scratch.entry.ref_ptr }
 {
     let x = view_choice(r, images, b, scratch);
     let s = &scratch[..];

@@ -9,7 +9,7 @@ use native.Mathlib.Nat.{le_refl, mul-le-mul}
 use native.Mathlib.Omega.{arith}
 use lib.Dec.{ltb}
 use lib.ListN.{length}
-use borrow.Author.Tests.{lt-ltb, le-ltb, not-true, not-false}
+use borrow.Author.Tests.{lt-ltb, le-ltb}
 use Rattle.layout.specs.declared.Geometry.{Geometry}
 use Rattle.layout.specs.declared.Stripe.{Stripe}
 use Rattle.layout.specs.Closed.{taken, stripe_of}
@@ -19,7 +19,7 @@ use Rattle.layout.proofs.Laws.Vacant.{open_full, closed-blank, far-taken}
 use Rattle.blocks.specs.Block.{block_at, zeros, is_zeros}
 use Rattle.blocks.specs.Xor.{xor_b, xor_all}
 use Rattle.blocks.specs.declared.types.Group.{Group}
-use Rattle.blocks.specs.Stripe.{offset, others, stripe}
+use Rattle.blocks.specs.Stripe.{offset, others}
 use Rattle.blocks.specs.Sum.{sum_to, GroupBegun}
 use Rattle.blocks.proofs.Laws.Xor.{xor_b-zeros, xor_all-snoc}
 use Rattle.blocks.proofs.Laws.Stripe.{length-others}
@@ -113,17 +113,17 @@ module _ {r : Record} {img : List ℕ} {S d : ℕ} (whole : r.health ≡ Whole) 
   one_more : blanks_zero r img S (suc d) ≡ true → Looked r img S (d + 1)
   one_more q = record { are = ap (blanks_zero r img S) (let e : d + 1 ≡ suc d = omega arith in e) ∙ q; within = omega arith }
 
-  pub looked-taken : {t : Bool} → t ≡ taken r.old r.new r.moves S d → not t ≡ false → Looked r img S (d + 1)
+  pub looked-taken : {t : Bool} → t ≡ taken r.old r.new r.moves S d → t ≡ true → Looked r img S (d + 1)
   looked-taken q u = one_more (taken-on r img S whole closed d (went_on q u) h.are)
 
   module _ {z : Bool} {at : ℕ} (is : at ≡ offset r.block r.stripes S d) (q : z ≡ is_zeros r.block (block_at img at r.block)) where
     of-place : z ≡ is_zeros r.block (place_in r img S d)
     of-place = q ∙ ap (λ (a : ℕ). is_zeros r.block (block_at img a r.block)) is
 
-    pub looked-zero : not z ≡ false → Looked r img S (d + 1)
+    pub looked-zero : z ≡ true → Looked r img S (d + 1)
     looked-zero u = one_more (zero-on r img S whole closed d (went_on of-place u) h.are)
 
-    pub looked-stop : {t : Bool} → t ≡ taken r.old r.new r.moves S d → not t ≡ true → not z ≡ true → false ≡ blanks_zero r img S (disks_of r)
+    pub looked-stop : {t : Bool} → t ≡ taken r.old r.new r.moves S d → t ≡ false → z ≡ false → false ≡ blanks_zero r img S (disks_of r)
     looked-stop e v u = sym (stops r img S whole closed d (returned e v) (returned of-place u) l)
 
 -- ---- a zone further on, where the blanks are the new disks
@@ -238,14 +238,14 @@ module _ (r : Record) (img : List ℕ) (S : ℕ) {k : ℕ} {z : Bool} (limits : 
     | inl l ↦ far-sound r img S limits whole l inside ∙ ap (λ (b : Bool). b && blanks_zero r img S (disks_of r)) (sym (beyond l))
   ]
 
-  pub odd : not z ≡ true → false ≡ is_sound r img S
-  odd u = sym (by_both ∙ and-false z (blanks_zero r img S (disks_of r)) (not-true z u))
+  pub odd : z ≡ false → false ≡ is_sound r img S
+  odd u = sym (by_both ∙ and-false z (blanks_zero r img S (disks_of r)) u)
 
-  pub even-full : not z ≡ false → S < open_stripes (geometry r) → true ≡ is_sound r img S
-  even-full u l = sym (full-sound r img S l ∙ sym (near (omega arith)) ∙ not-false z u)
+  pub even-full : z ≡ true → S < open_stripes (geometry r) → true ≡ is_sound r img S
+  even-full u l = sym (full-sound r img S l ∙ sym (near (omega arith)) ∙ u)
 
-  pub even : not z ≡ false → {b : Bool} → b ≡ blanks_zero r img S (disks_of r) → b ≡ is_sound r img S
-  even u e = e ∙ sym (by_both ∙ and-true z (blanks_zero r img S (disks_of r)) (not-false z u))
+  pub even : z ≡ true → {b : Bool} → b ≡ blanks_zero r img S (disks_of r) → b ≡ is_sound r img S
+  even u e = e ∙ sym (by_both ∙ and-true z (blanks_zero r img S (disks_of r)) u)
 
 -- ---- the loop over the stripes: none of the first s is unsound
 
@@ -259,12 +259,12 @@ unfolding unsound_below
 none_first r img l = record { none = refl; within = omega arith; long = l }
 
 module _ {r : Record} {img : List ℕ} {s : ℕ} {block : List ℕ} (h : None r img s block) where
-  pub none_more : {z : Bool} (block' : List ℕ) → s < r.stripes → z ≡ is_sound r img s → not z ≡ false → length block' ≡ length block → None r img (s + 1) block'
+  pub none_more : {z : Bool} (block' : List ℕ) → s < r.stripes → z ≡ is_sound r img s → z ≡ true → length block' ≡ length block → None r img (s + 1) block'
   none_more block' l q u same =
       let e : s + 1 ≡ suc s = omega arith in
       record { none = ap (unsound_below r img) e ∙ more-sound r img s (went_on q u) ∙ ap (λ (l' : List ℕ). l' ++ []) h.none; within = omega arith; long = same ∙ h.long }
 
-  pub found : {z : Bool} → s < r.stripes → z ≡ is_sound r img s → not z ≡ true → unsound_at s (s + 1) ≡ swept_to r.stripes (unsound_stripes r img)
+  pub found : {z : Bool} → s < r.stripes → z ≡ is_sound r img s → z ≡ false → unsound_at s (s + 1) ≡ swept_to r.stripes (unsound_stripes r img)
   found l q u = let (more, e) = first_below r img r.stripes s l h.none (returned q u) in ap (swept_to r.stripes) (sym e)
 
   pub all_read : r.stripes ≤ s → all_sound s ≡ swept_to r.stripes (unsound_stripes r img)
