@@ -3,14 +3,14 @@ ghost use Rattle.std.specs.Prelude.{◌-◌, ◌≤◌, ◌<◌, ◌≡◌, get_
 ghost use Rattle.zone_moves.specs.Request.{is_digit, in_limits, field_of, field_at, request_of};
 
 // What stands at a position: a number, with the position after the byte that ends it, or none.
-#[derive(Drop)]
+#[derive(Clone, Copy)]
 pub enum Field {
     Number { value: u32, next: usize },
     Bad,
 }
 
 // What a line asks: zone z of a growth from n to n + m disks, or nothing that is answered.
-#[derive(Drop)]
+#[derive(Clone, Copy)]
 pub enum Request {
     Zone { n: u32, m: u32, z: u32 },
     Refused,

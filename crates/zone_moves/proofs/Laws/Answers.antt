@@ -4,17 +4,16 @@ use mathlib.Core.Path.{◌≡◌, sym, ap, ◌∙◌}
 use mathlib.Core.List.{List}
 use native.Mathlib.Nat.{zero-add}
 use native.Mathlib.Omega.{arith}
-use lib.ListN.{length}
+use lib.ListN.{length, take}
+use lib.Seq.{length-take-le}
 use Rattle.layout.specs.Limits.{Disks}
 use Rattle.zone_moves.specs.declared.parse.Request.TheVariants.{Zone, Refused}
 use Rattle.zone_moves.specs.declared.parse.Request.{Request}
 use Rattle.zone_moves.specs.Request.{Limited, request_of}
 use Rattle.zone_moves.specs.Listing.{lines_of, indices, zone_moves, refusal, answered, answer, written, Stored}
-use Rattle.io.specs.Counts.{IsPrefixLen}
 use Rattle.zone_moves.proofs.Laws.Storing.{length-written}
 use Rattle.zone_moves.proofs.Laws.Fields.{limited, Line, asks, other, look-line}
 use Rattle.zone_moves.proofs.Laws.Lines.{length-lines}
-use Rattle.io.proofs.Counting.{prefix_len_of_le}
 use Rattle.layout.proofs.Laws.Basics.{times}
 
 -- what the limits keep small
@@ -75,7 +74,9 @@ pub answer-stored : (s : List ℕ) {out text after : List ℕ} {next : ℕ} → 
 answer-stored s {out} e f = (f.place ∙ zero-add _ ∙ ap length (sym e), f.is ∙ ap (written out 0) (sym e))
 
 -- an answer lies within the buffer that it was stored in
-pub answer-within : (s out : List ℕ) {after : List ℕ} {next : ℕ} → 4352 ≡ length out → after ≡ written out 0 (answer s) → next ≡ length (answer s) → IsPrefixLen next after
+pub answer-within : (s out : List ℕ) {after : List ℕ} {next : ℕ} → 4352 ≡ length out → after ≡ written out 0 (answer s) → next ≡ length (answer s)
+    → (next ≤ length after) × (next ≡ length (take next after))
 answer-within s out {after} {next} e f g =
     let h : length after ≡ length out = ap length f ∙ length-written out 0 (answer s) (omega (arith, length-answer s)) in
-    prefix_len_of_le next after (omega (arith, length-answer s))
+    let i : next ≤ length after = omega (arith, length-answer s) in
+    (i, sym (length-take-le next after i))
