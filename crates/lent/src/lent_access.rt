@@ -30,7 +30,7 @@ pub fn view<'a>(
         number (called (on (view b) images.now scratch.old) rec.now).answer }
     ensures scratch { left.new.now ≡
         (called (on (view b) images.now scratch.old) rec.now).room }
-    ensures scratch_place { left.new.ptr ≡ scratch.entry.ref_ptr }
+    ensures scratch_place { left.new.ref_ptr ≡ scratch.entry.ref_ptr }
 {
     let r = *rec;
     access::view(r, images, b, scratch, left, refusal)

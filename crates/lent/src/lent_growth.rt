@@ -15,10 +15,10 @@ fn format_step(r: Record, images: &mut [u8], n: u64, block: u64, stripes: u64) -
 }
 
 pub fn format(rec: &mut Record, images: &mut [u8], n: u64, block: u64, stripes: u64) -> u8
-    ensures answer { result ≡ number (called (on (format n block stripes) images.old []) rec.old).answer }
-    ensures state { rec.new ≡ (called (on (format n block stripes) images.old []) rec.old).state }
+    ensures answer { result ≡ number (called (on (format n block stripes) images.old []) rec.entry.now).answer }
+    ensures state { rec.exit.now ≡ (called (on (format n block stripes) images.old []) rec.entry.now).state }
     ensures images { images.new ≡
-        (called (on (format n block stripes) images.old []) rec.old).images }
+        (called (on (format n block stripes) images.old []) rec.entry.now).images }
 {
     let r = *rec;
     let s = format_step(r, images, n, block, stripes);
@@ -35,9 +35,9 @@ fn grow_step(r: Record, images: &mut [u8], m: u64) -> Step
 }
 
 pub fn grow(rec: &mut Record, images: &mut [u8], m: u64) -> u8
-    ensures answer { result ≡ number (called (on (grow m) images.old []) rec.old).answer }
-    ensures state { rec.new ≡ (called (on (grow m) images.old []) rec.old).state }
-    ensures images { images.new ≡ (called (on (grow m) images.old []) rec.old).images }
+    ensures answer { result ≡ number (called (on (grow m) images.old []) rec.entry.now).answer }
+    ensures state { rec.exit.now ≡ (called (on (grow m) images.old []) rec.entry.now).state }
+    ensures images { images.new ≡ (called (on (grow m) images.old []) rec.entry.now).images }
 {
     let r = *rec;
     let s = grow_step(r, images, m);
@@ -55,10 +55,10 @@ fn advance_step(r: Record, images: &mut [u8], k: u64) -> Progress
 }
 
 pub fn advance(rec: &mut Record, images: &mut [u8], k: u64) -> Count
-    ensures answer { (result.number ≡ number (called (on (advance k) images.old []) rec.old).answer)
-        × (result.made ≡ count (called (on (advance k) images.old []) rec.old).answer) }
-    ensures state { rec.new ≡ (called (on (advance k) images.old []) rec.old).state }
-    ensures images { images.new ≡ (called (on (advance k) images.old []) rec.old).images }
+    ensures answer { (result.number ≡ number (called (on (advance k) images.old []) rec.entry.now).answer)
+        × (result.made ≡ count (called (on (advance k) images.old []) rec.entry.now).answer) }
+    ensures state { rec.exit.now ≡ (called (on (advance k) images.old []) rec.entry.now).state }
+    ensures images { images.new ≡ (called (on (advance k) images.old []) rec.entry.now).images }
 {
     let r = *rec;
     let s = advance_step(r, images, k);

@@ -14,8 +14,8 @@ fn out_step(r: Record, d: u64) -> Step
 }
 
 pub fn out(rec: &mut Record, d: u64) -> u8
-    ensures answer { result ≡ number (called (on (out d) [] []) rec.old).answer }
-    ensures state { rec.new ≡ (called (on (out d) [] []) rec.old).state }
+    ensures answer { result ≡ number (called (on (out d) [] []) rec.entry.now).answer }
+    ensures state { rec.exit.now ≡ (called (on (out d) [] []) rec.entry.now).state }
 {
     let r = *rec;
     let s = out_step(r, d);
@@ -31,8 +31,8 @@ fn begin_step(r: Record, images: &[u8], d: u64) -> Step
 }
 
 pub fn begin_rebuild(rec: &mut Record, images: &[u8], d: u64) -> u8
-    ensures answer { result ≡ number (called (on (begin d) images.now []) rec.old).answer }
-    ensures state { rec.new ≡ (called (on (begin d) images.now []) rec.old).state }
+    ensures answer { result ≡ number (called (on (begin d) images.now []) rec.entry.now).answer }
+    ensures state { rec.exit.now ≡ (called (on (begin d) images.now []) rec.entry.now).state }
 {
     let r = *rec;
     let s = begin_step(r, images, d);
@@ -50,10 +50,10 @@ fn continue_step(r: Record, images: &mut [u8], k: u64) -> Progress
 }
 
 pub fn continue_rebuild(rec: &mut Record, images: &mut [u8], k: u64) -> Count
-    ensures answer { (result.number ≡ number (called (on (continue k) images.old []) rec.old).answer)
-        × (result.made ≡ count (called (on (continue k) images.old []) rec.old).answer) }
-    ensures state { rec.new ≡ (called (on (continue k) images.old []) rec.old).state }
-    ensures images { images.new ≡ (called (on (continue k) images.old []) rec.old).images }
+    ensures answer { (result.number ≡ number (called (on (continue k) images.old []) rec.entry.now).answer)
+        × (result.made ≡ count (called (on (continue k) images.old []) rec.entry.now).answer) }
+    ensures state { rec.exit.now ≡ (called (on (continue k) images.old []) rec.entry.now).state }
+    ensures images { images.new ≡ (called (on (continue k) images.old []) rec.entry.now).images }
 {
     let r = *rec;
     let s = continue_step(r, images, k);
