@@ -1,5 +1,7 @@
 // What `show_view` is made of: calls of `lent`, each on a record of its own, by value, which hand back what is left of it; blocks that can
 // be told apart; and a line for each view.
+#![tactic(auto)]
+
 mod marks;
 mod printing;
 mod records;

@@ -20,7 +20,7 @@ pub fn view<'a>(
         images.entry.ref_ptr scratch.entry.ref_ptr }
     ensures number { refusal.new ≡ number (called (on (view b) images.now scratch.old) r).answer }
     ensures scratch { left.new.now ≡ (called (on (view b) images.now scratch.old) r).room }
-    ensures scratch_place { left.new.ptr ≡ scratch.entry.ref_ptr }
+    ensures scratch_place { left.new.ref_ptr ≡ scratch.entry.ref_ptr }
 {
     lent::view(&r, images, b, scratch, left, refusal)
 }

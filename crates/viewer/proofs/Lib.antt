@@ -1,2 +1,0 @@
--- Walks by hand: what the functions share that lend a record of their own.
-pub mod Walks
