@@ -1,1 +1,2 @@
 // What tests of conditions show: laws of Bool alone, no code.
+#![tactic(auto)]

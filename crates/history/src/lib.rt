@@ -1,3 +1,2 @@
 // Demand 3: definitions and theorems alone, no code.
-
 #![tactic(auto)]

@@ -12,8 +12,7 @@ use viewer::{
     without, write_marks,
 };
 
-// One view; what it leaves of the scratch is returned: a function that returns something of that lifetime needs no walk by hand in its
-// proof. The number is 255 before the call, which no call answers.
+// One view; what it leaves of the scratch is returned. The number is 255 before the call, which no call answers.
 fn show_one<'a>(
     rt: HostRuntime,
     scratch: &'a mut [u8],
