@@ -118,7 +118,7 @@ fn pack_all(source: &[u8], target: &mut [u8])
 // that the source stays: document 01's reviewer asks for a clause on all that is lent.)
 pub fn pack(source: &[u8], target: &mut [u8]) -> u8
     ensures answer { result ≡ answer source.now target.old }
-    ensures source { source.now ≡ source.now }
+    ensures source { source.exit.now ≡ source.entry.now }
     ensures target { target.new ≡ filled packed source.now target.old }
 {
     if is_refused(source, target) {

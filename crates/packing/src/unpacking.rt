@@ -49,7 +49,7 @@ fn add_up(target: &mut [u8])
 // Fills the target with the points that were packed into the source. Answers 0, or the number of the refusal.
 pub fn unpack(source: &[u8], target: &mut [u8]) -> u8
     ensures answer { result ≡ answer source.now target.old }
-    ensures source { source.now ≡ source.now }
+    ensures source { source.exit.now ≡ source.entry.now }
     ensures target { target.new ≡ filled unpacked source.now target.old }
 {
     if is_refused(source, target) {

@@ -6,7 +6,7 @@ ghost use Rattle.points.specs.Points.{packed, unpacked};
 #[unsafe(no_mangle)]
 pub extern "C" fn pbm_points_pack(source: &[u8], target: &mut [u8]) -> u8
     ensures answer { result ≡ answer source.now target.old }
-    ensures source { source.now ≡ source.now }
+    ensures source { source.exit.now ≡ source.entry.now }
     ensures target { target.new ≡ filled packed source.now target.old }
 {
     packing::pack(source, target)
@@ -15,7 +15,7 @@ pub extern "C" fn pbm_points_pack(source: &[u8], target: &mut [u8]) -> u8
 #[unsafe(no_mangle)]
 pub extern "C" fn pbm_points_unpack(source: &[u8], target: &mut [u8]) -> u8
     ensures answer { result ≡ answer source.now target.old }
-    ensures source { source.now ≡ source.now }
+    ensures source { source.exit.now ≡ source.entry.now }
     ensures target { target.new ≡ filled unpacked source.now target.old }
 {
     packing::unpack(source, target)

@@ -16,21 +16,21 @@ fn print_bytes(rt: HostRuntime, s: &[u8]) -> io::Result<()> {
 }
 
 pub fn print_case(rt: HostRuntime, b: u64, what: &[u8]) -> io::Result<()>
-    ensures what { what.now ≡ what.now }
+    ensures what { what.exit.now ≡ what.entry.now }
 {
     print!(rt; "block {b}, ")?;
     rt.stdout().write_all(what)
 }
 
 pub fn print_view(rt: HostRuntime, number: u8, view: &[u8]) -> io::Result<()>
-    ensures view { view.now ≡ view.now }
+    ensures view { view.exit.now ≡ view.entry.now }
 {
     print!(rt; ": number {number}, view")?;
     print_bytes(rt, view)
 }
 
 pub fn print_scratch(rt: HostRuntime, scratch: &[u8]) -> io::Result<()>
-    ensures scratch { scratch.now ≡ scratch.now }
+    ensures scratch { scratch.exit.now ≡ scratch.entry.now }
 {
     rt.stdout().write_all(b", scratch")?;
     print_bytes(rt, scratch)?;
