@@ -1,13 +1,13 @@
 //! Compiles C programs with the library, and runs tools over what was built.
 
-use crate::program::{root, target};
+use crate::program::{out, root, target};
 use std::fs;
 use std::path::PathBuf;
 use std::process::{Command, Output};
 
-/// The archive that `rt staticlib pbm` writes.
+/// The archive that `rt lib` writes in crates/pbm.
 pub fn archive() -> PathBuf {
-    target().join("staticlib/libpbm.a")
+    out("pbm").join("libpbm.a")
 }
 
 /// Compiles these sources by this command to target/c/`name`, without a warning, and links the library.

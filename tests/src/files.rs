@@ -3,14 +3,16 @@
 use std::fs;
 use std::path::{Path, PathBuf};
 
-/// The files of a folder, and of those in it, with this ending.
+/// The files of a folder, and of those in it, with this ending; but for what `rt` makes, in folders called out.
 pub fn files(folder: &Path, ending: &str) -> Vec<PathBuf> {
     let entries = fs::read_dir(folder).unwrap_or_else(|e| panic!("{}: {e}", folder.display()));
     let mut all = Vec::new();
     for entry in entries {
         let path = entry.unwrap().path();
         if path.is_dir() {
-            all.extend(files(&path, ending));
+            if !path.ends_with("out") {
+                all.extend(files(&path, ending));
+            }
         } else if path.extension().is_some_and(|e| e == ending) {
             all.push(path);
         }

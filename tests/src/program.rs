@@ -4,7 +4,7 @@ use std::io::Write;
 use std::path::PathBuf;
 use std::process::{Child, Command, Stdio};
 
-/// The folder that `rt` writes to.
+/// The folder for what our tests compile and run.
 pub fn target() -> PathBuf {
     PathBuf::from(env!("CARGO_MANIFEST_DIR")).join("../target")
 }
@@ -14,13 +14,18 @@ pub fn root() -> PathBuf {
     target().join("..")
 }
 
+/// The folder to which `rt` builds a crate.
+pub fn out(of: &str) -> PathBuf {
+    root().join("crates").join(of).join("out")
+}
+
 pub fn start(name: &str) -> Child {
-    let path = target().join("bin").join(name);
+    let path = out(name).join(name);
     Command::new(&path)
         .stdin(Stdio::piped())
         .stdout(Stdio::piped())
         .spawn()
-        .unwrap_or_else(|e| panic!("{}: {e} (run `rt check` first)", path.display()))
+        .unwrap_or_else(|e| panic!("{}: {e} (run `rt ci` first)", path.display()))
 }
 
 /// What the program prints when it is given just this input.
