@@ -30,9 +30,7 @@ pub struct Parameter {
 
 pub struct Clause {
     pub name: Option<String>,
-    /// What the clause calls the answer, `_` if it does not speak of it. A `requires` has none.
-    pub answer: String,
-    /// What stands between ⌜ and ⌝.
+    /// What stands between its braces.
     pub formula: String,
 }
 
@@ -132,15 +130,10 @@ fn function(head: Option<&str>, text: &str) -> Function {
     f
 }
 
-/// `λ r. ⌜ .. ⌝`, over lines; a `requires` has no λ.
 fn clause(name: &str, inside: &str) -> Clause {
-    let (head, rest) = inside.split_once('⌜').expect("a formula");
-    let (formula, _) = rest.rsplit_once('⌝').expect("the formula's end");
-    let head = head.trim().trim_start_matches('λ').trim_end_matches('.');
     Clause {
         name: (!name.is_empty()).then(|| name.to_string()),
-        answer: head.trim().to_string(),
-        formula: formula.trim().to_string(),
+        formula: inside.trim().to_string(),
     }
 }
 
@@ -193,13 +186,15 @@ pub fn named_fields(source: &str) -> BTreeMap<String, Vec<String>> {
     found
 }
 
-/// What a crate's lib.rt hands on from its modules: `pub use module::name;`.
+/// What a crate's lib.rt hands on from its modules: `pub use module::name;`, `pub use module::{a, b};`, over lines.
 pub fn handed_on(lib: &str) -> Vec<String> {
-    lib.lines()
-        .filter_map(|line| line.strip_prefix("pub use "))
-        .filter_map(|path| path.trim_end_matches(';').rsplit_once("::"))
+    let lib = format!("\n{lib}");
+    lib.split("\npub use ")
+        .skip(1)
+        .filter_map(|item| item.split_once(';')?.0.rsplit_once("::"))
         .flat_map(|(_, names)| names.trim_matches(['{', '}']).split(','))
         .map(|name| name.trim().to_string())
+        .filter(|name| !name.is_empty())
         .collect()
 }
 
@@ -231,8 +226,8 @@ fn split(text: &str, at: char) -> impl Iterator<Item = &str> {
 
 // ---- formulas
 
-/// What stands for the answer in the sides of an equation, however a clause calls it.
-const ANSWER: &str = "@";
+/// What stands for the answer in a clause.
+const ANSWER: &str = "result";
 
 /// Types that have values, so that what is said of all of them says something.
 const INHABITED: &[&str] = &["ℕ", "Record", "List ℕ"];
@@ -244,19 +239,19 @@ pub const RECORDS: &[(&str, &[usize])] = &[("Stored", &[3, 4])];
 /// What definitions make of an answer that is an enum, or a struct of bytes; those of one type together leave nothing of it
 /// open.
 const MADE: &[(&str, &[&str])] = &[
-    ("Changed", &["changedAnswer", "changedRecord"]),
-    ("Counted", &["countedAnswer", "countedRecord"]),
-    ("Report", &["reportAnswer"]),
-    ("Located", &["locatedAnswer"]),
-    ("Owned", &["ownedAnswer"]),
-    ("Swept", &["sweptAnswer"]),
-    ("Lane", &["laneBytes"]),
-    ("Quad", &["quadBytes"]),
+    ("Changed", &["changed_answer", "changed_record"]),
+    ("Counted", &["counted_answer", "counted_record"]),
+    ("Report", &["report_answer"]),
+    ("Located", &["located_answer"]),
+    ("Owned", &["owned_answer"]),
+    ("Swept", &["swept_answer"]),
+    ("Lane", &["lane_bytes"]),
+    ("Quad", &["quad_bytes"]),
 ];
 
 type Words = Vec<String>;
 
-/// The words of a formula; a bracket is one of its own.
+/// The words of a formula; a bracket is one of its own, and so is the field of what stands in brackets: `( f x ) .field`.
 fn words(formula: &str) -> Words {
     let spaced = formula.replace('(', " ( ").replace(')', " ) ");
     spaced.split_whitespace().map(str::to_string).collect()
@@ -287,15 +282,7 @@ fn bare(words: &[String]) -> Words {
 
 /// The equations that a clause promises, as two sides each: those under no premise, for all values of types that have some.
 pub fn equations(clause: &Clause) -> Vec<[String; 2]> {
-    let mut formula = words(&clause.formula);
-    if clause.answer != "_" {
-        for word in &mut formula {
-            if *word == clause.answer {
-                *word = ANSWER.to_string();
-            }
-        }
-    }
-    promised(&bare(&formula))
+    promised(&bare(&words(&clause.formula)))
 }
 
 fn promised(formula: &[String]) -> Vec<[String; 2]> {
@@ -356,12 +343,6 @@ fn arguments(words: &[String]) -> Vec<String> {
     found.iter().map(|words| bare(words).join(" ")).collect()
 }
 
-/// Whether a side of an equation speaks of what is known only at exit.
-fn is_open(side: &str) -> bool {
-    side.split(' ')
-        .any(|word| word == ANSWER || word == ".exit")
-}
-
 // ---- the rule
 
 impl Function {
@@ -371,11 +352,21 @@ impl Function {
         self.name == ENTRY_POINT || (public && ENTRY_CRATES.contains(&in_crate))
     }
 
+    /// Whether a side of an equation speaks of what is known only at exit: of the answer, or of the new value of a parameter.
+    fn is_open(&self, side: &str) -> bool {
+        side.split(' ').any(|word| {
+            let (name, rest) = word.split_once('.').unwrap_or((word, ""));
+            let is_written = |p: &Parameter| p.name == name && p.is_written();
+            let is_new = rest.split('.').next() == Some("new");
+            name == ANSWER || (is_new && self.parameters.iter().any(is_written))
+        })
+    }
+
     /// What the clauses set equal to something that is known at entry.
     fn given(&self) -> Vec<String> {
         let all = self.ensures.iter().flat_map(equations);
         all.flat_map(|[left, right]| [(left.clone(), right.clone()), (right, left)])
-            .filter(|(_, other)| !is_open(other))
+            .filter(|(_, other)| !self.is_open(other))
             .map(|(side, _)| side)
             .collect()
     }
@@ -384,7 +375,7 @@ impl Function {
     pub fn says_answer(&self, structs: &Structs) -> bool {
         match &self.returns {
             None => true,
-            Some(_) if self.returns_reference() => self.given().contains(&format!("now {ANSWER}")),
+            Some(_) if self.returns_reference() => self.given().contains(&format!("{ANSWER}.now")),
             Some(kind) => says_all(&self.given(), ANSWER, kind, structs),
         }
     }
@@ -393,7 +384,7 @@ impl Function {
     /// returned, that it is handed back through another parameter.
     pub fn says_exit(&self, parameter: &Parameter) -> bool {
         let name = &parameter.name;
-        let held = format!("now ( {name} .exit )");
+        let held = format!("{name}.new");
         let given = self.given();
         let mut others = self.parameters.iter().filter(|p| p.is_written());
         given.iter().any(|side| lists(side).contains(&held))
@@ -410,14 +401,13 @@ impl Function {
     /// Whether it says of `p: &mut &[u8]` what p points to at exit, and where that begins.
     fn points(&self, p: &str) -> bool {
         let given = self.given();
-        given.contains(&format!("now ( now ( {p} .exit ) )"))
-            && given.contains(&format!("now ( {p} .exit ) .ptr"))
+        given.contains(&format!("{p}.new.now")) && given.contains(&format!("{p}.new.ptr"))
     }
 
     /// Whether what p points to at exit begins where `name` began.
     fn hands_back(&self, name: &str, p: &str) -> bool {
-        let start = format!("now ( {p} .exit ) .ptr");
-        let entry = format!("{name} .entry .ptr");
+        let start = format!("{p}.new.ptr");
+        let entry = format!("{name}.entry.ref_ptr");
         let mut sides = self.ensures.iter().flat_map(equations);
         self.points(p) && sides.any(|two| two.contains(&start) && two.contains(&entry))
     }
@@ -449,7 +439,7 @@ fn says_all(given: &[String], value: &str, kind: &str, structs: &Structs) -> boo
     }
     structs.get(kind).is_some_and(|fields| {
         let says =
-            |f: &Parameter| says_all(given, &format!("{value} .{}", f.name), &f.kind, structs);
+            |f: &Parameter| says_all(given, &format!("{value}.{}", f.name), &f.kind, structs);
         !fields.is_empty() && fields.iter().all(says)
     })
 }

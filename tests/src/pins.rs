@@ -83,12 +83,11 @@ fn named(cell: &str) -> Vec<String> {
 
 // ---- the names
 
-/// The file of specs/ that a module is, in its own crate or in another; none of what Rattle code declares, or of a library.
+/// The file of specs/ that a module is; none of what Rattle code declares, or of the library.
 fn file_of(module: &str) -> Option<String> {
-    let (in_crate, path) = module.strip_prefix("Rattle·")?.split_once(".specs.")?;
-    let in_crate = in_crate.trim_end_matches("·specs");
-    let is_declared = path.starts_with("declared.");
-    (!is_declared).then(|| format!("{in_crate}/specs/{}.antt", path.replace('.', "/")))
+    let (in_crate, path) = module.strip_prefix("Rattle.")?.split_once(".specs.")?;
+    let is_other = in_crate == "std" || path.starts_with("declared.");
+    (!is_other).then(|| format!("{in_crate}/specs/{}.antt", path.replace('.', "/")))
 }
 
 /// The names that a file takes from files of specs/; in Rattle by `ghost use`.

@@ -78,12 +78,27 @@ fn type_or_constant(text: &str) -> Option<(String, String)> {
     Some((name.to_string(), inside.to_string()))
 }
 
+/// `use a::b;` and `use a::{b, c};`, which may go on over lines, each name by its path.
 fn uses(text: &str) -> Vec<Vec<String>> {
-    let lines = text.lines().map(|line| line.trim_start_matches("pub "));
-    lines
-        .filter_map(|line| line.strip_prefix("use ")?.strip_suffix(';'))
-        .map(|path| path.split("::").map(str::to_string).collect())
-        .collect()
+    let starts = text.match_indices('\n').map(|(end, _)| end + 1).chain([0]);
+    let items = starts.filter_map(|start| {
+        let item = text[start..].trim_start_matches("pub ");
+        Some(item.strip_prefix("use ")?.split_once(';')?.0)
+    });
+    items.flat_map(paths_of).collect()
+}
+
+fn paths_of(item: &str) -> Vec<Vec<String>> {
+    let Some((before, names)) = item.rsplit_once("::") else {
+        return vec![vec![item.to_string()]];
+    };
+    let names = names.trim_start_matches('{').trim_end_matches('}');
+    let path = |name: &str| {
+        let parts = before.split("::").chain([name.trim()]);
+        parts.map(str::to_string).collect()
+    };
+    let names = names.split(',').filter(|name| !name.trim().is_empty());
+    names.map(path).collect()
 }
 
 /// Names with `::` between them, in the text of an item.

@@ -138,7 +138,7 @@ pub struct Item<'a> {
 
 /// A character that can stand in a name.
 pub fn is_name(c: char) -> bool {
-    c.is_alphanumeric() || "_-′".contains(c)
+    c.is_alphanumeric() || "_-'".contains(c)
 }
 
 /// What a statement of this file is made of: itself, and every definition that it reaches. A name is that of its own file, or of the one
@@ -161,7 +161,7 @@ pub fn reached<'a>(path: &str, statement: &'a str, all: &'a [Specs]) -> BTreeSet
             }
         }
         for u in specs.uses.iter().filter(|u| u.name == name) {
-            let from = |s: &&Specs| modules(&s.path).contains(&u.module);
+            let from = |s: &&Specs| module(&s.path) == u.module;
             left.extend(all.iter().filter(from).map(|s| (s, u.original.as_str())));
         }
     }
@@ -244,7 +244,7 @@ pub fn fault(row: &Row, specs: &str, proofs: &str) -> Option<String> {
         .filter(|u| u.name == *statement)
         .collect();
     match &from[..] {
-        [one] if one.original == *statement && modules(&row.specs).contains(&one.module) => None,
+        [one] if one.original == *statement && module(&row.specs) == one.module => None,
         _ => Some(format!(
             "{} does not have {statement} from {}: {from:?}",
             row.proofs, row.specs
@@ -290,12 +290,7 @@ pub fn uses(text: &str) -> Vec<Use> {
     all
 }
 
-/// What a file of specs/ is called as a module: in its own crate, and in others.
-fn modules(specs: &str) -> [String; 2] {
-    let (in_crate, path) = specs.split_once('/').expect("a file of a crate");
-    let path = path.trim_end_matches(".antt").replace('/', ".");
-    [
-        format!("Rattle·{in_crate}·specs.{path}"),
-        format!("Rattle·{in_crate}.{path}"),
-    ]
+/// What a file of specs/ is called as a module.
+fn module(specs: &str) -> String {
+    format!("Rattle.{}", specs.trim_end_matches(".antt").replace('/', "."))
 }

@@ -90,10 +90,11 @@ fn unused() {
 /// `hidden` stands in a contract and after a dot, `lost` in a comment.
 const A_ONE: &str = "\
 use crate::Kept;
-use crate::two::SIZE;
-use crate::two::step;
+use crate::two::{
+    SIZE, step,
+};
 pub fn go(k: Kept) -> u64
-    ensures { λ r. ⌜ r ≡ hidden k ⌝ }
+    ensures { result ≡ hidden k }
 {
     // lost(k)
     if (k.len() < SIZE) {
@@ -119,8 +120,7 @@ fn near(x: u64) -> u64
 
 const B_LIB: &str = "\
 mod deep;
-pub use deep::near;
-pub use deep::far;
+pub use deep::{near, far};
 pub struct Pair {
     pub a: u64,
 }

@@ -103,6 +103,7 @@ fn the_search_finds_the_functions() {
         assert!(exported("pbm", &format!("pbm_{name}")), "pbm_{name}");
     }
     assert!(exported("access", "view") && exported("lent", "view"));
+    assert!(exported("placement", "place_of"), "handed on in a list over lines");
     assert!(!exported("refusals", "is_lost"), "its module is private");
     let lent: usize = all.iter().map(|f| written(&f.function)).sum();
     assert!(lent > 40, "lent to write: {lent}");
@@ -203,30 +204,31 @@ fn says_answer(text: &str) -> bool {
 /// A function that returns this type, with this clause.
 fn answering(kind: &str, clause: &str) -> bool {
     says_answer(&format!(
-        "pub fn f(x: u64, y: Record) -> {kind}\n    {clause}\n{{\n    0\n}}\n"
+        "pub fn f(x: u64, y: Record, images: &mut [u8], out: &mut [u8]) -> {kind}\n    {clause}\n{{\n    0\n}}\n"
     ))
 }
 
 #[test]
 fn an_answer_is_set_equal_to_something() {
     for (kind, clause) in [
-        ("u64", "ensures { λ r. ⌜ r ≡ x + 1 ⌝ }"),
-        ("u64", "ensures { λ r. ⌜ x + 1 ≡ r ⌝ }"),
-        ("u64", "ensures answer { λ r. ⌜ (r ≤ 3) × (r ≡ f x) ⌝ }"),
-        ("u64", "ensures answer { λ k. ⌜ ((r : Record) → k ≡ f r) ⌝ }"),
-        ("u64", "ensures { λ k. ⌜ (r : Record) (a b : ℕ) → (k ≡ f r a b) × (0 ≤ k) ⌝ }"),
-        ("u64", "ensures answer { λ r. ⌜ r\n        ≡ f x\n            (g x) ⌝ }"),
-        ("u64", "requires { ⌜ x ≡ 1 ⌝ }\n    ensures { λ r. ⌜ r ≡ x ⌝ }"),
-        ("u64", "ensures { λ r. ⌜ r ≡ f (record { a = 1; b = x }) ⌝ }"),
-        ("usize", "ensures { λ r. ⌜ Stored (now (out .entry)) at (g x) (now (out .exit)) r ⌝ }"),
-        ("&'a [u8]", "ensures view { λ v. ⌜ now v ≡ f x ⌝ }"),
-        ("Count", "ensures { λ c. ⌜ (c .number ≡ 0) × (c .made ≡ x) ⌝ }"),
-        ("Count", "ensures { λ c. ⌜ c ≡ f x ⌝ }"),
-        ("Pair", "ensures { λ p. ⌜ p .a ≡ x ⌝ }\n    ensures { λ p. ⌜ (p .b .number ≡ 0) × (p .b .made ≡ 1) ⌝ }"),
-        ("Report", "ensures { λ x. ⌜ reportAnswer x ≡ called (on status [] []) y .answer ⌝ }"),
-        ("Changed", "ensures { λ x. ⌜ changedAnswer x ≡ a ⌝ }\n    ensures { λ x. ⌜ changedRecord y x ≡ b ⌝ }"),
-        ("Lane", "ensures { λ z. ⌜ laneBytes z ≡ xorB (laneBytes x) y ⌝ }"),
-        ("Quad", "ensures { λ z. ⌜ quadBytes z ≡ f x ⌝ }"),
+        ("u64", "ensures { result ≡ x + 1 }"),
+        ("u64", "ensures { x + 1 ≡ result }"),
+        ("u64", "ensures answer { (result ≤ 3) × (result ≡ f x) }"),
+        ("u64", "ensures answer { ((r : Record) → result ≡ f r) }"),
+        ("u64", "ensures { (r : Record) (a b : ℕ) → (result ≡ f r a b) × (0 ≤ result) }"),
+        ("u64", "ensures answer { result\n        ≡ f x\n            (g x) }"),
+        ("u64", "requires { x ≡ 1 }\n    ensures { result ≡ x }"),
+        ("u64", "ensures { result ≡ f (record { a = 1; b = x }) }"),
+        ("u64", "ensures { result ≡ f images.old x.new (g y).new }"),
+        ("usize", "ensures { Stored out.old at (g x) out.new result }"),
+        ("&'a [u8]", "ensures view { result.now ≡ f x }"),
+        ("Count", "ensures { (result.number ≡ 0) × (result.made ≡ x) }"),
+        ("Count", "ensures { result ≡ f x }"),
+        ("Pair", "ensures { result.a ≡ x }\n    ensures { (result.b.number ≡ 0) × (result.b.made ≡ 1) }"),
+        ("Report", "ensures { report_answer result ≡ (called (on status [] []) y).answer }"),
+        ("Changed", "ensures { changed_answer result ≡ a }\n    ensures { changed_record y result ≡ b }"),
+        ("Lane", "ensures { lane_bytes result ≡ xor_b (lane_bytes x) y }"),
+        ("Quad", "ensures { quad_bytes result ≡ f x }"),
     ] {
         assert!(answering(kind, clause), "{clause}");
     }
@@ -237,36 +239,36 @@ fn an_answer_is_set_equal_to_something() {
 fn less_is_no_answer() {
     for (kind, clause) in [
         ("u64", ""),
-        ("u64", "ensures { λ r. ⌜ r ≤ 3 ⌝ }"),
-        ("u64", "ensures { λ x. ⌜ x .len ≤ 3 ⌝ }"),
-        ("u64", "ensures { λ _. ⌜ 1 ≡ 1 ⌝ }"),
-        ("u64", "ensures { λ r. ⌜ 1 ≡ 1 ⌝ }"),
-        ("u64", "ensures { λ r. ⌜ r ≡ r ⌝ }"),
-        ("u64", "ensures { λ r. ⌜ r ≡ r + 0 ⌝ }"),
-        ("u64", "ensures { λ r. ⌜ r + 0 ≡ 3 ⌝ }"),
-        ("u64", "ensures { λ r. ⌜ now (images .exit) ≡ r ⌝ }"),
-        ("u64", "ensures { λ r. ⌜ x ≡ 1 → r ≡ 2 ⌝ }"),
-        ("u64", "ensures { λ r. ⌜ ((e : Empty) → r ≡ 2) ⌝ }"),
-        ("u64", "ensures { λ r. ⌜ ((r : Record) → r ≡ y) ⌝ }"),
-        ("u64", "ensures { λ r. ⌜ (a : ℕ) (e : Empty) → r ≡ y ⌝ }"),
-        ("u64", "ensures { λ k. ⌜ r ≡ y ⌝ }"),
-        ("u64", "ensures { λ r. ⌜ Listed r (r ≡ x) ⌝ }"),
-        ("u64", "requires { ⌜ r ≡ 1 ⌝ }"),
+        ("u64", "ensures { result ≤ 3 }"),
+        ("u64", "ensures { result.len ≤ 3 }"),
+        ("u64", "ensures { 1 ≡ 1 }"),
+        ("u64", "ensures answer { 1 ≡ 1 }"),
+        ("u64", "ensures { result ≡ result }"),
+        ("u64", "ensures { result ≡ result + 0 }"),
+        ("u64", "ensures { result + 0 ≡ 3 }"),
+        ("u64", "ensures { images.new ≡ result }"),
+        ("u64", "ensures { x ≡ 1 → result ≡ 2 }"),
+        ("u64", "ensures { ((e : Empty) → result ≡ 2) }"),
+        ("u64", "ensures { ((result : Record) → result ≡ y) }"),
+        ("u64", "ensures { (a : ℕ) (e : Empty) → result ≡ y }"),
+        ("u64", "ensures { r ≡ y }"),
+        ("u64", "ensures { Listed result (result ≡ x) }"),
+        ("u64", "requires { result ≡ 1 }"),
         (
             "u64",
-            "requires { ⌜ r ≡ 1 ⌝ }\n    ensures { λ r. ⌜ r < 2 ⌝ }",
+            "requires { result ≡ 1 }\n    ensures { result < 2 }",
         ),
-        ("[u8; 9]", "ensures { λ r. ⌜ 9 ≡ length r ⌝ }"),
-        ("&'a [u8]", "ensures place { λ v. ⌜ v .ptr ≡ f x ⌝ }"),
-        ("Count", "ensures { λ c. ⌜ c .number ≡ 0 ⌝ }"),
-        ("Pair", "ensures { λ p. ⌜ (p .a ≡ 0) × (p .b .made ≡ 1) ⌝ }"),
-        ("Changed", "ensures { λ x. ⌜ changedAnswer x ≡ a ⌝ }"),
-        ("Changed", "ensures { λ x. ⌜ changedRecord y x ≡ b ⌝ }"),
-        ("Report", "ensures { λ x. ⌜ changedAnswer x ≡ a ⌝ }"),
-        ("Quad", "ensures { λ z. ⌜ laneBytes z ≡ x ⌝ }"),
-        ("Lane", "ensures { λ z. ⌜ f (laneBytes z) ≡ x ⌝ }"),
-        ("Lane", "ensures { λ z. ⌜ z .b0 ≡ x ⌝ }"),
-        ("u64", "// ensures { λ r. ⌜ r ≡ 2 ⌝ }"),
+        ("[u8; 9]", "ensures { 9 ≡ length result }"),
+        ("&'a [u8]", "ensures place { result.ref_ptr ≡ f x }"),
+        ("Count", "ensures { result.number ≡ 0 }"),
+        ("Pair", "ensures { (result.a ≡ 0) × (result.b.made ≡ 1) }"),
+        ("Changed", "ensures { changed_answer result ≡ a }"),
+        ("Changed", "ensures { changed_record y result ≡ b }"),
+        ("Report", "ensures { changed_answer result ≡ a }"),
+        ("Quad", "ensures { lane_bytes result ≡ x }"),
+        ("Lane", "ensures { f (lane_bytes result) ≡ x }"),
+        ("Lane", "ensures { result.b0 ≡ x }"),
+        ("u64", "// ensures { result ≡ 2 }"),
     ] {
         assert!(!answering(kind, clause), "{clause}");
     }
@@ -285,39 +287,39 @@ fn what_is_lent_to_write_is_named_at_exit() {
     let two = "a: &mut [u8], b: &mut u64, c: &[u8], d: u8";
     let none: [&str; 0] = [];
     for clause in [
-        "ensures { λ _. ⌜ (now (a .exit) ≡ f c) × (3 ≡ now (b .exit)) ⌝ }",
-        "ensures { λ _. ⌜ now (a .exit) ≡ f c ⌝ }\n    ensures x { λ _. ⌜ now (b .exit) ≡ 3 ⌝ }",
-        "ensures { λ _. ⌜ ((r : Record) → now (a .exit) ≡ f r) × (now (b .exit) ≡ 3) ⌝ }",
-        "ensures { λ _. ⌜\n        (now (a .exit)\n            ≡ f c)\n        × (now (b .exit) ≡ 3) ⌝ }",
-        "ensures { λ r. ⌜ Stored (now (a .entry)) 0 c (now (a .exit)) r × ((now (b .exit) ∷ []) ≡ f c) ⌝ }",
+        "ensures { (a.new ≡ f c) × (3 ≡ b.new) }",
+        "ensures { a.new ≡ f c }\n    ensures x { b.new ≡ 3 }",
+        "ensures { ((r : Record) → a.new ≡ f r) × (b.new ≡ 3) }",
+        "ensures {\n        (a.new\n            ≡ f c)\n        × (b.new ≡ 3) }",
+        "ensures { Stored a.old 0 c a.new result × ((b.new ∷ []) ≡ f c) }",
     ] {
         assert_eq!(open(two, clause), none, "{clause}");
     }
     for (clause, left) in [
-        ("ensures { λ _. ⌜ now (b .exit) ≡ 3 ⌝ }", vec!["a"]),
-        ("ensures { λ _. ⌜ now (a .exit) ≡ f c ⌝ }", vec!["b"]),
+        ("ensures { b.new ≡ 3 }", vec!["a"]),
+        ("ensures { a.new ≡ f c }", vec!["b"]),
         (
-            "ensures { λ _. ⌜ length (now (a .exit)) ≡ now (b .exit) ⌝ }",
+            "ensures { length a.new ≡ b.new }",
             vec!["a", "b"],
         ),
         (
-            "ensures { λ _. ⌜ now (a .exit) ≡ now (a .exit) ⌝ }",
+            "ensures { a.new ≡ a.new }",
             vec!["a", "b"],
         ),
         (
-            "ensures { λ _. ⌜ (length (now (a .exit)) ≡ 3) × (now (b .exit) ≤ 3) ⌝ }",
+            "ensures { (length a.new ≡ 3) × (b.new ≤ 3) }",
             vec!["a", "b"],
         ),
         (
-            "ensures { λ _. ⌜ d ≡ 1 → (now (a .exit) ≡ f c) × (now (b .exit) ≡ 3) ⌝ }",
+            "ensures { d ≡ 1 → (a.new ≡ f c) × (b.new ≡ 3) }",
             vec!["a", "b"],
         ),
         (
-            "ensures { λ _. ⌜ (now (a .entry) ≡ f c) × (now (b .entry) ≡ 3) ⌝ }",
+            "ensures { (a.old ≡ f c) × (b.old ≡ 3) }",
             vec!["a", "b"],
         ),
         (
-            "requires { ⌜ (now (a .exit) ≡ f c) × (now (b .exit) ≡ 3) ⌝ }",
+            "requires { (a.new ≡ f c) × (b.new ≡ 3) }",
             vec!["a", "b"],
         ),
     ] {
@@ -328,9 +330,9 @@ fn what_is_lent_to_write_is_named_at_exit() {
 #[test]
 fn what_is_returned_is_handed_back() {
     let lent = "scratch: &'a mut [u8], left: &mut &'a [u8]";
-    let bytes = "ensures scratch { λ _. ⌜ now (now (left .exit)) ≡ called (f x) r .room ⌝ }";
-    let start = "ensures whole { λ _. ⌜ now (left .exit) .ptr ≡ scratch .entry .ptr ⌝ }";
-    let elsewhere = "ensures whole { λ _. ⌜ now (left .exit) .ptr ≡ images .entry .ptr ⌝ }";
+    let bytes = "ensures scratch { left.new.now ≡ (called (f x) r).room }";
+    let start = "ensures whole { left.new.ptr ≡ scratch.entry.ref_ptr }";
+    let elsewhere = "ensures whole { left.new.ptr ≡ images.entry.ref_ptr }";
     let none: [&str; 0] = [];
     assert_eq!(open(lent, &format!("{bytes}\n    {start}")), none);
     assert_eq!(open(lent, bytes), ["scratch", "left"]);
@@ -349,16 +351,16 @@ fn what_is_returned_is_handed_back() {
 #[test]
 fn clauses_are_read_over_lines() {
     let f = only(
-        "#[no_mangle]
+        "#[unsafe(no_mangle)]
 pub extern \"C\" fn pbm_f(
     rec: &mut [u8], // the record
     k: u64,
 ) -> u8
-    requires { ⌜ k < 3 ⌝ }
-    ensures answer { λ r. ⌜ r ≡ number
-            (called (on (f k)) .answer) ⌝ }
-    ensures { λ _. ⌜ now (rec .exit)
-            ≡ g (record { a = k }) ⌝ }
+    requires { k < 3 }
+    ensures answer { result ≡ number
+            (called (on (f k))).answer }
+    ensures { rec.new
+            ≡ g (record { a = k }) }
 {
     if k == 0 { return 1; }
     0
@@ -377,9 +379,9 @@ pub extern \"C\" fn pbm_f(
     let sides = |at: usize| equations(&f.ensures[at]);
     assert_eq!(
         sides(0),
-        [["@", "number ( called ( on ( f k ) ) .answer )"]]
+        [["result", "number ( called ( on ( f k ) ) ) .answer"]]
     );
-    assert_eq!(sides(1), [["now ( rec .exit )", "g ( record { a = k } )"]]);
+    assert_eq!(sides(1), [["rec.new", "g ( record { a = k } )"]]);
     assert_eq!(f.leaves_open(), [""; 0]);
     assert!(f.says_answer(&Structs::new()));
 }
@@ -389,10 +391,10 @@ fn a_clause_without_a_name() {
     let named =
         |clauses: &str| only(&format!("fn f() -> u8\n    {clauses}\n{{\n    0\n}}\n")).names_all();
     assert!(named(
-        "requires { ⌜ x ≡ 1 ⌝ }\n    ensures answer { λ r. ⌜ r ≡ 0 ⌝ }"
+        "requires { x ≡ 1 }\n    ensures answer { result ≡ 0 }"
     ));
     assert!(!named(
-        "ensures answer { λ r. ⌜ r ≡ 0 ⌝ }\n    ensures { λ r. ⌜ r ≡ 0 ⌝ }"
+        "ensures answer { result ≡ 0 }\n    ensures { result ≡ 0 }"
     ));
 }
 
@@ -410,7 +412,8 @@ const LIBRARY_WORDS: &[&str] = &[
     "length",
     "take",
     "drop",
-    "getD",
+    "get_or",
+    "slice_index",
     "set",
     "replicate",
     "map",
@@ -420,19 +423,16 @@ const LIBRARY_WORDS: &[&str] = &[
     "ltb",
     "leb",
     "min",
-    "bitXor",
+    "bit_xor",
 ];
 
 fn is_symbol(name: &str) -> bool {
-    LIBRARY_WORDS.contains(&name) || name.starts_with('_') || name.ends_with('_')
+    LIBRARY_WORDS.contains(&name) || name.contains('◌')
 }
 
 /// The symbols of a text that do not mean what the library says: taken from elsewhere, under another name, or defined here.
 fn strange_symbols(text: &str) -> Vec<String> {
-    let of_library = |module: &str| {
-        let root = module.split('.').next().unwrap();
-        ["Prim", "mathlib", "lib"].contains(&root)
-    };
+    let of_library = |module: &str| module.starts_with("Rattle.std.");
     let used = uses(text)
         .into_iter()
         .filter(|u| is_symbol(&u.name) && !(of_library(&u.module) && u.original == u.name))
@@ -475,18 +475,18 @@ fn ghost_uses(text: &str) -> String {
 fn symbols_of_ones_own() {
     for (text, says) in [
         (
-            "use Rattle·calls.specs.Call.{_≡_}\n",
-            "_≡_ of Rattle·calls.specs.Call",
+            "use Rattle.calls.specs.Call.{◌≡◌}\n",
+            "◌≡◌ of Rattle.calls.specs.Call",
         ),
         (
-            "ghost use Rattle·calls.specs.Call.{length};\n",
-            "length of Rattle·calls.specs.Call",
+            "ghost use Rattle.calls.specs.Call.{length};\n",
+            "length of Rattle.calls.specs.Call",
         ),
         (
-            "use mathlib.Core.Path.{sym as _≡_}\n",
-            "_≡_ of mathlib.Core.Path",
+            "use Rattle.std.specs.Prelude.{sym as ◌≡◌}\n",
+            "◌≡◌ of Rattle.std.specs.Prelude",
         ),
-        ("abbrev pub _≡_ : ℕ → ℕ → Type 0\na ≡ b = Unit\n", "_≡_"),
+        ("abbrev pub ◌≡◌ : ℕ → ℕ → Type 0\na ≡ b = Unit\n", "◌≡◌"),
         (
             "unfoldable pub length : List ℕ → ℕ\nlength l = 0\n",
             "length",
@@ -494,7 +494,7 @@ fn symbols_of_ones_own() {
     ] {
         assert_eq!(strange_symbols(text), [says], "{text}");
     }
-    let right = "use mathlib.Core.Path.{_≡_, sym}\nuse lib.ListN.{length}\nuse Rattle·calls.specs.Call.{Call}\n";
+    let right = "use Rattle.std.specs.Prelude.{◌≡◌, sym}\nuse Rattle.std.specs.Prelude.{length}\nuse Rattle.calls.specs.Call.{Call}\n";
     assert_eq!(strange_symbols(right), [""; 0]);
 }
 

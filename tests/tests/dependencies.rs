@@ -5,12 +5,15 @@ use yuzkamide_tests::definitions::lines;
 use yuzkamide_tests::files::texts;
 use yuzkamide_tests::program::root;
 
-/// The lines `NAME: NAME ..`, as crate and what it depends on.
+/// The lines `NAME: NAME ..`, as crate and what it depends on; `staticlib` may stand after a crate's name.
 fn dependencies(list: &str) -> Vec<(&str, Vec<&str>)> {
     list.lines()
         .filter(|line| !line.starts_with('#'))
         .filter_map(|line| line.split_once(':'))
-        .map(|(name, on)| (name, on.split_whitespace().collect()))
+        .map(|(name, on)| {
+            let name = name.strip_suffix(" staticlib").unwrap_or(name);
+            (name, on.split_whitespace().collect())
+        })
         .collect()
 }
 
@@ -27,12 +30,12 @@ fn text_of(name: &str) -> String {
         .collect()
 }
 
-/// `name::` in code, `Rattle·name.` in contracts, specs and proofs.
+/// `name::` in code, `Rattle.name.` in contracts, specs and proofs.
 fn is_named(name: &str, text: &str) -> bool {
     let path = format!("{name}::");
     let begins = |at: usize| !text[..at].ends_with(|c: char| c.is_alphanumeric() || c == '_');
     let in_code = text.match_indices(&path).any(|(at, _)| begins(at));
-    in_code || text.contains(&format!("Rattle·{name}."))
+    in_code || text.contains(&format!("Rattle.{name}."))
 }
 
 #[test]
@@ -53,7 +56,7 @@ fn what_is_a_use() {
     for text in [
         "use io::print;\n",
         "    io::print(x);\n",
-        "ghost use Rattle·io.specs.Call.{read};\n",
+        "ghost use Rattle.io.specs.Call.{read};\n",
     ] {
         assert!(is_named("io", text), "{text}");
     }
@@ -61,8 +64,8 @@ fn what_is_a_use() {
         "use studio::print;\n",
         "use my_io::print;\n",
         "let io = 1;\n",
-        "ghost use Rattle·io_more.specs.Call.{read};\n",
-        "ghost use Rattle·radio.specs.Call.{read};\n",
+        "ghost use Rattle.io_more.specs.Call.{read};\n",
+        "ghost use Rattle.radio.specs.Call.{read};\n",
     ] {
         assert!(!is_named("io", text), "{text}");
     }
@@ -70,9 +73,13 @@ fn what_is_a_use() {
 
 #[test]
 fn the_list_is_read() {
-    let list = "# NAME: what it depends on\nlayout:\nstate: layout io\n";
+    let list = "# NAME: what it depends on\nlayout:\nstate: layout io\npbm staticlib: state\n";
     assert_eq!(
         dependencies(list),
-        [("layout", vec![]), ("state", vec!["layout", "io"])]
+        [
+            ("layout", vec![]),
+            ("state", vec!["layout", "io"]),
+            ("pbm", vec!["state"])
+        ]
     );
 }

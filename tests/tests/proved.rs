@@ -253,13 +253,13 @@ fn changed_names(text: &str) -> Vec<String> {
 
 #[test]
 fn names_that_are_changed() {
-    let right = "use Rattle·layout.specs.Moves.{moveTo,\n    moveFrom}\nuse Rattle·refusals·specs.specs.declared.types.Report.the-variants as report\n";
+    let right = "use Rattle.layout.specs.Moves.{move_to,\n    move_from}\nuse Rattle.refusals.specs.declared.types.Report.TheVariants as report\n";
     assert_eq!(changed_names(right), [""; 0]);
     for wrong in [
-        "use Rattle·layout.specs.Moves.{moveTo as moveFrom}\n",
-        "use Rattle·layout.specs.Moves as moves\n",
-        "use Rattle·layout.specs.Moves as moves\nuse Rattle·layout.specs.Home.{homeDisk}\n",
-        "use Rattle·layout.specs.Moves\n",
+        "use Rattle.layout.specs.Moves.{move_to as move_from}\n",
+        "use Rattle.layout.specs.Moves as moves\n",
+        "use Rattle.layout.specs.Moves as moves\nuse Rattle.layout.specs.Home.{home_disk}\n",
+        "use Rattle.layout.specs.Moves\n",
     ] {
         assert_eq!(changed_names(wrong).len(), 1, "{wrong}");
     }
@@ -267,7 +267,7 @@ fn names_that_are_changed() {
 
 #[test]
 fn a_fingerprint_is_of_all_that_is_reached() {
-    let far = "use Rattle·layout·specs.specs.Cases.Near.{near}
+    let far = "use Rattle.layout.specs.Cases.Near.{near}
 
 abbrev pub Far : ℕ → Type 0
 Far k = k ≡ near k
@@ -285,7 +285,7 @@ Far k = k ≡ near k
         fingerprint("calls/specs/Theorem.antt", "Demand1", &all)
     };
     let specs = edited(SPECS, "Part k = k ≡ k\n", "Part k = Far k\n");
-    let specs = format!("use Rattle·layout.specs.Far.{{Far}}\n{specs}");
+    let specs = format!("use Rattle.layout.specs.Far.{{Far}}\n{specs}");
     let before = of(&specs, far, near);
     assert_eq!(before.len(), 16);
     // comments and breaks, and what is not reached, are no matter
@@ -372,7 +372,7 @@ fn every_name_is_pinned() {
     let statements = rows(&document);
     let names = names_to_pin(&statements);
     let has = |name: &str| names.iter().any(|n| n.name == name);
-    for name in ["totalOf", "viewOf", "GoodRecord", "written"] {
+    for name in ["total_of", "view_of", "GoodRecord", "written"] {
         assert!(has(name), "the search finds {name}");
     }
     assert!(!has("Answer") && !has("refused") && !has("Record"));
@@ -419,7 +419,7 @@ fn no_contract_goes_by_a_statements_own_names() {
 // ---- the rules themselves: what they refuse
 
 const SPECS: &str = "-- what is proved: `Old`
-use Prim.Native.Nat.{ℕ}
+use Rattle.std.specs.Prelude.{ℕ}
 
 unfoldable pub Part : ℕ → Type 0
 Part k = k ≡ k
@@ -432,8 +432,8 @@ pub record Table : Type 0 where
 ";
 
 const PROOFS: &str = "-- Assumes nothing.
-use mathlib.Core.Path.{_≡_, refl}
-use Rattle·calls·specs.specs.Theorem.{Part,
+use Rattle.std.specs.Prelude.{◌≡◌, refl}
+use Rattle.calls.specs.Theorem.{Part,
     Demand1, Table}
 
 module _ (k : ℕ) where
@@ -490,12 +490,12 @@ fn a_term_of_another_type_proves_nothing() {
     for (to, says) in [
         // a weakened type
         ("pub demand1 : (k : ℕ) → k < 1 → Part k\n", "no term"),
-        ("pub demand1 : (e : Event) (b : List ℕ) → accepted (calledBytes e b .answer) ≡ true → Answered e b\n", "no term"),
+        ("pub demand1 : (e : Event) (b : List ℕ) → accepted (called_bytes e b).answer ≡ true → Answered e b\n", "no term"),
         ("pub demand1 : 1 ≡ 0 → Demand1\n", "no term"),
         ("pub demand1 : Demand1 → Demand1\n", "no term"),
         ("pub demand1 :\n    1 ≡ 0 → Demand1\n", "no term"),
         ("pub demand1 : Demand1\n    → Demand1\n", "no term"),
-        ("pub demand1 : Demand1′\n", "no term"),
+        ("pub demand1 : Demand1'\n", "no term"),
         // no such term, or one that others cannot see
         ("", "no term"),
         ("-- pub demand1 : Demand1\n", "no term"),
@@ -660,12 +660,12 @@ fn a_statement_of_the_same_name() {
             "{text}"
         );
     }
-    let used = "use Rattle·calls·specs.specs.Theorem.{Part,\n    Demand1, Table}\n";
+    let used = "use Rattle.calls.specs.Theorem.{Part,\n    Demand1, Table}\n";
     for to in [
-        "use Rattle·calls·specs.specs.Other.{Demand1}\nuse Rattle·calls·specs.specs.Theorem.{Part, Table}\n",
-        "use Rattle·state.specs.Theorem.{Demand1}\nuse Rattle·calls·specs.specs.Theorem.{Part, Table}\n",
-        "use Rattle·calls·specs.specs.Theorem.{Part, Part as Demand1, Table}\n",
-        "use Rattle·calls·specs.specs.Theorem.{Part, Table}\n-- Demand1\n",
+        "use Rattle.calls.specs.Other.{Demand1}\nuse Rattle.calls.specs.Theorem.{Part, Table}\n",
+        "use Rattle.state.specs.Theorem.{Demand1}\nuse Rattle.calls.specs.Theorem.{Part, Table}\n",
+        "use Rattle.calls.specs.Theorem.{Part, Part as Demand1, Table}\n",
+        "use Rattle.calls.specs.Theorem.{Part, Table}\n-- Demand1\n",
     ] {
         let faults = sample_faults(SPECS, &edited(PROOFS, used, to));
         assert_eq!(faults.len(), 1, "{to}");
@@ -690,9 +690,9 @@ abbrev pub count : Answer → ℕ
 count a = 0
 ";
 
-const THEOREM: &str = "use Prim.Native.Nat.{ℕ}
-use Rattle·layout·specs.specs.declared.Geometry.{Geometry}
-use Rattle·calls·specs.specs.Call.{Answer, refused, done, number, count, Open}
+const THEOREM: &str = "use Rattle.std.specs.Prelude.{ℕ}
+use Rattle.layout.specs.declared.Geometry.{Geometry}
+use Rattle.calls.specs.Call.{Answer, refused, done, number, count, Open}
 
 -- a word of its own
 abbrev pub twice : ℕ → ℕ
@@ -701,7 +701,7 @@ twice k = k + k
 pub record Part (a : Answer) : Type 0 where
   -- `count`
   pub small : number a < 12
-  pub even : twice (a .count) ≡ 0 → Open 1
+  pub even : twice a.count ≡ 0 → Open 1
 
 -- in no statement
 pub record Loose (a : Answer) : Type 0 where
@@ -848,22 +848,22 @@ fn what_pins_nothing() {
 #[test]
 fn names_of_contracts() {
     let source = "// A call.
-ghost use mathlib.Core.Path.{_≡_};
-ghost use Rattle·calls.specs.Call.{read, on, number};
-ghost use Rattle·calls.specs.Table.{refusalOf};
-ghost use Rattle·access·specs.specs.Viewing.{begins};
-ghost use Rattle·access·specs.specs.declared.types.Choice.{Choice};
+ghost use Rattle.std.specs.Prelude.{◌≡◌};
+ghost use Rattle.calls.specs.Call.{read, on, number};
+ghost use Rattle.calls.specs.Table.{refusal_of};
+ghost use Rattle.access.specs.Viewing.{begins};
+ghost use Rattle.access.specs.declared.types.Choice.{Choice};
 use state::Record;
 
 fn fill(r: Record)
-    ensures block { λ _. ⌜ refusalOf r ≡ 0 ⌝ }
+    ensures block { refusal_of r ≡ 0 }
 {
 }
 
 pub fn read(r: Record, b: u64) -> u8
-    requires { ⌜ refusalOf r ≡ 0 ⌝ }
-    ensures answer { λ k. ⌜ k ≡ number (called (on (read b)) r .answer) ⌝ }
-    ensures place { λ k. ⌜ begins Choice ≡ r .refusalOf ⌝ }
+    requires { refusal_of r ≡ 0 }
+    ensures answer { result ≡ number (called (on (read b)) r).answer }
+    ensures place { begins Choice ≡ r.refusal_of }
 {
     0
 }
@@ -889,11 +889,11 @@ fn a_contract_by_a_statements_own_name() {
     let files = BTreeSet::from(["calls/specs/Theorem.antt"]);
     let borrows = |text: &str| borrowers(&files, &[("a/src/b.rt".to_string(), text.to_string())]);
     assert_eq!(
-        borrows("ghost use Rattle·calls.specs.Theorem.{Part};\n"),
+        borrows("ghost use Rattle.calls.specs.Theorem.{Part};\n"),
         ["a/src/b.rt takes Part of calls/specs/Theorem.antt"]
     );
     assert_eq!(
-        borrows("ghost use Rattle·calls.specs.Call.{on};\n"),
+        borrows("ghost use Rattle.calls.specs.Call.{on};\n"),
         [""; 0]
     );
     let row = |specs: &str| Row {
