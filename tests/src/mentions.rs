@@ -183,7 +183,7 @@ impl Sources<'_> {
     }
 
     /// An expression. What it begins with is defined where the document says, and what each bracket begins with is a definition or
-    /// constructor; a word after a dot is a field; every other word is a variable or defined somewhere. (`f .blocks`: what a dot
+    /// constructor; a word after a dot is a field; every other word is a variable or defined somewhere. (`f.blocks`: what a dot
     /// follows may be a variable.)
     fn has_expression(&self, text: &str, here: &[&Definition]) -> bool {
         let text = text.trim_start_matches('&').trim_start_matches("mut ");
@@ -204,13 +204,11 @@ impl Sources<'_> {
             let is = |d: &Definition| d.name == name && kinds.contains(&d.kind);
             self.definitions.iter().any(is)
         };
-        if let Some(field) = projection(word) {
-            return is_any(&[Kind::Field], field);
+        if let Some((what, field)) = projection(word) {
+            let is_there = what.is_empty() || is_variable(what) || is_any(&[Kind::Term], what);
+            return is_there && is_any(&[Kind::Field], field);
         }
-        let projected = words
-            .get(at + 1)
-            .is_some_and(|next| projection(next).is_some());
-        let begins = words[at - 1] == "(" && !projected;
+        let begins = words[at - 1] == "(";
         word == "("
             || is_any(&[Kind::Term, Kind::Constructor], word)
             || (!begins && (is_variable(word) || LIBRARY.contains(&word)))
@@ -218,10 +216,10 @@ impl Sources<'_> {
     }
 }
 
-/// `.field`
-fn projection(word: &str) -> Option<&str> {
-    word.strip_prefix('.')
-        .filter(|field| !field.starts_with('.'))
+/// `x.field`; of what stands in brackets, before this word, only `.field`.
+fn projection(word: &str) -> Option<(&str, &str)> {
+    word.split_once('.')
+        .filter(|(_, field)| !field.starts_with('.'))
 }
 
 /// `Record.field`

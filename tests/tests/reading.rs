@@ -169,7 +169,7 @@ fn is(name: &str, kind: Kind, of: &str) -> (String, Kind, String) {
 #[test]
 fn a_comment_defines_nothing() {
     let text = "-- `renamed` says so
-use lib.ListN.{length, taken}
+use Rattle.std.specs.Prelude.{length, taken}
 
 pub data Call : Type 0 where
   read : (b : ℕ) → Call
@@ -180,8 +180,8 @@ pub record Claim (e : Event) : Type 0 where
   pub answer : (b : ℕ) →
       bound : b
 
-unfoldable pub length-of : ℕ → ℕ
-length-of k = local : k
+unfoldable pub length_of : ℕ → ℕ
+length_of k = local : k
   where
     local : ℕ
 
@@ -202,7 +202,7 @@ module _ (parameter : ℕ) where
             is("status", Kind::Constructor, "Call"),
             is("Claim", Kind::Type, ""),
             is("answer", Kind::Field, "Claim"),
-            is("length-of", Kind::Term, ""),
+            is("length_of", Kind::Term, ""),
             is("law", Kind::Term, ""),
             is("inner", Kind::Term, ""),
         ]
@@ -215,7 +215,7 @@ pub enum Health {
 }
 pub struct Count { pub made: u64 }
 pub fn write(x: u64) -> u8
-    ensures answer { λ r. ⌜ r ≡ x ⌝ }
+    ensures answer { result ≡ x }
 {
     let bound = x;
     bound
@@ -259,7 +259,7 @@ fn said(text: &str) -> Vec<String> {
         define("effect", Kind::Term, None, effect),
         define("Claim", Kind::Type, None, effect),
         define("answer", Kind::Field, Some("Claim"), effect),
-        define("good-left", Kind::Field, Some("Claim"), effect),
+        define("good_left", Kind::Field, Some("Claim"), effect),
         define("stands", Kind::Term, None, moves),
         define("place", Kind::Field, Some("Layout"), moves),
         define("write", Kind::Function, None, writing),
@@ -280,10 +280,10 @@ fn what_is_said_rightly() {
         "| `effect`, `Call` (`calls/specs/Effect.antt`) | `stands` of `layout/specs/Moves.antt` |",
         "`effect` and\n`Call` (`calls/specs`), `stands` of `layout`",
         "`effect (read b)`, `(read b)` and `effect status`",
-        "`Claim.answer`, `good-left`; `stands`",
+        "`Claim.answer`, `good_left`; `stands`",
         "`Claim.answer` (`calls/specs/Effect.antt`)",
         "clause `images` of `write`, `read` of `Call`",
-        "`effect g .place`, `List Call`, `length (f .place)`",
+        "`(effect g).place`, `effect g.place`, `List Call`, `length f.place`",
         "`layout/zone_at_once`, `docs/READING.md`, `access`",
         "> `no-such-name`",
     ] {
@@ -321,7 +321,9 @@ fn what_is_said_wrongly() {
         ("`efect (read b)`", "efect (read b)"),
         ("`effect (answer b)`", "effect (answer b)"),
         ("`effect missing`", "effect missing"),
-        ("`effect g .plaze`", "effect g .plaze"),
+        ("`(effect g).plaze`", "(effect g).plaze"),
+        ("`effect g.plaze`", "effect g.plaze"),
+        ("`effect gg.place`", "effect gg.place"),
         ("`(b)`", "(b)"),
         ("`Claim.images`", "Claim.images"),
         ("`Call.read`", "Call.read"),
