@@ -70,7 +70,6 @@ fn commands_name_what_is_there() {
             // the gate's own clone has what this one has
             let word = word.strip_prefix("../yuzkamide-gate").unwrap_or(word);
             let source = match word.rsplit_once('/') {
-                Some(("target/bin", name)) => format!("crates/{name}"),
                 Some(("build", name)) => format!("examples/{name}.c"),
                 _ => word.trim_start_matches('/').to_string(),
             };

@@ -10,7 +10,7 @@ use std::process::{Command, Output};
 use std::sync::LazyLock;
 use yuzkamide_tests::compile::{archive, program, run, text};
 use yuzkamide_tests::layout::{Layout, Owner};
-use yuzkamide_tests::program::{root, target};
+use yuzkamide_tests::program::{root, target, Outside};
 use yuzkamide_tests::record::Record;
 
 /// What the line prints, and examples/run.
@@ -1111,11 +1111,11 @@ fn empty(folder: &Path) -> PathBuf {
 
 /// A fresh clone, as far as the scripts look at it, with a stand-in for `rt`, since the gate has just proved and built the
 /// library: it hands out the archive, notes that it was asked, and fails if there is a file `refuse`.
-struct Tree(PathBuf);
+struct Tree(Outside);
 
 impl Tree {
     fn new(name: &str) -> Tree {
-        let tree = empty(&target().join("c").join(format!("tree-{name}")));
+        let tree = Outside::new(name);
         for folder in ["examples", "include", "docs/pictures"] {
             fs::create_dir_all(tree.join(folder)).unwrap();
             for entry in fs::read_dir(root().join(folder)).unwrap() {
@@ -1126,15 +1126,16 @@ impl Tree {
         fs::create_dir_all(tree.join("crates/pbm/src")).unwrap();
         fs::create_dir_all(tree.join("bin")).unwrap();
         let tree = Tree(tree);
-        tree.put("crates.txt", "pbm:\n");
+        tree.put("crates.txt", "pbm staticlib:\n");
         tree.put("crates/pbm/src/lib.rt", "// a source\n");
         let rt = format!(
             "#!/bin/sh\n\
              case \"$*\" in\n\
              version) echo stand-in ;;\n\
-             \"staticlib pbm\")\n\
+             lib)\n\
+                 [ -e src/lib.rt ] && cd ../.. &&\n\
                  echo asked >>asked && echo 'a note of the prover' && [ ! -e refuse ] &&\n\
-                 mkdir -p target/staticlib && cp '{}' target/staticlib/libpbm.a ;;\n\
+                 mkdir -p crates/pbm/out && cp '{}' crates/pbm/out/libpbm.a ;;\n\
              *) exit 2 ;;\n\
              esac\n",
             archive().canonicalize().unwrap().display()
@@ -1146,7 +1147,7 @@ impl Tree {
     }
 
     fn put(&self, path: &str, text: &str) {
-        fs::write(self.0.join(path), text).unwrap();
+        self.0.put(path, text);
     }
 
     fn get(&self, path: &str) -> String {
@@ -1200,7 +1201,7 @@ fn pictures(root: &Path) -> BTreeMap<String, Vec<u8>> {
 
 const PROVING: &str = "proving and building the library, which may take four minutes; the prover's notes go to build/library.log\n";
 const BUILT: &str =
-    "the library is proved and built already, from these files: target/staticlib/libpbm.a\n";
+    "the library is proved and built already, from these files: crates/pbm/out/libpbm.a\n";
 
 /// README's run command, in a fresh clone and then again.
 #[test]
@@ -1229,10 +1230,10 @@ fn the_run_command() {
     assert_eq!(tree.must_run("examples/run"), first);
     fs::remove_file(tree.0.join("crates/pbm/src/more.rt")).unwrap();
     assert_eq!(tree.must_run("examples/run"), first);
-    tree.put("target/staticlib/libpbm.a", "damaged");
+    tree.put("crates/pbm/out/libpbm.a", "damaged");
     assert_eq!(tree.must_run("examples/run"), first);
     // as the gate does; what was compiled stays
-    fs::remove_dir_all(tree.0.join("target")).unwrap();
+    fs::remove_dir_all(tree.0.join("crates/pbm/out")).unwrap();
     assert!(tree.has("build/layout_svg"));
     assert_eq!(tree.must_run("examples/run"), first);
     assert_eq!(tree.asked(), 6);
@@ -1250,7 +1251,7 @@ fn nothing_is_run_that_is_not_proved() {
         assert_eq!(output.status.code(), Some(1));
         assert!(output.stdout.is_empty());
         let says =
-            format!("{PROVING}a note of the prover\nexamples/library: rt staticlib pbm failed\n");
+            format!("{PROVING}a note of the prover\nexamples/library: rt lib failed in crates/pbm\n");
         assert_eq!(text(&output.stderr), says);
     }
     assert_eq!(tree.asked(), 3);

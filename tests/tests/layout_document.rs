@@ -88,7 +88,7 @@ fn the_moves() {
         let of = format!("| {} | {} | {} | {i} | {s} |", x.index, x.zone, x.to);
         layout.row(&format!("{of} {stripe} | {what} | {} | {} |", x.from, x.to));
     }
-    layout.fence("sh", "echo '3 2 1' | target/bin/zone_moves");
+    layout.fence("sh", "echo '3 2 1' | rt run");
 }
 
 /// Those that the replay makes, at every size up to two groups and more.

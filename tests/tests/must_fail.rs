@@ -1,10 +1,11 @@
 //! The must-fail edits are refused because a fact no longer holds, and not because the edit put the code and its proof
-//! file, or a definition and its names, out of step. Reads the logs that `rt ci` and `rt must-fail` leave.
+//! file, or a definition and its names, out of step. Reads the logs that tools/edit leaves: `rt ci` says one line of each edit.
 //!
 //! The prover says only that a proof does not fit. That the fact itself is wrong is certain where both sides are values: so an
 //! edit of a definition must be refused by a computed case (or, where no value shows it, first by a law that is named here).
 //! An edit of code alone has no such case, since a contract speaks of all arguments: it must be refused in the proof of a
-//! function's contract, where the two sides that differ are the code's result and the definition's.
+//! function's contract, where the two sides that differ are the code's result and the definition's, or where the prover found the proof
+//! itself and finds none now.
 //!
 //! And tools/edit, which tries one edit, takes none for refused that did not reach the prover.
 
@@ -13,17 +14,17 @@ use std::os::unix::fs::PermissionsExt;
 use std::path::PathBuf;
 use std::process::Command;
 use yuzkamide_tests::compile::text;
-use yuzkamide_tests::program::target;
+use yuzkamide_tests::program::{root, target, Outside};
 
 /// Computed cases, by their file and declaration, and the edits of definitions that they must be among what refuses.
 const COMPUTED: &[(&str, &str, &[&str])] = &[
     (
-        "/proofs/Cases/Folds.antt:",
+        "proofs/Cases/Folds.antt:",
         "`folds`",
         &["parity/old_parity_left_in", "parity/out_summed_in"],
     ),
     (
-        "/proofs/Cases/Points.antt:",
+        "proofs/Cases/Points.antt:",
         "`points`",
         &[
             "points/big_end_first",
@@ -35,7 +36,7 @@ const COMPUTED: &[(&str, &str, &[&str])] = &[
         ],
     ),
     (
-        "/proofs/Cases/Paper.antt:",
+        "proofs/Cases/Paper.antt:",
         "`paper`",
         &[
             "layout/one_from_each_disk",
@@ -44,17 +45,17 @@ const COMPUTED: &[(&str, &str, &[&str])] = &[
         ],
     ),
     (
-        "/proofs/Cases/Tail.antt:",
+        "proofs/Cases/Tail.antt:",
         "`tails`",
         &["layout/part_of_a_group", "layout/tail_without_numbers"],
     ),
     (
-        "/proofs/Cases/Zones.antt:",
+        "proofs/Cases/Zones.antt:",
         "`zones`",
         &["layout/capacity_by_moves", "layout/zone_opened_early"],
     ),
     (
-        "/proofs/Cases/Lit.antt:",
+        "proofs/Cases/Lit.antt:",
         "`lit`",
         &[
             "layout/moved_too_early",
@@ -64,17 +65,17 @@ const COMPUTED: &[(&str, &str, &[&str])] = &[
         ],
     ),
     (
-        "/proofs/Cases/Bench.antt:",
+        "proofs/Cases/Bench.antt:",
         "`unmarked`",
         &["calls/tail_moves"],
     ),
     (
-        "/proofs/Exact.antt:",
+        "proofs/Exact.antt:",
         "`computed`",
         &["zone_moves/thousands_dropped", "zone_moves/zone_of_three"],
     ),
     (
-        "/proofs/Cases/Drawers.antt:",
+        "proofs/Cases/Drawers.antt:",
         "`drawers`",
         &[
             "calls/blank_of_lost_disk_zero",
@@ -95,7 +96,7 @@ const COMPUTED: &[(&str, &str, &[&str])] = &[
         ],
     ),
     (
-        "/proofs/Cases/Sweeps.antt:",
+        "proofs/Cases/Sweeps.antt:",
         "`flipped`",
         &[
             "calls/blanks_not_looked_at",
@@ -105,7 +106,7 @@ const COMPUTED: &[(&str, &str, &[&str])] = &[
         ],
     ),
     (
-        "/proofs/Cases/Sample.antt:",
+        "proofs/Cases/Sample.antt:",
         "`sample`",
         &[
             "history/continue_reports_all",
@@ -120,87 +121,87 @@ const COMPUTED: &[(&str, &str, &[&str])] = &[
 const BY_LAW: &[(&str, &str, &[&str])] = &[
     // what is stored is read back
     (
-        "/proofs/Laws/Block.antt:",
-        "`blockAt-store`",
+        "proofs/Laws/Block.antt:",
+        "`block_at-store`",
         &["blocks/block_from_start"],
     ),
     // the bytes of a number give it back
     (
-        "/proofs/Laws/Number.antt:",
-        "`two-back`",
+        "proofs/Laws/Number.antt:",
+        "`two_back`",
         &["blocks/big_end_first"],
     ),
     // a point call is refused 11 for what document 02 says, and nothing else
     (
-        "/proofs/Laws/Answer.antt:",
+        "proofs/Laws/Answer.antt:",
         "`not-refused`",
         &["points/long_slice_refused"],
     ),
     // and which lengths are even is said in bare numbers
-    ("/proofs/Theorem.antt:", "`fills`", &["points/even_by_name"]),
+    ("proofs/Theorem.antt:", "`fills`", &["points/even_by_name"]),
     // the stripe within its zone that is printed of a move
     (
-        "/proofs/Laws/Order.antt:",
-        "`within-is`",
+        "proofs/Laws/Order.antt:",
+        "`within_is`",
         &["layout/within_one_too_small"],
     ),
     // format is refused 6 for what document 01 says, and nothing else
     (
-        "/proofs/Laws/Reasons.antt:",
+        "proofs/Laws/Reasons.antt:",
         "`unformable`",
         &["calls/one_length_refused"],
     ),
     // which number a grow is given
     (
-        "/proofs/Numbered.antt:",
+        "proofs/Numbered.antt:",
         "`of-grow`",
         &["calls/limit_before_grown"],
     ),
     // where a view begins is said in bare numbers
     (
-        "/proofs/Theorem.antt:",
+        "proofs/Theorem.antt:",
         "`view-begins`",
         &["access/view_elsewhere"],
     ),
     // the version is a bare number
     (
-        "/proofs/Theorem.antt:",
+        "proofs/Theorem.antt:",
         "`versioned`",
         &["pbm/version_raised_alone"],
     ),
     // a record's bytes are read back
     (
-        "/proofs/Laws/Bytes.antt:",
+        "proofs/Laws/Bytes.antt:",
         "`decode-encode`",
         &["state/stripes_backwards"],
     ),
     // good bytes are those of a good record
     (
-        "/proofs/Theorem.antt:",
+        "proofs/Theorem.antt:",
         "`good-bytes`",
         &["state/unread_bytes_ignored"],
     ),
     // of a rebuild a stripe is left
     (
-        "/proofs/Laws/Good.antt:",
+        "proofs/Laws/Good.antt:",
         "`health-within`",
         &["state/count_of_all"],
     ),
     // another health, and all else as it was
     (
-        "/proofs/Laws/Good.antt:",
+        "proofs/Laws/Good.antt:",
         "`turned`",
         &["state/health_restarts_growth"],
     ),
     // what a disk that is being rebuilt may hold
     (
-        "/proofs/Laws/Lending.antt:",
+        "proofs/Laws/Lending.antt:",
         "`free-to-lend`",
         &["history/rebuilding_disk_in_service"],
     ),
     // only images of the length that is asked for have to be those left
     (
-        "/proofs/Laws/Lending.antt:",
+        "proofs/Laws/Lending.antt:",
         "`by-asked`",
         &["history/any_length_kept"],
     ),
@@ -228,10 +229,16 @@ fn kind(words: &str) -> Option<Kind> {
     };
     let starts = |with: &[&str]| with.iter().any(|w| message.starts_with(w));
     let has = |part: &[&str]| part.iter().any(|p| message.contains(p));
-    if has(&["so this cannot be checked"]) {
+    let not_checked = [", was not checked: ", ", were not checked: "];
+    if has(&["so this cannot be checked"]) || has(&[" that depend"]) && has(&not_checked) {
         Some(Kind::Follows)
+    } else if starts(&[GOAL]) {
+        match has(&["the facts known there allow values at which this goal is false"]) {
+            true => Some(Kind::Refuted),
+            false => Some(Kind::Unproved),
+        }
     } else if starts(&[
-        "expected type `tie.Need",
+        "expected type `goal.",
         "unsolved ?",
         "list the missing equation with its arguments",
         "replace that `_` with the term",
@@ -240,6 +247,8 @@ fn kind(words: &str) -> Option<Kind> {
     ]) || has(&[
             "is not in scope",
             "that can be named from here",
+            "no module is found by the path",
+            "` projects from a `",
             "is not a constructor of",
             "is not admitted: unsolved",
             "no equation of the list has an instance in the goal",
@@ -255,8 +264,8 @@ fn kind(words: &str) -> Option<Kind> {
     } else if starts(&["`search`: no proof of `"]) {
         Some(Kind::Unproved)
     } else if starts(&[
-        "computed as far as they go, the two types ",
-        "as printed, the two types ",
+        "computed as far as they go, the two ",
+        "as printed, the two ",
         "expected type `",
         // what `simp` or `rw` leaves is an equation whose two sides are not the same
         "give a proof of that as the last argument, `simp L t`",
@@ -268,20 +277,37 @@ fn kind(words: &str) -> Option<Kind> {
     }
 }
 
-/// What a log refuses: each place, as file:line:column, with the words that follow it. Notes are left out.
+/// How the prover names a goal of a function, by its place in src/, to which no file of proofs/ has an answer, and it found none.
+const GOAL: &str = "it is not proved that ";
+
+/// What a log refuses: each place, as file:line:column, with the words that follow it. Other notes are left out.
 fn refusals(log: &str) -> Vec<(String, String)> {
     let mut all = Vec::new();
-    for line in log.lines().filter(|line| line.starts_with('/')) {
+    for line in log.lines() {
+        let (line, is_note) = match line.strip_prefix("note: ") {
+            Some(rest) => (rest, true),
+            None => (line, false),
+        };
         let Some((place, words)) = line.split_once(": ") else {
             continue;
         };
-        if !place.ends_with(|c: char| c.is_ascii_digit()) || words.starts_with("note: ") {
+        let place = place.strip_prefix("./").unwrap_or(place);
+        let is_place = ["proofs/", "specs/", "src/"].iter().any(|p| place.starts_with(p))
+            && place.ends_with(|c: char| c.is_ascii_digit());
+        let is_help = ["note: ", "help: "].iter().any(|w| words.starts_with(w));
+        if !is_place || is_help || (is_note && !words.starts_with(GOAL)) {
             continue;
         }
         let words = words.strip_prefix("error: ").unwrap_or(words);
         all.push((place.to_string(), words.to_string()));
     }
     all
+}
+
+/// Whether it is in the proof of a function: in a file of its own, or at a goal of which the prover was to find the proof itself.
+fn is_of_function(place: &str, words: &str) -> bool {
+    let files = ["/Answers.antt:", "/Invariants.antt:", "/Proof.antt:"];
+    words.starts_with(GOAL) || (place.starts_with("proofs/") && files.iter().any(|f| place.contains(f)))
 }
 
 struct Edit {
@@ -297,7 +323,7 @@ impl Edit {
     fn refusals(&self) -> Vec<(String, String, Kind)> {
         let label = &self.label;
         let log = fs::read_to_string(&self.log)
-            .unwrap_or_else(|e| panic!("{label}: {e} (run `rt must-fail` first)"));
+            .unwrap_or_else(|e| panic!("{label}: {e} (run `tools/edit {label}` first)"));
         refusals(&log)
             .into_iter()
             .map(|(place, words)| {
@@ -328,8 +354,7 @@ fn edits() -> Vec<Edit> {
                 log: target()
                     .join("must-fail")
                     .join(name.file_name())
-                    .join(label)
-                    .join(".log"),
+                    .join(format!("{label}.log")),
             });
         }
     }
@@ -357,7 +382,7 @@ fn not_refused_for_its_shape() {
             panic!("{label}: no error in its log");
         };
         assert!(
-            place.contains("/proofs/"),
+            place.starts_with("proofs/") || is_of_function(place, words),
             "{label} is refused outside proofs/: {place}: {words}"
         );
         assert!(
@@ -372,7 +397,7 @@ fn wrong_code_is_refused_at_a_contract() {
     for edit in edits().iter().filter(|edit| !edit.definition) {
         let (place, words, _) = &edit.refusals()[0];
         assert!(
-            place.contains("/Proof.antt:"),
+            is_of_function(place, words),
             "{} is not refused first in the proof of a function: {place}: {words}",
             edit.label
         );
@@ -399,7 +424,7 @@ fn wrong_definitions_are_refused_at_a_value() {
             assert!(
                 refusals
                     .iter()
-                    .any(|(place, words, kind)| place.contains(file)
+                    .any(|(place, words, kind)| place.starts_with(file)
                         && words.starts_with(name)
                         && *kind == Kind::Differ),
                 "{label} is not refused by a computed case"
@@ -407,7 +432,7 @@ fn wrong_definitions_are_refused_at_a_value() {
         } else if let Some((file, name)) = named(BY_LAW, label) {
             let (place, words, _) = &refusals[0];
             assert!(
-                place.contains(file) && words.starts_with(name),
+                place.starts_with(file) && words.starts_with(name),
                 "{label} is not refused first by {name}: {place}: {words}"
             );
         } else {
@@ -424,7 +449,11 @@ fn kinds_of_error() {
             Some(Kind::Differ),
         ),
         (
-            "`block-at`: as printed, the two types first differ where one has `(x ∷ l)` (expected), right after `blockAt`",
+            "`block-at`: as printed, the two types first differ where one has `(x ∷ l)` (expected), right after `block_at`",
+            Some(Kind::Differ),
+        ),
+        (
+            "`facts`: as printed, the two sides differ only where one has `zeroed m ++ header (grown_by r m) ∷ []`",
             Some(Kind::Differ),
         ),
         (
@@ -432,11 +461,11 @@ fn kinds_of_error() {
             Some(Kind::Differ),
         ),
         (
-            "`length-blockAt`: computed as far as they go, the two types are `Path ℕ (length (take n l)) n`",
+            "`length-block_at`: computed as far as they go, the two types are `Path ℕ (length (take n l)) n`",
             Some(Kind::Differ),
         ),
         (
-            "`zone-moves`: expected type `getD (zoneMoves n m z) 0 0 ≡ k`, but this has type `getD (indices 0 1) 0 0 ≡ k`",
+            "`zone-moves`: expected type `get_or (zone_moves n m z) 0 0 ≡ k`, but this has type `get_or (indices 0 1) 0 0 ≡ k`",
             Some(Kind::Differ),
         ),
         (
@@ -456,11 +485,19 @@ fn kinds_of_error() {
             Some(Kind::Unproved),
         ),
         (
-            "`disk-lt`: `simp`: no equation of the list has an instance in the goal `dataDisk n S r < n`.",
+            "it is not proved that what the function ensures holds when it returns (`returns`); `search` gave up at one of its limits",
+            Some(Kind::Unproved),
+        ),
+        (
+            "it is not proved that the sum fits its type (at an index); the facts known there allow values at which this goal is false",
+            Some(Kind::Refuted),
+        ),
+        (
+            "`disk-lt`: `simp`: no equation of the list has an instance in the goal `data_disk n S r < n`.",
             Some(Kind::Shape),
         ),
         (
-            "`getD-blockAt`: `rw`: no part of the goal `Path ℕ (getD l i 0) (getD l (at + i) 0)` is an instance of `getD l i 0`",
+            "`get_or-block_at`: `rw`: no part of the goal `Path ℕ (get_or l i 0) (get_or l (at + i) 0)` is an instance of `get_or l i 0`",
             Some(Kind::Shape),
         ),
         (
@@ -477,15 +514,27 @@ fn kinds_of_error() {
         ),
         ("`turn-of-move`: `ap₃` is not in scope", Some(Kind::Shape)),
         (
+            "`returns`: module `goal` has no `returns-2` that can be named from here (did you mean `returns`?)",
+            Some(Kind::Shape),
+        ),
+        (
+            "no module is found by the path `Rattle.blocks.proofs.sum.Goals`: a path begins with a child of this module",
+            Some(Kind::Shape),
+        ),
+        (
+            "`returns`: `.ensures` projects from a `Σ` type or a record, but this has type `a ≡ b`",
+            Some(Kind::Shape),
+        ),
+        (
             "`mul-result`: record `layout.open_stripes.Lts.After-struct-known`",
             Some(Kind::Shape),
         ),
         (
-            "`indices`: `_∷_` is not a constructor of `ℕ`: it is a constructor of `List`",
+            "`indices`: `◌∷◌` is not a constructor of `ℕ`: it is a constructor of `List`",
             Some(Kind::Shape),
         ),
         (
-            "`returns`: expected type `tie.Need-returns`, but this has type `tie.Need-returns-2`",
+            "`returns`: expected type `goal.returns`, but this has type `goal.returns-2`",
             Some(Kind::Shape),
         ),
         (
@@ -500,6 +549,14 @@ fn kinds_of_error() {
             "`step`: `step-by` was not admitted (it has holes or undetermined implicits, or was rejected), so this cannot be checked",
             Some(Kind::Follows),
         ),
+        (
+            "2 declarations that depend on `step`, which was not admitted, were not checked: by_step, all",
+            Some(Kind::Follows),
+        ),
+        (
+            "1 declaration that depends on `step`, which was rejected, was not checked: returns",
+            Some(Kind::Follows),
+        ),
         ("`step`: some words that no log has had", None),
     ];
     for (words, expected) in samples {
@@ -510,27 +567,47 @@ fn kinds_of_error() {
 #[test]
 fn reads_a_log() {
     let log = "\
-/r/proofs/Laws/Lines.antt:94:1: `lines-append` is not admitted: unsolved
+checked layout::moves::move_of, 5 of 29
+./proofs/Laws/Lines.antt:94:1: `lines-append` is not admitted: unsolved
   to decide it, write: a term
-/r/proofs/Cases/Paper.antt:13:20: error: `paper`: as printed, the two types differ only where one has `1`
+./proofs/Cases/Paper.antt:13:20: error: `paper`: as printed, the two types differ only where one has `1`
   expected type `a: b`
-/r/proofs/Laws/Lag.antt:1:2: note: `simp` made 1 round(s): none
+./proofs/Laws/Lag.antt:1:2: note: `simp` made 1 round(s): none
+note: src/parse.rt:53:61: it is not proved that what the function ensures holds when it returns (`returns`); `search` gave up at one of its limits
+note: a goal may be false even if its line does not say so: help: try the goal by hand
+note: `returns` of proofs/parse/field_of/Answers.antt must prove: a ≡ b
+note: proofs/parse/field_of/Answers.antt:1:2: it is not needed
 fn layout::moves::move_of: proved
 logic=not-proved";
     let expected = [
         (
-            "/r/proofs/Laws/Lines.antt:94:1",
+            "proofs/Laws/Lines.antt:94:1",
             "`lines-append` is not admitted: unsolved",
         ),
         (
-            "/r/proofs/Cases/Paper.antt:13:20",
+            "proofs/Cases/Paper.antt:13:20",
             "`paper`: as printed, the two types differ only where one has `1`",
+        ),
+        (
+            "src/parse.rt:53:61",
+            "it is not proved that what the function ensures holds when it returns (`returns`); `search` gave up at one of its limits",
         ),
     ];
     let found = refusals(log);
     assert_eq!(found.len(), expected.len());
     for ((place, words), (p, w)) in found.iter().zip(expected) {
         assert_eq!((place.as_str(), words.as_str()), (p, w));
+    }
+    let of_function: Vec<bool> = found.iter().map(|(p, w)| is_of_function(p, w)).collect();
+    assert_eq!(of_function, [false, false, true]);
+    for (place, is_of) in [
+        ("proofs/sum/add_group/Answers.antt:47:5", true),
+        ("proofs/sum/add_group/Invariants.antt:4:5", true),
+        ("proofs/Answers.antt:47:5", true),
+        ("proofs/Laws/Sum.antt:47:5", false),
+        ("specs/Answers.antt:47:5", false),
+    ] {
+        assert_eq!(is_of_function(place, "`returns`: they differ"), is_of, "{place}");
     }
 }
 
@@ -540,43 +617,46 @@ fn one_edit_is_tried() {
     let rt = "\
 #!/bin/sh
 [ \"$*\" != version ] || { echo stand-in; exit; }
-[ \"$*\" = 'dev one' ] || exit 2
-echo asked >>../../asked
-mkdir -p target/inc/one
-case $(cat crates/one/src/lib.rt) in
+case \"$*\" in check | 'check --jobs 1') ;; *) exit 2 ;; esac
+[ \"${PWD##*/}\" = one ] && [ -e ../../crates.txt ] || exit 2
+echo asked >>\"$ASKED\"
+mkdir -p out && echo built >out/built
+case $(cat src/lib.rt) in
 *right*) echo logic=proved ;;
-*wrong*) echo \"$PWD/crates/one/proofs/A.antt:1:2: error: they differ\" && echo logic=not-proved && exit 1 ;;
-*nameless*) echo \"$PWD/crates/one/specs/A.antt:1:2: error: no such name\" && echo logic=not-proved && exit 1 ;;
-*odd*) echo \"$PWD/crates/one/src/lib.rt:1:2: error: no such word\" && exit 1 ;;
-*below*) echo logic=not-proved && echo 'rt: FAILED: other' && exit 1 ;;
+*wrong*) echo './proofs/A.antt:1:2: error: they differ' && echo logic=not-proved && exit 1 ;;
+*unproved*) echo 'note: src/lib.rt:1:2: it is not proved that it holds' && echo logic=not-proved && exit 1 ;;
+*nameless*) echo './specs/A.antt:1:2: error: no such name' && echo logic=not-proved && exit 1 ;;
+*odd*) echo 'src/lib.rt:1:2: error: no such word' && exit 1 ;;
+*below*) echo logic=not-proved && echo 'rt: the library other did not build' && exit 1 ;;
 *) exit 3 ;;
 esac >&2
 ";
-    let tree = target().join("c/tree-edit");
-    let _ = fs::remove_dir_all(&tree);
-    let put = |path: &str, text: &str| {
-        let path = tree.join(path);
-        fs::create_dir_all(path.parent().unwrap()).unwrap();
-        fs::write(path, text).unwrap();
-    };
+    let tree = Outside::new("edit");
+    let put = |path: &str, text: &str| tree.put(path, text);
     let (source, tool) = ("crates/one/src/lib.rt", "tools/edit");
+    let log = "target/must-fail/one/edit.log";
     put("crates.txt", "one:\n");
     put(source, "// right, all of it\n// it is\n");
     put("bin/rt", rt);
-    let script = target().join("..").join(tool);
-    put(tool, &fs::read_to_string(script).unwrap());
+    put(tool, &fs::read_to_string(root().join(tool)).unwrap());
     for script in ["bin/rt", tool] {
         let mode = fs::Permissions::from_mode(0o755);
         fs::set_permissions(tree.join(script), mode).unwrap();
     }
-    let bin = tree.join("bin").canonicalize().unwrap();
+    let bin = tree.join("bin");
     let path = format!("{}:{}", bin.display(), std::env::var("PATH").unwrap());
     let mut asked = 1; // without an edit
     for (edit, status, said, more) in [
         (
             "old: right\nnew: wrong",
             0,
-            "refused: one/proofs/A.antt:1:2: error: they differ\n",
+            "refused: ./proofs/A.antt:1:2: error: they differ\n",
+            1,
+        ),
+        (
+            "old: right\nnew: unproved",
+            0,
+            "refused: note: src/lib.rt:1:2: it is not proved that it holds\n",
             1,
         ),
         (
@@ -588,7 +668,7 @@ esac >&2
         (
             "old: right\nnew: nameless",
             2,
-            "BAD EDIT: it is refused outside of proofs/, so for no fact: one/specs/A.antt:1:2: error: no such name\n",
+            "BAD EDIT: it is refused outside of proofs/, so for no fact: ./specs/A.antt:1:2: error: no such name\n",
             1,
         ),
         (
@@ -639,7 +719,9 @@ esac >&2
             &format!("file: src/lib.rt\n{edit}\n"),
         );
         let mut command = Command::new(tree.join(tool));
-        let output = command.arg("one/edit").env("PATH", &path).output().unwrap();
+        command.arg("one/edit").env("PATH", &path);
+        command.env("ASKED", tree.join("asked"));
+        let output = command.output().unwrap();
         let out = text(&output.stdout);
         assert!(
             out.starts_with(said),
@@ -651,5 +733,7 @@ esac >&2
         asked += more;
         let lines = fs::read_to_string(tree.join("asked")).unwrap();
         assert_eq!(lines.lines().count(), asked, "{edit}");
+        // the log is that of this edit, and no other's
+        assert_eq!(tree.join(log).exists(), more == 1, "{edit}");
     }
 }

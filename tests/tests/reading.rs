@@ -10,7 +10,7 @@ use yuzkamide_tests::definitions::{
 };
 use yuzkamide_tests::files::files;
 use yuzkamide_tests::mentions::{faults, Sources};
-use yuzkamide_tests::program::{root, target};
+use yuzkamide_tests::program::{root, Outside};
 
 fn document(name: &str) -> String {
     fs::read_to_string(root().join("docs").join(name)).unwrap()
@@ -84,13 +84,8 @@ fn the_list_is_what_the_edits_say() {
 /// A folder of one crate, `one`, in which tools/edits reads an edit that begins so, and one after it that is right.
 #[test]
 fn a_comment_of_another_form() {
-    let tree = target().join("c/tree-edits");
-    let _ = fs::remove_dir_all(&tree);
-    let put = |path: &str, text: &str| {
-        let path = tree.join(path);
-        fs::create_dir_all(path.parent().unwrap()).unwrap();
-        fs::write(path, text).unwrap();
-    };
+    let tree = Outside::new("edits");
+    let put = |path: &str, text: &str| tree.put(path, text);
     put(
         "crates.txt",
         "# NAME: what it depends on\nnone:\none: none\n",
