@@ -292,5 +292,8 @@ pub fn uses(text: &str) -> Vec<Use> {
 
 /// What a file of specs/ is called as a module.
 fn module(specs: &str) -> String {
-    format!("Rattle.{}", specs.trim_end_matches(".antt").replace('/', "."))
+    format!(
+        "Rattle.{}",
+        specs.trim_end_matches(".antt").replace('/', ".")
+    )
 }

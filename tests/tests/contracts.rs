@@ -103,7 +103,10 @@ fn the_search_finds_the_functions() {
         assert!(exported("pbm", &format!("pbm_{name}")), "pbm_{name}");
     }
     assert!(exported("access", "view") && exported("lent", "view"));
-    assert!(exported("placement", "place_of"), "handed on in a list over lines");
+    assert!(
+        exported("placement", "place_of"),
+        "handed on in a list over lines"
+    );
     assert!(!exported("refusals", "is_lost"), "its module is private");
     let lent: usize = all.iter().map(|f| written(&f.function)).sum();
     assert!(lent > 40, "lent to write: {lent}");
@@ -215,19 +218,43 @@ fn an_answer_is_set_equal_to_something() {
         ("u64", "ensures { x + 1 ≡ result }"),
         ("u64", "ensures answer { (result ≤ 3) × (result ≡ f x) }"),
         ("u64", "ensures answer { ((r : Record) → result ≡ f r) }"),
-        ("u64", "ensures { (r : Record) (a b : ℕ) → (result ≡ f r a b) × (0 ≤ result) }"),
-        ("u64", "ensures answer { result\n        ≡ f x\n            (g x) }"),
+        (
+            "u64",
+            "ensures { (r : Record) (a b : ℕ) → (result ≡ f r a b) × (0 ≤ result) }",
+        ),
+        (
+            "u64",
+            "ensures answer { result\n        ≡ f x\n            (g x) }",
+        ),
         ("u64", "requires { x ≡ 1 }\n    ensures { result ≡ x }"),
         ("u64", "ensures { result ≡ f (record { a = 1; b = x }) }"),
         ("u64", "ensures { result ≡ f images.old x.new (g y).new }"),
-        ("usize", "ensures { Stored out.old at (g x) out.new result }"),
+        (
+            "usize",
+            "ensures { Stored out.old at (g x) out.new result }",
+        ),
         ("&'a [u8]", "ensures view { result.now ≡ f x }"),
-        ("Count", "ensures { (result.number ≡ 0) × (result.made ≡ x) }"),
+        (
+            "Count",
+            "ensures { (result.number ≡ 0) × (result.made ≡ x) }",
+        ),
         ("Count", "ensures { result ≡ f x }"),
-        ("Pair", "ensures { result.a ≡ x }\n    ensures { (result.b.number ≡ 0) × (result.b.made ≡ 1) }"),
-        ("Report", "ensures { report_answer result ≡ (called (on status [] []) y).answer }"),
-        ("Changed", "ensures { changed_answer result ≡ a }\n    ensures { changed_record y result ≡ b }"),
-        ("Lane", "ensures { lane_bytes result ≡ xor_b (lane_bytes x) y }"),
+        (
+            "Pair",
+            "ensures { result.a ≡ x }\n    ensures { (result.b.number ≡ 0) × (result.b.made ≡ 1) }",
+        ),
+        (
+            "Report",
+            "ensures { report_answer result ≡ (called (on status [] []) y).answer }",
+        ),
+        (
+            "Changed",
+            "ensures { changed_answer result ≡ a }\n    ensures { changed_record y result ≡ b }",
+        ),
+        (
+            "Lane",
+            "ensures { lane_bytes result ≡ xor_b (lane_bytes x) y }",
+        ),
         ("Quad", "ensures { quad_bytes result ≡ f x }"),
     ] {
         assert!(answering(kind, clause), "{clause}");
@@ -254,10 +281,7 @@ fn less_is_no_answer() {
         ("u64", "ensures { r ≡ y }"),
         ("u64", "ensures { Listed result (result ≡ x) }"),
         ("u64", "requires { result ≡ 1 }"),
-        (
-            "u64",
-            "requires { result ≡ 1 }\n    ensures { result < 2 }",
-        ),
+        ("u64", "requires { result ≡ 1 }\n    ensures { result < 2 }"),
         ("[u8; 9]", "ensures { 9 ≡ length result }"),
         ("&'a [u8]", "ensures place { result.ref_ptr ≡ f x }"),
         ("Count", "ensures { result.number ≡ 0 }"),
@@ -298,14 +322,8 @@ fn what_is_lent_to_write_is_named_at_exit() {
     for (clause, left) in [
         ("ensures { b.new ≡ 3 }", vec!["a"]),
         ("ensures { a.new ≡ f c }", vec!["b"]),
-        (
-            "ensures { length a.new ≡ b.new }",
-            vec!["a", "b"],
-        ),
-        (
-            "ensures { a.new ≡ a.new }",
-            vec!["a", "b"],
-        ),
+        ("ensures { length a.new ≡ b.new }", vec!["a", "b"]),
+        ("ensures { a.new ≡ a.new }", vec!["a", "b"]),
         (
             "ensures { (length a.new ≡ 3) × (b.new ≤ 3) }",
             vec!["a", "b"],
@@ -314,14 +332,8 @@ fn what_is_lent_to_write_is_named_at_exit() {
             "ensures { d ≡ 1 → (a.new ≡ f c) × (b.new ≡ 3) }",
             vec!["a", "b"],
         ),
-        (
-            "ensures { (a.old ≡ f c) × (b.old ≡ 3) }",
-            vec!["a", "b"],
-        ),
-        (
-            "requires { (a.new ≡ f c) × (b.new ≡ 3) }",
-            vec!["a", "b"],
-        ),
+        ("ensures { (a.old ≡ f c) × (b.old ≡ 3) }", vec!["a", "b"]),
+        ("requires { (a.new ≡ f c) × (b.new ≡ 3) }", vec!["a", "b"]),
     ] {
         assert_eq!(open(two, clause), left, "{clause}");
     }

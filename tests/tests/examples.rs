@@ -1199,7 +1199,7 @@ fn pictures(root: &Path) -> BTreeMap<String, Vec<u8>> {
         .collect()
 }
 
-const PROVING: &str = "proving and building the library, which may take four minutes; the prover's notes go to build/library.log\n";
+const PROVING: &str = "proving and building the library, which may take some minutes; the prover's notes go to build/library.log\n";
 const BUILT: &str =
     "the library is proved and built already, from these files: crates/pbm/out/libpbm.a\n";
 
@@ -1250,8 +1250,9 @@ fn nothing_is_run_that_is_not_proved() {
         let output = tree.run("examples/run");
         assert_eq!(output.status.code(), Some(1));
         assert!(output.stdout.is_empty());
-        let says =
-            format!("{PROVING}a note of the prover\nexamples/library: rt lib failed in crates/pbm\n");
+        let says = format!(
+            "{PROVING}a note of the prover\nexamples/library: rt lib failed in crates/pbm\n"
+        );
         assert_eq!(text(&output.stderr), says);
     }
     assert_eq!(tree.asked(), 3);

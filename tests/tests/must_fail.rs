@@ -292,7 +292,9 @@ fn refusals(log: &str) -> Vec<(String, String)> {
             continue;
         };
         let place = place.strip_prefix("./").unwrap_or(place);
-        let is_place = ["proofs/", "specs/", "src/"].iter().any(|p| place.starts_with(p))
+        let is_place = ["proofs/", "specs/", "src/"]
+            .iter()
+            .any(|p| place.starts_with(p))
             && place.ends_with(|c: char| c.is_ascii_digit());
         let is_help = ["note: ", "help: "].iter().any(|w| words.starts_with(w));
         if !is_place || is_help || (is_note && !words.starts_with(GOAL)) {
@@ -307,7 +309,8 @@ fn refusals(log: &str) -> Vec<(String, String)> {
 /// Whether it is in the proof of a function: in a file of its own, or at a goal of which the prover was to find the proof itself.
 fn is_of_function(place: &str, words: &str) -> bool {
     let files = ["/Answers.antt:", "/Invariants.antt:", "/Proof.antt:"];
-    words.starts_with(GOAL) || (place.starts_with("proofs/") && files.iter().any(|f| place.contains(f)))
+    words.starts_with(GOAL)
+        || (place.starts_with("proofs/") && files.iter().any(|f| place.contains(f)))
 }
 
 struct Edit {
@@ -607,7 +610,11 @@ logic=not-proved";
         ("proofs/Laws/Sum.antt:47:5", false),
         ("specs/Answers.antt:47:5", false),
     ] {
-        assert_eq!(is_of_function(place, "`returns`: they differ"), is_of, "{place}");
+        assert_eq!(
+            is_of_function(place, "`returns`: they differ"),
+            is_of,
+            "{place}"
+        );
     }
 }
 

@@ -669,7 +669,10 @@ fn a_statement_of_the_same_name() {
     ] {
         let faults = sample_faults(SPECS, &edited(PROOFS, used, to));
         assert_eq!(faults.len(), 1, "{to}");
-        assert!(faults[0].contains("does not have Demand1 from"), "{faults:?}");
+        assert!(
+            faults[0].contains("does not have Demand1 from"),
+            "{faults:?}"
+        );
     }
 }
 

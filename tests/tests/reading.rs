@@ -88,7 +88,7 @@ fn a_comment_of_another_form() {
     let put = |path: &str, text: &str| tree.put(path, text);
     put(
         "crates.txt",
-        "# NAME: what it depends on\nnone:\none: none\n",
+        "# NAME: what it depends on\nnone:\none staticlib: none\n",
     );
     fs::create_dir_all(tree.join("tools")).unwrap();
     fs::copy(root().join("tools/edits"), tree.join("tools/edits")).unwrap();
