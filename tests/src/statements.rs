@@ -290,6 +290,14 @@ pub fn uses(text: &str) -> Vec<Use> {
     all
 }
 
+/// The names that a Rattle file takes for its contracts, as the proof language takes them; a list may go on over lines.
+pub fn ghost_uses(source: &str) -> String {
+    let source = format!("\n{source}");
+    let items = source.split("\nghost use ").skip(1);
+    let items = items.filter_map(|item| item.split_once(';'));
+    items.map(|(item, _)| format!("use {item}\n")).collect()
+}
+
 /// What a file of specs/ is called as a module.
 fn module(specs: &str) -> String {
     format!(

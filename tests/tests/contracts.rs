@@ -13,7 +13,7 @@ use yuzkamide_tests::definitions::{of_proof_language, Kind};
 use yuzkamide_tests::files::texts;
 use yuzkamide_tests::pbm::{family, in_rattle, Way, NAMES};
 use yuzkamide_tests::program::target;
-use yuzkamide_tests::statements::uses;
+use yuzkamide_tests::statements::{ghost_uses, uses};
 
 /// Functions inside a crate whose answer is left open where no caller looks at it, and limited there: the blanks below a disk
 /// are counted only if it is blank itself, and only where all moves of its zone are made, or none.
@@ -476,11 +476,6 @@ fn symbols_mean_what_the_library_says() {
         assert!(strange.is_empty(), "{file}: {strange:?}");
     }
     assert!(seen > 200, "the search finds the symbols: {seen}");
-}
-
-fn ghost_uses(text: &str) -> String {
-    let lines = text.lines().filter(|line| line.starts_with("ghost use "));
-    lines.map(|line| format!("{line}\n")).collect()
 }
 
 #[test]

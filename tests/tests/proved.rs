@@ -10,7 +10,7 @@ use yuzkamide_tests::pins::{self, OPEN};
 use yuzkamide_tests::pins::{cited, data, faults, pins, statement_files, taken, Name};
 use yuzkamide_tests::program::root;
 use yuzkamide_tests::statements::{
-    closed, definition, fault, fingerprint, quoted, rows, undeclared, uses, Row, Specs,
+    closed, definition, fault, fingerprint, ghost_uses, quoted, rows, undeclared, uses, Row, Specs,
 };
 
 fn document(name: &str) -> String {
@@ -211,14 +211,6 @@ fn statements_say_what_they_said() {
     assert!(changed.is_empty(), "{changed:#?}");
 }
 
-/// The names that a Rattle file takes for its contracts, as the proof language takes them.
-fn ghost_uses(source: &str) -> String {
-    let ghost = source
-        .lines()
-        .filter_map(|line| line.strip_prefix("ghost "));
-    ghost.map(|line| format!("{line}\n")).collect()
-}
-
 /// Every file of src/, by its path below crates/, with its text.
 fn sources() -> Vec<(String, String)> {
     texts(&root().join("crates"), "rt")
@@ -249,6 +241,20 @@ fn changed_names(text: &str) -> Vec<String> {
         .map(|u| format!("{u:?}"))
         .chain(whole.map(str::to_string))
         .collect()
+}
+
+#[test]
+fn names_of_a_rattle_file() {
+    let source = "// A file.
+ghost use Rattle.layout.specs.Moves.{move_to};
+ghost use Rattle.layout.specs.Home.{
+    home_disk, rank_of as rank,
+};
+use layout::Move;
+";
+    let ghost = ghost_uses(source);
+    assert_eq!(uses(&ghost).len(), 3);
+    assert_eq!(changed_names(&ghost).len(), 1);
 }
 
 #[test]
