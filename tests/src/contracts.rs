@@ -401,12 +401,12 @@ impl Function {
     /// Whether it says of `p: &mut &[u8]` what p points to at exit, and where that begins.
     fn points(&self, p: &str) -> bool {
         let given = self.given();
-        given.contains(&format!("{p}.new.now")) && given.contains(&format!("{p}.new.ptr"))
+        given.contains(&format!("{p}.new.now")) && given.contains(&format!("{p}.new.ref_ptr"))
     }
 
     /// Whether what p points to at exit begins where `name` began.
     fn hands_back(&self, name: &str, p: &str) -> bool {
-        let start = format!("{p}.new.ptr");
+        let start = format!("{p}.new.ref_ptr");
         let entry = format!("{name}.entry.ref_ptr");
         let mut sides = self.ensures.iter().flat_map(equations);
         self.points(p) && sides.any(|two| two.contains(&start) && two.contains(&entry))

@@ -213,3 +213,14 @@ fn an_array_in_a_tuple_struct() {
 fn a_method() {
     made_up(&[("a/src/lib.rt", "impl Own {\n}\n")]);
 }
+
+/// `impl` in a type has no method.
+#[test]
+fn a_parameter_of_any_type_with_a_trait() {
+    let lib = "pub fn go(x: &mut impl Read) -> u64\n{\n    let one = [0u8; 1];\n    0\n}\n";
+    let sources = made_up(&[("a/src/lib.rt", lib)]);
+    assert_eq!(
+        arrays_of(&sources.reached("a", "go")),
+        ["[0u8; 1] of go in a/src/lib.rt"]
+    );
+}

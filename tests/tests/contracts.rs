@@ -343,8 +343,8 @@ fn what_is_lent_to_write_is_named_at_exit() {
 fn what_is_returned_is_handed_back() {
     let lent = "scratch: &'a mut [u8], left: &mut &'a [u8]";
     let bytes = "ensures scratch { left.new.now ≡ (called (f x) r).room }";
-    let start = "ensures whole { left.new.ptr ≡ scratch.entry.ref_ptr }";
-    let elsewhere = "ensures whole { left.new.ptr ≡ images.entry.ref_ptr }";
+    let start = "ensures whole { left.new.ref_ptr ≡ scratch.entry.ref_ptr }";
+    let elsewhere = "ensures whole { left.new.ref_ptr ≡ images.entry.ref_ptr }";
     let none: [&str; 0] = [];
     assert_eq!(open(lent, &format!("{bytes}\n    {start}")), none);
     assert_eq!(open(lent, bytes), ["scratch", "left"]);
