@@ -251,10 +251,16 @@ const MADE: &[(&str, &[&str])] = &[
 
 type Words = Vec<String>;
 
-/// The words of a formula; a bracket is one of its own, and so is the field of what stands in brackets: `( f x ) .field`.
+/// The words of a formula; a bracket is one of its own, and so is the field of what stands in brackets: `( f x ) .field`. What a
+/// reference holds at exit and at entry has one word, whichever of the two a clause has.
 fn words(formula: &str) -> Words {
     let spaced = formula.replace('(', " ( ").replace(')', " ) ");
-    spaced.split_whitespace().map(str::to_string).collect()
+    let held = |word: &str| {
+        let word = format!("{word}.").replace(".exit.now.", ".new.");
+        let word = word.replace(".entry.now.", ".old.");
+        word[..word.len() - 1].to_string()
+    };
+    spaced.split_whitespace().map(held).collect()
 }
 
 /// The parts between an operator that stands in no brackets.
