@@ -3,14 +3,14 @@
 use std::fs;
 use std::path::{Path, PathBuf};
 
-/// The files of a folder, and of those in it, with this ending; but for what `rt` makes, in folders called out.
+/// The files of a folder, and of those in it, with this ending; but for what `rt` makes in a crate.
 pub fn files(folder: &Path, ending: &str) -> Vec<PathBuf> {
     let entries = fs::read_dir(folder).unwrap_or_else(|e| panic!("{}: {e}", folder.display()));
     let mut all = Vec::new();
     for entry in entries {
         let path = entry.unwrap().path();
         if path.is_dir() {
-            if !path.ends_with("out") {
+            if !is_made(&path) {
                 all.extend(files(&path, ending));
             }
         } else if path.extension().is_some_and(|e| e == ending) {
@@ -19,6 +19,12 @@ pub fn files(folder: &Path, ending: &str) -> Vec<PathBuf> {
     }
     all.sort();
     all
+}
+
+/// `crates/NAME/out`; deeper in a crate a folder of that name is a function's.
+fn is_made(folder: &Path) -> bool {
+    let above = folder.parent().and_then(Path::parent);
+    folder.ends_with("out") && above.is_some_and(|above| above.ends_with("crates"))
 }
 
 /// The same as paths below the folder, each with the file's text.

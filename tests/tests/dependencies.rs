@@ -51,6 +51,16 @@ fn every_dependency_is_used() {
     }
 }
 
+/// `crates/NAME/out` is rt's; deeper in a crate a folder of that name is a function's.
+#[test]
+fn what_rt_makes_is_no_source() {
+    let all = texts(&root().join("crates"), "antt");
+    let of_function = "repair/proofs/failing/out/Answers.antt";
+    assert!(all.iter().any(|(path, _)| path == of_function));
+    let is_made = |path: &str| path.split('/').nth(1) == Some("out");
+    assert!(!all.iter().any(|(path, _)| is_made(path)));
+}
+
 #[test]
 fn what_is_a_use() {
     for text in [

@@ -626,6 +626,7 @@ fn one_edit_is_tried() {
 [ \"$*\" != version ] || { echo stand-in; exit; }
 case \"$*\" in check | 'check --jobs 1') ;; *) exit 2 ;; esac
 [ \"${PWD##*/}\" = one ] && [ -e ../../crates.txt ] || exit 2
+[ \"$*\" = check ] || [ ! -e out ] && [ -e proofs/f/out/A.antt ] || exit 2
 echo asked >>\"$ASKED\"
 mkdir -p out && echo built >out/built
 case $(cat src/lib.rt) in
@@ -644,6 +645,10 @@ esac >&2
     let log = "target/must-fail/one/edit.log";
     put("crates.txt", "one:\n");
     put(source, "// right, all of it\n// it is\n");
+    put(
+        "crates/one/proofs/f/out/A.antt",
+        "-- of a function called out\n",
+    );
     put("bin/rt", rt);
     put(tool, &fs::read_to_string(root().join(tool)).unwrap());
     for script in ["bin/rt", tool] {
