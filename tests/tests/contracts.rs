@@ -194,6 +194,47 @@ fn clauses_have_names() {
     assert!(nameless.is_empty(), "a clause has no name: {nameless:#?}");
 }
 
+/// Of a reference to a struct with fields `old` and `new` these words mean the fields: what it holds is `entry.now` and `exit.now`.
+#[test]
+fn fields_are_not_taken_for_values() {
+    let (all, structs) = all_functions();
+    assert_eq!(held_as_fields(&all, &structs), [""; 0]);
+    let source = "pub fn f(r: &mut Record, a: &mut [u8])\n    ensures { (r.new ≡ a.new) × (r.exit.now.new ≡ 1) }\n{\n}\n";
+    let found = Found {
+        function: only(source),
+        in_crate: "state".to_string(),
+        file: "state/src/update.rt".to_string(),
+        exported: true,
+    };
+    assert_eq!(
+        held_as_fields(&[found], &structs),
+        ["r.new of f in state/src/update.rt"]
+    );
+}
+
+/// The words `x.old` and `x.new` of clauses where x is lent to write and has fields of these names.
+fn held_as_fields(all: &[Found], structs: &Structs) -> Vec<String> {
+    let mut found = Vec::new();
+    for f in all {
+        let clauses = f.function.requires.iter().chain(&f.function.ensures);
+        let text: String = clauses.map(|c| format!("{} ", c.formula)).collect();
+        let is_name = |c: char| c.is_alphanumeric() || "_.".contains(c);
+        let words: Vec<&str> = text.split(|c| !is_name(c)).collect();
+        for p in f.function.parameters.iter().filter(|p| p.is_written()) {
+            let kind = p.kind.split_whitespace().last().unwrap();
+            let fields = structs.get(kind).into_iter().flatten();
+            for field in fields.filter(|field| ["old", "new"].contains(&field.name.as_str())) {
+                let held = format!("{}.{}", p.name, field.name);
+                let is = |w: &&str| **w == held || w.starts_with(&format!("{held}."));
+                if words.iter().any(is) {
+                    found.push(format!("{held} of {}", f.place()));
+                }
+            }
+        }
+    }
+    found
+}
+
 /// The records that stand for equations hold them.
 #[test]
 fn records_of_equations() {
