@@ -363,8 +363,8 @@ impl Function {
         side.split(' ').any(|word| {
             let (name, rest) = word.split_once('.').unwrap_or((word, ""));
             let is_written = |p: &Parameter| p.name == name && p.is_written();
-            let is_new = rest.split('.').next() == Some("new");
-            name == ANSWER || (is_new && self.parameters.iter().any(is_written))
+            let at_exit = matches!(rest.split('.').next(), Some("new" | "exit"));
+            name == ANSWER || (at_exit && self.parameters.iter().any(is_written))
         })
     }
 

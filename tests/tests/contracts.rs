@@ -505,7 +505,8 @@ fn is_symbol(name: &str) -> bool {
 
 /// The symbols of a text that do not mean what the library says: taken from elsewhere, under another name, or defined here.
 fn strange_symbols(text: &str) -> Vec<String> {
-    let of_library = |module: &str| module.starts_with("Rattle.std.");
+    let of_library =
+        |module: &str| ["Rattle.std.specs.Prelude", "Rattle.std.specs.Int.Bits"].contains(&module);
     let used = uses(text)
         .into_iter()
         .filter(|u| is_symbol(&u.name) && !(of_library(&u.module) && u.original == u.name))

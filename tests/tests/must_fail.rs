@@ -309,8 +309,9 @@ fn refusals(log: &str) -> Vec<(String, String)> {
 /// Whether it is in the proof of a function: in a file of its own, or at a goal of which the prover was to find the proof itself.
 fn is_of_function(place: &str, words: &str) -> bool {
     let files = ["/Answers.antt:", "/Invariants.antt:", "/Proof.antt:"];
+    let of_laws = place.starts_with("proofs/Laws/");
     words.starts_with(GOAL)
-        || (place.starts_with("proofs/") && files.iter().any(|f| place.contains(f)))
+        || (place.starts_with("proofs/") && !of_laws && files.iter().any(|f| place.contains(f)))
 }
 
 struct Edit {

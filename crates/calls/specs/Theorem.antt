@@ -89,7 +89,8 @@ pub record Settles : Type 0 where
   -- the table is fed the call and the lengths lent, and nothing else
   pub fed_is : (e : Event) → fed e ≡ feed e.call (length e.images) (length e.room)
   pub lent : (c : Call) (img room : List ℕ) → ((on c img room).call ≡ c) × ((on c img room).images ≡ img) × ((on c img room).room ≡ room)
-  pub lengths : (c : Call) (len room : ℕ) → ((feed c len room).call ≡ c) × ((feed c len room).images ≡ len) × ((feed c len room).room ≡ room)
+  pub lengths : (c : Call) (len room : ℕ) → ((feed c len room).call ≡ c) × ((feed c len room).images ≡ len) ×
+      ((feed c len room).room ≡ room)
   -- let through: on a record, and on bytes, where the record that is left is written anew
   pub let_through : (e : Event) (r : Record) → refusal_of r (fed e) ≡ 0 → called e r ≡ act e r
   pub bytes_through : (e : Event) (b : List ℕ) → refusal_bytes b (fed e) ≡ 0 → called_bytes e b ≡ sealed (act e (decode b))

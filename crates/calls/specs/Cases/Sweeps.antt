@@ -92,7 +92,8 @@ pub record Flipped : Type 0 where
   pub cancels : twice 12 0 1 (cabinet Whole 4) standing 12 ≡ replicate 7 all ++ (unsound_at 7 8 ∷ replicate 4 all)
   pub cancels_new : twice 12 0 3 (cabinet Whole 4) standing 12
       ≡ replicate 4 all
-      ++ (unsound_at 4 5 ∷ unsound_at 5 6 ∷ unsound_at 6 7 ∷ all ∷ unsound_at 8 9 ∷ unsound_at 9 10 ∷ unsound_at 10 11 ∷ unsound_at 11 12 ∷ [])
+      ++ (unsound_at 4 5 ∷ unsound_at 5 6 ∷ unsound_at 6 7 ∷ all ∷ unsound_at 8 9 ∷ unsound_at 9 10 ∷ unsound_at 10 11 ∷
+      unsound_at 11 12 ∷ [])
   -- with no blank it is not, before the growth and after it
   pub cancels_home : twice 12 0 1 fresh home 12 ≡ replicate 12 all
   pub cancels_grown : twice 12 0 3 (cabinet Whole 9) moved 12 ≡ replicate 12 all
