@@ -1,5 +1,4 @@
 -- `is_good` meets its contract. Assumes nothing.
--- Below, c1 to c4 are the states past the first to the fourth test.
 use mathlib.Core.Path.{sym, ◌∙◌}
 use Rattle.state.specs.Good.{good}
 use Rattle.conditions.proofs.Tests.{and-true, and-false, went_on, returned}
