@@ -1,32 +1,37 @@
--- Which view it is, before its part is taken, and what that says in document 01's terms.
-use Rattle.std.specs.Prelude.{ℕ, zero, suc, ◌+◌, List}
+-- Where a view begins; and which view it is, before its part is taken.
+use Rattle.std.specs.Prelude.{ℕ, zero, suc, ◌+◌, List, [], Result, Ok, Err}
 use Rattle.blocks.specs.Block.{block_at}
 use Rattle.access.specs.declared.types.Choice.{Choice}
 use Rattle.access.specs.declared.types.Choice.TheVariants as choice
-use Rattle.calls.specs.Call.{Answer, refused, bytes}
 use Rattle.calls.specs.Effect.{View, part, scratch}
+use Rattle.refusals.specs.declared.types.Refusal.{Refusal}
 
--- what is chosen, given the call's number and where the block is to be had
-abbrev pub choice_of : ℕ → View → Choice
-choice_of zero (part at len) = choice.Part at
-choice_of zero scratch = choice.Scratch
-choice_of (suc k) v = choice.Refused (suc k)
+-- "returns the block as a part of the images, or, if its disk is out, as the lent scratch": where the view begins, given the call's number,
+-- where the block is to be had, and where those two begin
+abbrev pub begins : ℕ → View → ℕ × ℕ → ℕ × ℕ → ℕ × ℕ
+begins zero (part at len) img scr = (img.0, at + img.1)
+begins zero scratch img scr = scr
+begins (suc k) v img scr = img
 
--- "returns the block as a part of the images, or, if its disk is out, as the lent scratch": where the view begins, given where those two
--- begin
-abbrev pub begins : Choice → ℕ × ℕ → ℕ × ℕ → ℕ × ℕ
-begins (choice.Refused k) img scr = img
-begins (choice.Part at) img scr = (img.0, at + img.1)
-begins choice.Scratch img scr = scr
+-- what is chosen of it
+abbrev pub choice_of : View → Choice
+choice_of (part at len) = choice.Part at
+choice_of scratch = choice.Scratch
 
--- the answer of a choice, given the block's size, the images, and the scratch as it is left
-abbrev pub choice_answer : Choice → ℕ → List ℕ → List ℕ → Answer
-choice_answer (choice.Refused k) len img scr = refused k
-choice_answer (choice.Part at) len img scr = bytes (block_at img at len)
-choice_answer choice.Scratch len img scr = bytes scr
+-- the bytes that a choice shows, given the block's size, the images, and the scratch as it is left ..
+abbrev pub chosen_bytes : Result Choice Refusal → ℕ → List ℕ → List ℕ → List ℕ
+chosen_bytes (Ok (choice.Part at)) len img scr = block_at img at len
+chosen_bytes (Ok choice.Scratch) len img scr = scr
+chosen_bytes (Err e) len img scr = []
 
--- the bytes of the images that a choice needs: up to the end of its part
-abbrev pub ends : Choice → ℕ → ℕ
-ends (choice.Refused k) len = 0
-ends (choice.Part at) len = at + len
-ends choice.Scratch len = 0
+-- .. where they begin ..
+abbrev pub chosen_start : Result Choice Refusal → ℕ × ℕ → ℕ × ℕ → ℕ × ℕ
+chosen_start (Ok (choice.Part at)) img scr = (img.0, at + img.1)
+chosen_start (Ok choice.Scratch) img scr = scr
+chosen_start (Err e) img scr = img
+
+-- .. and the bytes of the images that it needs: up to the end of its part
+abbrev pub ends : Result Choice Refusal → ℕ → ℕ
+ends (Ok (choice.Part at)) len = at + len
+ends (Ok choice.Scratch) len = 0
+ends (Err e) len = 0

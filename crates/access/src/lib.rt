@@ -8,5 +8,6 @@ mod viewing;
 mod writing;
 
 pub use reading::read;
+pub use types::Viewed;
 pub use viewing::view;
 pub use writing::write;

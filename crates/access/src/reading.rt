@@ -3,10 +3,11 @@ ghost use Rattle.std.specs.Prelude.{◌≡◌, length};
 ghost use Rattle.calls.specs.Call.{read, feed, on, number};
 ghost use Rattle.calls.specs.Table.{refusal_of};
 ghost use Rattle.calls.specs.Effect.{block_of, called};
+ghost use Rattle.refusals.specs.Answers.{number_of};
 
 use blocks::copy_out;
 use placement::{place_of, slot_of};
-use refusals::{is_absent, of_lent, of_reach, place_at, sum_others};
+use refusals::{Refusal, is_absent, of_lent, of_reach, place_at, sum_others};
 use state::{Record, geometry_of};
 
 // Block b, on a call that the table lets through.
@@ -16,23 +17,19 @@ fn fill(r: Record, images: &[u8], b: u64, block: &mut [u8])
 {
     let g = geometry_of(r);
     let q = place_of(g, b, slot_of(g, b)).block;
-    let health = r.health;
-    if is_absent(health, q.stripe, q.disk) {
+    if is_absent(r.health, q.stripe, q.disk) {
         sum_others(r, images, q.stripe, q.disk, block);
     } else {
         copy_out(images, place_at(r, q.stripe, q.disk), block);
     }
 }
 
-pub fn read(r: Record, images: &[u8], b: u64, block: &mut [u8]) -> u8
-    ensures answer { result ≡ number (called (on (read b) images.now block.old) r).answer }
+pub fn read(r: Record, images: &[u8], b: u64, block: &mut [u8]) -> Result<(), Refusal>
+    ensures answer { number_of result ≡ number (called (on (read b) images.now block.old) r).answer }
     ensures block { block.new ≡ (called (on (read b) images.now block.old) r).room }
 {
     let begun = of_lent(r, images.len());
-    let k = of_reach(begun, r, images.len(), b, block.len());
-    if k != 0 {
-        return k;
-    }
+    of_reach(begun, r, images.len(), b, block.len())?;
     fill(r, images, b, block);
-    0
+    Ok(())
 }

@@ -5,11 +5,12 @@ ghost use Rattle.calls.specs.Call.{write, feed, on, number};
 ghost use Rattle.calls.specs.Images.{stored_in};
 ghost use Rattle.calls.specs.Table.{refusal_of};
 ghost use Rattle.calls.specs.Effect.{write_stores, called};
+ghost use Rattle.refusals.specs.Answers.{number_of};
 
 use blocks::store_bytes;
 use parity::{fold_others, fold_parity};
 use placement::{place_of, slot_of};
-use refusals::{disks_of, is_absent, of_lent, of_reach, place_at};
+use refusals::{Refusal, disks_of, is_absent, of_lent, of_reach, place_at};
 use state::{Record, geometry_of};
 
 // The parity, then the data, on a call that the table lets through.
@@ -22,8 +23,7 @@ fn put(r: Record, images: &mut [u8], b: u64, bytes: &[u8])
     let x = place_of(g, b, slot_of(g, b));
     let q = x.block;
     let p = x.parity.disk;
-    let health = r.health;
-    if is_absent(health, q.stripe, q.disk) {
+    if is_absent(r.health, q.stripe, q.disk) {
         fold_others(
             images,
             disks_of(r) as usize,
@@ -36,21 +36,18 @@ fn put(r: Record, images: &mut [u8], b: u64, bytes: &[u8])
         return;
     }
     let at = place_at(r, q.stripe, q.disk);
-    if !is_absent(health, q.stripe, p) {
+    if !is_absent(r.health, q.stripe, p) {
         fold_parity(images, place_at(r, q.stripe, p), at, bytes);
     }
     store_bytes(images, at, bytes);
 }
 
-pub fn write(r: Record, images: &mut [u8], b: u64, bytes: &[u8]) -> u8
-    ensures answer { result ≡ number (called (on (write b bytes.now) images.old []) r).answer }
+pub fn write(r: Record, images: &mut [u8], b: u64, bytes: &[u8]) -> Result<(), Refusal>
+    ensures answer { number_of result ≡ number (called (on (write b bytes.now) images.old []) r).answer }
     ensures images { images.new ≡ (called (on (write b bytes.now) images.old []) r).images }
 {
     let begun = of_lent(r, images.len());
-    let k = of_reach(begun, r, images.len(), b, bytes.len());
-    if k != 0 {
-        return k;
-    }
+    of_reach(begun, r, images.len(), b, bytes.len())?;
     put(r, images, b, bytes);
-    0
+    Ok(())
 }

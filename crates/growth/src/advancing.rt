@@ -5,7 +5,7 @@ ghost use Rattle.layout.specs.Layout.{total_of};
 ghost use Rattle.layout.specs.Moves.{cursor_at};
 ghost use Rattle.state.specs.Good.{geometry, GoodRecord};
 ghost use Rattle.refusals.specs.Answers.{counted_answer, counted_record};
-ghost use Rattle.calls.specs.Call.{advance, feed, on};
+ghost use Rattle.calls.specs.Call.{advance, feed, on, made};
 ghost use Rattle.calls.specs.Images.{size, stored_in};
 ghost use Rattle.calls.specs.Table.{idle, refusal_of};
 ghost use Rattle.calls.specs.Effect.{move_stores, advance_stores, act, called};
@@ -13,7 +13,7 @@ ghost use Rattle.calls.specs.Effect.{move_stores, advance_stores, act, called};
 use blocks::move_block;
 use layout::Cursor;
 use placement::{cursor_of, next_move, total_of};
-use refusals::{Counted, due, of_advance, place_at};
+use refusals::{Progress, Refusal, due, of_advance, place_at};
 use state::{Record, geometry_of, with_moves};
 
 // The next move, which is the one at the cursor: the block to its new place, zeroes where it stood.
@@ -35,38 +35,33 @@ fn make_moves(r: Record, images: &mut [u8], count: u32)
     let n = r.old as u32;
     let m = r.new as u32;
     let mut at = cursor_of(n, m, r.moves);
-    let mut made = 0;
-    while made < count {
+    for made in 0..count {
         make_move(with_moves(r, r.moves + made), at, images);
         at = next_move(n, m, at);
-        made += 1;
     }
 }
 
 // The call once the table lets it through.
-fn make_due(r: Record, images: &mut [u8], k: u64) -> Counted
+fn make_due(r: Record, images: &mut [u8], k: u64) -> Progress
     requires { refusal_of r (feed (advance k) (length images.old) 0) ≡ 0 }
-    ensures answer { counted_answer result ≡ (act (on (advance k) images.old []) r).answer }
-    ensures state { counted_record r result ≡ (act (on (advance k) images.old []) r).state }
+    ensures answer { made result.made ≡ (act (on (advance k) images.old []) r).answer }
+    ensures state { result.rec ≡ (act (on (advance k) images.old []) r).state }
     ensures images { images.new ≡ (act (on (advance k) images.old []) r).images }
 {
     let left = total_of(geometry_of(r)) - r.moves;
     let count = due(k, left);
     make_moves(r, images, count);
-    Counted::Made {
-        count: count as u64,
-        record: with_moves(r, r.moves + count),
+    Progress {
+        made: count as u64,
+        rec: with_moves(r, r.moves + count),
     }
 }
 
-pub fn advance(r: Record, images: &mut [u8], k: u64) -> Counted
+pub fn advance(r: Record, images: &mut [u8], k: u64) -> Result<Progress, Refusal>
     ensures answer { counted_answer result ≡ (called (on (advance k) images.old []) r).answer }
     ensures state { counted_record r result ≡ (called (on (advance k) images.old []) r).state }
     ensures images { images.new ≡ (called (on (advance k) images.old []) r).images }
 {
-    let refused = of_advance(r, images.len(), k);
-    if refused != 0 {
-        return Counted::Refused(refused);
-    }
-    make_due(r, images, k)
+    of_advance(r, images.len(), k)?;
+    Ok(make_due(r, images, k))
 }

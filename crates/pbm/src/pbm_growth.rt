@@ -3,10 +3,10 @@ ghost use Rattle.std.specs.Prelude.{◌≡◌, [], ◌∷◌};
 ghost use Rattle.calls.specs.Call.{format, grow, advance, on, number, beside};
 ghost use Rattle.calls.specs.Effect.{called_bytes};
 
-use crate::closing::close;
-use crate::opening::is_readable;
-use refusals::{RECORD, progressed, stepped};
-use state::{RECORD_LENGTH, decode};
+use crate::closing::{close, close_counted};
+use crate::opening::opened;
+use refusals::Refusal;
+use state::RECORD_LENGTH;
 
 #[unsafe(no_mangle)]
 pub extern "C" fn pbm_format(
@@ -23,11 +23,9 @@ pub extern "C" fn pbm_format(
         (called_bytes (on (format n block stripes) images.old []) rec.old).images }
 {
     if rec.len() != RECORD_LENGTH {
-        return RECORD;
+        return u8::from(Refusal::Record);
     }
-    // (decoded for the answer in numbers: nothing is done with what it says, and the compiler leaves it out)
-    let s = stepped(decode(rec), growth::format(images, n, block, stripes));
-    close(rec, s.rec, s.number)
+    close(rec, growth::format(images, n, block, stripes))
 }
 
 #[unsafe(no_mangle)]
@@ -36,12 +34,10 @@ pub extern "C" fn pbm_grow(rec: &mut [u8], images: &mut [u8], m: u64) -> u8
     ensures state { rec.new ≡ (called_bytes (on (grow m) images.old []) rec.old).state }
     ensures images { images.new ≡ (called_bytes (on (grow m) images.old []) rec.old).images }
 {
-    if !is_readable(rec) {
-        return RECORD;
-    }
-    let r = decode(rec);
-    let s = stepped(r, growth::grow(r, images, m));
-    close(rec, s.rec, s.number)
+    let Some(r) = opened(rec) else {
+        return u8::from(Refusal::Record);
+    };
+    close(rec, growth::grow(r, images, m))
 }
 
 #[unsafe(no_mangle)]
@@ -52,14 +48,9 @@ pub extern "C" fn pbm_advance(rec: &mut [u8], images: &mut [u8], k: u64, made: &
     ensures state { rec.new ≡ (called_bytes (on (advance k) images.old []) rec.old).state }
     ensures images { images.new ≡ (called_bytes (on (advance k) images.old []) rec.old).images }
 {
-    if !is_readable(rec) {
+    let Some(r) = opened(rec) else {
         *made = 0;
-        return RECORD;
-    }
-    let r = decode(rec);
-    let p = progressed(r, growth::advance(r, images, k));
-    // (the count after the record: five instructions fewer; in pbm_continue, one more)
-    let number = close(rec, p.rec, p.count.number);
-    *made = p.count.made;
-    number
+        return u8::from(Refusal::Record);
+    };
+    close_counted(rec, made, growth::advance(r, images, k))
 }

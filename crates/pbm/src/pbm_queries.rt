@@ -1,12 +1,12 @@
 // The calls that answer from the record alone. The numbers are 0 until the call is known to be accepted.
-ghost use Rattle.std.specs.Prelude.{◌≡◌, cond, [], ◌∷◌};
+ghost use Rattle.std.specs.Prelude.{◌≡◌, [], ◌∷◌};
 ghost use Rattle.calls.specs.Call.{status, locate, owner, on, number, role_number, role_block, beside};
 ghost use Rattle.calls.specs.Effect.{called_bytes};
 
-use crate::opening::is_readable;
+use crate::opening::opened;
 use layout::Role;
-use refusals::{Located, Owned, RECORD, Report};
-use state::{decode, disk_byte, health_byte, stripes_done};
+use refusals::Refusal;
+use state::{disk_byte, health_byte, stripes_done};
 
 #[unsafe(no_mangle)]
 pub extern "C" fn pbm_status(
@@ -28,26 +28,20 @@ pub extern "C" fn pbm_status(
     *health = 0;
     *out = 0;
     *rebuilt = 0;
-    if !is_readable(rec) {
-        return RECORD;
-    }
-    let x = queries::status(decode(rec));
-    match x {
-        Report::Refused(k) => k,
-        Report::Figures {
-            capacity: c,
-            moves: t,
-            total: all,
-            health: h,
-        } => {
-            *capacity = c;
-            *moves = t;
-            *total = all;
-            *health = health_byte(h) as u64;
-            *out = disk_byte(h) as u64;
-            *rebuilt = stripes_done(h) as u64;
+    let Some(r) = opened(rec) else {
+        return u8::from(Refusal::Record);
+    };
+    match queries::status(r) {
+        Ok(x) => {
+            *capacity = x.capacity;
+            *moves = x.moves;
+            *total = x.total;
+            *health = health_byte(x.health) as u64;
+            *out = disk_byte(x.health) as u64;
+            *rebuilt = stripes_done(x.health) as u64;
             0
         }
+        Err(e) => u8::from(e),
     }
 }
 
@@ -68,19 +62,18 @@ pub extern "C" fn pbm_locate(
     *disk = 0;
     *parity = 0;
     *moved = 0;
-    if !is_readable(rec) {
-        return RECORD;
-    }
-    let x = queries::locate(decode(rec), b);
-    match x {
-        Located::Refused(k) => k,
-        Located::At(y) => {
-            *stripe = y.block.stripe as u64;
-            *disk = y.block.disk as u64;
-            *parity = y.parity.disk as u64;
-            *moved = one_if(y.moved);
+    let Some(r) = opened(rec) else {
+        return u8::from(Refusal::Record);
+    };
+    match queries::locate(r, b) {
+        Ok(x) => {
+            *stripe = x.block.stripe as u64;
+            *disk = x.block.disk as u64;
+            *parity = x.parity.disk as u64;
+            *moved = u64::from(x.moved);
             0
         }
+        Err(e) => u8::from(e),
     }
 }
 
@@ -92,24 +85,17 @@ pub extern "C" fn pbm_owner(rec: &[u8], s: u64, d: u64, role: &mut u64, block: &
 {
     *role = 0;
     *block = 0;
-    if !is_readable(rec) {
-        return RECORD;
-    }
-    let x = queries::owner(decode(rec), s, d);
-    match x {
-        Owned::Refused(k) => k,
-        Owned::By(o) => {
+    let Some(r) = opened(rec) else {
+        return u8::from(Refusal::Record);
+    };
+    match queries::owner(r, s, d) {
+        Ok(o) => {
             *role = role_number(o);
             *block = role_block(o);
             0
         }
+        Err(e) => u8::from(e),
     }
-}
-
-fn one_if(test: bool) -> u64
-    ensures number { result ≡ cond test 1 0 }
-{
-    if test { 1 } else { 0 }
 }
 
 fn role_number(o: Role) -> u64
@@ -126,8 +112,7 @@ fn role_block(o: Role) -> u64
     ensures block { result ≡ role_block o }
 {
     match o {
-        Role::Blank => 0,
-        Role::Parity => 0,
+        Role::Blank | Role::Parity => 0,
         Role::Data(b) => b as u64,
     }
 }

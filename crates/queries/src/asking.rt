@@ -3,72 +3,63 @@
 // move now done, of any growth, carried the block itself".
 ghost use Rattle.std.specs.Prelude.{◌≡◌, []};
 ghost use Rattle.refusals.specs.Answers.{report_answer, located_answer, owned_answer};
-ghost use Rattle.calls.specs.Call.{status, locate, owner, feed, on};
+ghost use Rattle.calls.specs.Call.{status, locate, owner, feed, on, figures, placed, owned};
 ghost use Rattle.calls.specs.Table.{refusal_of};
 ghost use Rattle.calls.specs.Effect.{act, called};
 
+use layout::{Role, Standing};
 use placement::{capacity_of, owner_of, place_of, slot_of, total_of};
-use refusals::{Located, Owned, Report, of_locate, of_owner, of_status};
+use refusals::{Figures, Refusal, of_locate, of_owner, of_status};
 use state::{Record, geometry_of};
 
 // Status once the table lets it through.
-fn figures_of(r: Record) -> Report
+fn figures_of(r: Record) -> Figures
     requires { refusal_of r (feed status 0 0) ≡ 0 }
-    ensures answer { report_answer result ≡ (act (on status [] []) r).answer }
+    ensures answer { figures result.capacity result.moves result.total result.health ≡ (act (on status [] []) r).answer }
 {
     let g = geometry_of(r);
-    let health = r.health;
-    Report::Figures {
+    Figures {
         capacity: capacity_of(g) as u64,
         moves: g.moves as u64,
         total: total_of(g) as u64,
-        health: health,
+        health: r.health,
     }
 }
 
-pub fn status(r: Record) -> Report
+pub fn status(r: Record) -> Result<Figures, Refusal>
     ensures answer { report_answer result ≡ (called (on status [] []) r).answer }
 {
-    let k = of_status(r);
-    if k != 0 {
-        return Report::Refused(k);
-    }
-    figures_of(r)
+    of_status(r)?;
+    Ok(figures_of(r))
 }
 
 // Locate once the table lets it through.
-fn standing_of(r: Record, b: u64) -> Located
+fn standing_of(r: Record, b: u64) -> Standing
     requires { refusal_of r (feed (locate b) 0 0) ≡ 0 }
-    ensures answer { located_answer result ≡ (act (on (locate b) [] []) r).answer }
+    ensures answer { placed result ≡ (act (on (locate b) [] []) r).answer }
 {
     let g = geometry_of(r);
-    Located::At(place_of(g, b, slot_of(g, b)))
+    place_of(g, b, slot_of(g, b))
 }
 
-pub fn locate(r: Record, b: u64) -> Located
+pub fn locate(r: Record, b: u64) -> Result<Standing, Refusal>
     ensures answer { located_answer result ≡ (called (on (locate b) [] []) r).answer }
 {
-    let k = of_locate(r, b);
-    if k != 0 {
-        return Located::Refused(k);
-    }
-    standing_of(r, b)
+    of_locate(r, b)?;
+    Ok(standing_of(r, b))
 }
 
 // Owner once the table lets it through.
-fn role_at(r: Record, s: u64, d: u64) -> Owned
+fn role_at(r: Record, s: u64, d: u64) -> Role
     requires { refusal_of r (feed (owner s d) 0 0) ≡ 0 }
-    ensures answer { owned_answer result ≡ (act (on (owner s d) [] []) r).answer }
+    ensures answer { owned result ≡ (act (on (owner s d) [] []) r).answer }
 {
-    Owned::By(owner_of(geometry_of(r), s as u32, d as u32))
+    owner_of(geometry_of(r), s as u32, d as u32)
 }
 
-pub fn owner(r: Record, s: u64, d: u64) -> Owned
+pub fn owner(r: Record, s: u64, d: u64) -> Result<Role, Refusal>
     ensures answer { owned_answer result ≡ (called (on (owner s d) [] []) r).answer }
 {
-    let k = of_owner(r, s, d);
-    if k != 0 {
-        return Owned::Refused(k);
-    }
-    role_at(r, s, d)
+    of_owner(r, s, d)?;
+    Ok(role_at(r, s, d))
 }

@@ -1,53 +1,75 @@
--- What the functions' enums say in document 01's terms, case by case. "For an answer that is an enum, a definition gives this paper's
--- number and values for each case." (Numbers alone are read off an answer by `number`, `shown` and `beside` of Call.)
+-- What the functions' enums and structs say in document 01's terms, case by case. "For an answer that is an enum, a definition gives this
+-- paper's number and values for each case." (Numbers alone are read off an answer by `number`, `shown` and `beside` of Call.)
+use Rattle.std.specs.Prelude.{ℕ, Option, None, Some, Result, Ok, Err}
+use Rattle.layout.specs.declared.Role.{Role}
+use Rattle.layout.specs.declared.Standing.{Standing}
 use Rattle.state.specs.declared.types.Record.{Record}
-use Rattle.refusals.specs.declared.types.Changed.{Changed}
-use Rattle.refusals.specs.declared.types.Changed.TheVariants as changed
-use Rattle.refusals.specs.declared.types.Counted.{Counted}
-use Rattle.refusals.specs.declared.types.Counted.TheVariants as counting
-use Rattle.refusals.specs.declared.types.Report.{Report}
-use Rattle.refusals.specs.declared.types.Report.TheVariants as report
-use Rattle.refusals.specs.declared.types.Located.{Located}
-use Rattle.refusals.specs.declared.types.Located.TheVariants as located
-use Rattle.refusals.specs.declared.types.Owned.{Owned}
-use Rattle.refusals.specs.declared.types.Owned.TheVariants as owning
+use Rattle.refusals.specs.declared.types.Refusal.{Refusal}
+use Rattle.refusals.specs.declared.types.Refusal.TheVariants as refusal
+use Rattle.refusals.specs.declared.types.Progress.{Progress}
+use Rattle.refusals.specs.declared.types.Figures.{Figures}
 use Rattle.refusals.specs.declared.types.Swept.{Swept}
-use Rattle.refusals.specs.declared.types.Swept.TheVariants as sweeping
 use Rattle.calls.specs.Call.{Answer, refused, done, made, all_sound, unsound_at, figures, placed, owned}
 
--- format, grow, out and begin: the answer, and the record that is left of r
-abbrev pub changed_answer : Changed → Answer
-changed_answer (changed.Refused k) = refused k
-changed_answer (changed.Done x) = done
+-- the numbers of the refusal words
+abbrev pub refusal_number : Refusal → ℕ
+refusal_number refusal.Record = 1
+refusal_number refusal.Lost = 2
+refusal_number refusal.Degraded = 3
+refusal_number refusal.Grown = 4
+refusal_number refusal.NothingToMove = 5
+refusal_number refusal.Geometry = 6
+refusal_number refusal.Images = 7
+refusal_number refusal.PastTheEnd = 8
+refusal_number refusal.BlockLength = 9
+refusal_number refusal.Disk = 10
 
-abbrev pub changed_record : Record → Changed → Record
-changed_record r (changed.Refused k) = r
-changed_record r (changed.Done x) = x
+-- "0 is done": what is accepted has that number
+abbrev pub number_of : {T : Type 0} → Result T Refusal → ℕ
+number_of (Ok x) = 0
+number_of (Err e) = refusal_number e
+
+-- "A refusal returns zeros beside its number": here in place of a count
+abbrev pub count_of : Result ℕ Refusal → ℕ
+count_of (Ok k) = k
+count_of (Err e) = 0
+
+-- format, grow, out and begin: the answer, and the record that is left of r
+abbrev pub changed_answer : Result Record Refusal → Answer
+changed_answer (Ok x) = done
+changed_answer (Err e) = refused (refusal_number e)
+
+abbrev pub changed_record : Record → Result Record Refusal → Record
+changed_record r (Ok x) = x
+changed_record r (Err e) = r
 
 -- advance and continue
-abbrev pub counted_answer : Counted → Answer
-counted_answer (counting.Refused k) = refused k
-counted_answer (counting.Made k x) = made k
+abbrev pub counted_answer : Result Progress Refusal → Answer
+counted_answer (Ok x) = made x.made
+counted_answer (Err e) = refused (refusal_number e)
 
-abbrev pub counted_record : Record → Counted → Record
-counted_record r (counting.Refused k) = r
-counted_record r (counting.Made k x) = x
+abbrev pub counted_record : Record → Result Progress Refusal → Record
+counted_record r (Ok x) = x.rec
+counted_record r (Err e) = r
 
 -- status, locate and owner
-abbrev pub report_answer : Report → Answer
-report_answer (report.Refused k) = refused k
-report_answer (report.Figures c t total h) = figures c t total h
+abbrev pub report_answer : Result Figures Refusal → Answer
+report_answer (Ok x) = figures x.capacity x.moves x.total x.health
+report_answer (Err e) = refused (refusal_number e)
 
-abbrev pub located_answer : Located → Answer
-located_answer (located.Refused k) = refused k
-located_answer (located.At x) = placed x
+abbrev pub located_answer : Result Standing Refusal → Answer
+located_answer (Ok x) = placed x
+located_answer (Err e) = refused (refusal_number e)
 
-abbrev pub owned_answer : Owned → Answer
-owned_answer (owning.Refused k) = refused k
-owned_answer (owning.By o) = owned o
+abbrev pub owned_answer : Result Role Refusal → Answer
+owned_answer (Ok o) = owned o
+owned_answer (Err e) = refused (refusal_number e)
 
 -- sweep
-abbrev pub swept_answer : Swept → Answer
-swept_answer (sweeping.Refused k) = refused k
-swept_answer (sweeping.Sound x) = all_sound x
-swept_answer (sweeping.Unsound S x) = unsound_at S x
+abbrev pub found_answer : Option ℕ → ℕ → Answer
+found_answer None x = all_sound x
+found_answer (Some S) x = unsound_at S x
+
+abbrev pub swept_answer : Result Swept Refusal → Answer
+swept_answer (Ok x) = found_answer x.unsound x.read
+swept_answer (Err e) = refused (refusal_number e)

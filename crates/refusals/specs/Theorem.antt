@@ -1,45 +1,50 @@
--- What the enums say, value by value, for every value: no field of one stands for another. (The prover has a value's fields by their order:
--- that of their names is held by tests/tests/contracts.rs.) `tells` of proofs/Theorem.antt proves it.
-use Rattle.std.specs.Prelude.{ℕ, ◌≡◌, ◌⊎◌}
+-- What the enums and structs say, value by value, for every value: no field of one stands for another. (The prover has a value's fields by
+-- their order: that of their names is held by tests/tests/contracts.rs.) `tells` of proofs/Theorem.antt proves it.
+use Rattle.std.specs.Prelude.{ℕ, ◌≡◌, ◌⊎◌, ◌≤◌, Option, None, Some, Result, Ok, Err}
 use Rattle.layout.specs.declared.Role.{Role}
 use Rattle.layout.specs.declared.Standing.{Standing}
 use Rattle.state.specs.declared.types.Health.{Health}
 use Rattle.state.specs.declared.types.Record.{Record}
-use Rattle.refusals.specs.declared.types.Changed.{Changed}
-use Rattle.refusals.specs.declared.types.Changed.TheVariants as changed
-use Rattle.refusals.specs.declared.types.Counted.{Counted}
-use Rattle.refusals.specs.declared.types.Counted.TheVariants as counting
-use Rattle.refusals.specs.declared.types.Count.{Count}
-use Rattle.refusals.specs.declared.types.Report.{Report}
-use Rattle.refusals.specs.declared.types.Report.TheVariants as report
-use Rattle.refusals.specs.declared.types.Located.{Located}
-use Rattle.refusals.specs.declared.types.Located.TheVariants as located
-use Rattle.refusals.specs.declared.types.Owned.{Owned}
-use Rattle.refusals.specs.declared.types.Owned.TheVariants as owning
+use Rattle.refusals.specs.declared.types.Refusal.{Refusal}
+use Rattle.refusals.specs.declared.types.Refusal.TheVariants as refusal
+use Rattle.refusals.specs.declared.types.Progress.{Progress}
+use Rattle.refusals.specs.declared.types.Figures.{Figures}
 use Rattle.refusals.specs.declared.types.Swept.{Swept}
-use Rattle.refusals.specs.declared.types.Swept.TheVariants as sweeping
 use Rattle.calls.specs.Call.{refused, done, made, all_sound, unsound_at, figures, placed, owned}
-use Rattle.refusals.specs.Answers.{changed_answer, changed_record, counted_answer, counted_record, report_answer}
-use Rattle.refusals.specs.Answers.{located_answer, owned_answer, swept_answer}
+use Rattle.refusals.specs.Answers.{refusal_number, number_of, count_of, changed_answer, changed_record, counted_answer, counted_record}
+use Rattle.refusals.specs.Answers.{report_answer, located_answer, owned_answer, swept_answer}
 
 pub record Tells : Type 0 where
-  pub refusals : (k : ℕ) → (changed_answer (changed.Refused k) ≡ refused k) × (counted_answer (counting.Refused k) ≡ refused k)
-      × (report_answer (report.Refused k) ≡ refused k) × (located_answer (located.Refused k) ≡ refused k)
-      × (owned_answer (owning.Refused k) ≡ refused k) × (swept_answer (sweeping.Refused k) ≡ refused k)
-  pub unchanged : (r : Record) (k : ℕ) → (changed_record r (changed.Refused k) ≡ r) × (counted_record r (counting.Refused k) ≡ r)
-  pub changes : (r x : Record) → (changed_answer (changed.Done x) ≡ done) × (changed_record r (changed.Done x) ≡ x)
-  pub counts : (r x : Record) (k : ℕ) → (counted_answer (counting.Made k x) ≡ made k) × (counted_record r (counting.Made k x) ≡ x)
-  pub statuses : (c t total : ℕ) (h : Health) → report_answer (report.Figures c t total h) ≡ figures c t total h
-  pub places : (x : Standing) → located_answer (located.At x) ≡ placed x
-  pub owners : (o : Role) → owned_answer (owning.By o) ≡ owned o
-  pub sweeps : (S x : ℕ) → (swept_answer (sweeping.Sound x) ≡ all_sound x) × (swept_answer (sweeping.Unsound S x) ≡ unsound_at S x)
+  -- document 01's words, in its order
+  pub numbers : (refusal_number refusal.Record ≡ 1) × (refusal_number refusal.Lost ≡ 2) × (refusal_number refusal.Degraded ≡ 3)
+      × (refusal_number refusal.Grown ≡ 4) × (refusal_number refusal.NothingToMove ≡ 5) × (refusal_number refusal.Geometry ≡ 6)
+      × (refusal_number refusal.Images ≡ 7) × (refusal_number refusal.PastTheEnd ≡ 8) × (refusal_number refusal.BlockLength ≡ 9)
+      × (refusal_number refusal.Disk ≡ 10)
+  pub no_other_number : (e : Refusal) → (1 ≤ refusal_number e) × (refusal_number e ≤ 10)
+  pub in_numbers : (e : Refusal) → (number_of {T = Unit {0}} (Ok tt) ≡ 0) × (number_of {T = Unit {0}} (Err e) ≡ refusal_number e)
+  pub beside : (k : ℕ) (e : Refusal) → (number_of (Ok k) ≡ 0) × (number_of {T = ℕ} (Err e) ≡ refusal_number e)
+      × (count_of (Ok k) ≡ k) × (count_of (Err e) ≡ 0)
+  pub refusals : (e : Refusal) → let k = refusal_number e in (changed_answer (Err e) ≡ refused k) × (counted_answer (Err e) ≡ refused k)
+      × (report_answer (Err e) ≡ refused k) × (located_answer (Err e) ≡ refused k)
+      × (owned_answer (Err e) ≡ refused k) × (swept_answer (Err e) ≡ refused k)
+  pub unchanged : (r : Record) (e : Refusal) → (changed_record r (Err e) ≡ r) × (counted_record r (Err e) ≡ r)
+  pub changes : (r x : Record) → (changed_answer (Ok x) ≡ done) × (changed_record r (Ok x) ≡ x)
+  pub counts : (r x : Record) (k : ℕ) → (counted_answer (Ok (record { made = k; rec = x })) ≡ made k)
+      × (counted_record r (Ok (record { made = k; rec = x })) ≡ x)
+  pub statuses : (c t all : ℕ) (h : Health) →
+      report_answer (Ok (record { capacity = c; moves = t; total = all; health = h })) ≡ figures c t all h
+  pub places : (x : Standing) → located_answer (Ok x) ≡ placed x
+  pub owners : (o : Role) → owned_answer (Ok o) ≡ owned o
+  pub sweeps : (S x : ℕ) → (swept_answer (Ok (record { unsound = None; read = x })) ≡ all_sound x)
+      × (swept_answer (Ok (record { unsound = Some S; read = x })) ≡ unsound_at S x)
   -- no enum has another value, and no struct another field
-  pub no_other_change : (x : Changed) → ((k : ℕ) × (x ≡ changed.Refused k)) ⊎ ((r : Record) × (x ≡ changed.Done r))
-  pub no_other_count : (x : Counted) → ((k : ℕ) × (x ≡ counting.Refused k)) ⊎ ((k : ℕ) × (r : Record) × (x ≡ counting.Made k r))
-  pub no_other_status : (x : Report) → ((k : ℕ) × (x ≡ report.Refused k))
-      ⊎ ((c : ℕ) × (t : ℕ) × (total : ℕ) × (h : Health) × (x ≡ report.Figures c t total h))
-  pub no_other_place : (x : Located) → ((k : ℕ) × (x ≡ located.Refused k)) ⊎ ((y : Standing) × (x ≡ located.At y))
-  pub no_other_owner : (x : Owned) → ((k : ℕ) × (x ≡ owning.Refused k)) ⊎ ((o : Role) × (x ≡ owning.By o))
-  pub no_other_sweep : (x : Swept) → ((k : ℕ) × (x ≡ sweeping.Refused k))
-      ⊎ (((y : ℕ) × (x ≡ sweeping.Sound y)) ⊎ ((S : ℕ) × (y : ℕ) × (x ≡ sweeping.Unsound S y)))
-  pub no_other_field : (x : Count) → x ≡ record { number = x.number; made = x.made }
+  pub no_other_change : (x : Result Record Refusal) → ((e : Refusal) × (x ≡ Err e)) ⊎ ((r : Record) × (x ≡ Ok r))
+  pub no_other_count : (x : Result Progress Refusal) → ((e : Refusal) × (x ≡ Err e)) ⊎ ((p : Progress) × (x ≡ Ok p))
+  pub no_other_status : (x : Result Figures Refusal) → ((e : Refusal) × (x ≡ Err e)) ⊎ ((f : Figures) × (x ≡ Ok f))
+  pub no_other_place : (x : Result Standing Refusal) → ((e : Refusal) × (x ≡ Err e)) ⊎ ((y : Standing) × (x ≡ Ok y))
+  pub no_other_owner : (x : Result Role Refusal) → ((e : Refusal) × (x ≡ Err e)) ⊎ ((o : Role) × (x ≡ Ok o))
+  pub no_other_sweep : (x : Result Swept Refusal) → ((e : Refusal) × (x ≡ Err e)) ⊎ ((y : Swept) × (x ≡ Ok y))
+  pub no_other_find : (x : Option ℕ) → (x ≡ None) ⊎ ((S : ℕ) × (x ≡ Some S))
+  pub no_other_field : (p : Progress) (f : Figures) (s : Swept) → (p ≡ record { made = p.made; rec = p.rec })
+      × (f ≡ record { capacity = f.capacity; moves = f.moves; total = f.total; health = f.health })
+      × (s ≡ record { unsound = s.unsound; read = s.read })

@@ -1,39 +1,26 @@
-// The answers of calls that may change the record, in numbers, with the record that is left of r.
+// Answers in numbers.
 ghost use Rattle.std.specs.Prelude.{◌≡◌};
-ghost use Rattle.refusals.specs.Answers.{changed_answer, changed_record, counted_answer, counted_record};
-ghost use Rattle.calls.specs.Call.{number, count};
+ghost use Rattle.calls.specs.Call.{count};
+ghost use Rattle.refusals.specs.Answers.{number_of, counted_answer};
 
-use crate::types::{Changed, Count, Counted, Progress, Step};
-use state::Record;
+use crate::types::{Progress, Refusal};
 
-pub fn stepped(r: Record, x: Changed) -> Step
-    ensures answer { result.number ≡ number (changed_answer x) }
-    ensures state { result.rec ≡ changed_record r x }
+// 0, or the refusal's number.
+pub fn number_of(x: Result<(), Refusal>) -> u8
+    ensures number { result ≡ number_of x }
 {
     match x {
-        Changed::Refused(k) => Step { rec: r, number: k },
-        Changed::Done(y) => Step { rec: y, number: 0 },
+        Ok(()) => 0,
+        Err(e) => u8::from(e),
     }
 }
 
-pub fn progressed(r: Record, x: Counted) -> Progress
-    ensures answer { (result.count.number ≡ number (counted_answer x)) × (result.count.made ≡ count (counted_answer x)) }
-    ensures state { result.rec ≡ counted_record r x }
+// The moves or stripes made, beside the number: by a refused call, none.
+pub fn made_in(x: Result<Progress, Refusal>) -> u64
+    ensures count { result ≡ count (counted_answer x) }
 {
     match x {
-        Counted::Refused(k) => {
-            let c = Count { number: k, made: 0 };
-            Progress { rec: r, count: c }
-        }
-        Counted::Made { count, record } => {
-            let c = Count {
-                number: 0,
-                made: count,
-            };
-            Progress {
-                rec: record,
-                count: c,
-            }
-        }
+        Ok(done) => done.made,
+        Err(_) => 0,
     }
 }

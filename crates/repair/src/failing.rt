@@ -5,26 +5,21 @@ ghost use Rattle.calls.specs.Call.{out, feed, on};
 ghost use Rattle.calls.specs.Table.{refusal_of};
 ghost use Rattle.calls.specs.Effect.{act, called};
 
-use refusals::{Changed, after_out, of_out};
+use refusals::{Refusal, after_out, of_out};
 use state::{Record, with_health};
 
 // The call once the table lets it through.
-fn take_out(r: Record, d: u64) -> Changed
+fn take_out(r: Record, d: u64) -> Record
     requires { refusal_of r (feed (out d) 0 0) ≡ 0 }
-    ensures answer { changed_answer result ≡ (act (on (out d) [] []) r).answer }
-    ensures state { changed_record r result ≡ (act (on (out d) [] []) r).state }
+    ensures state { result ≡ (act (on (out d) [] []) r).state }
 {
-    let health = r.health;
-    Changed::Done(with_health(r, after_out(health, d as u8)))
+    with_health(r, after_out(r.health, d as u8))
 }
 
-pub fn out(r: Record, d: u64) -> Changed
+pub fn out(r: Record, d: u64) -> Result<Record, Refusal>
     ensures answer { changed_answer result ≡ (called (on (out d) [] []) r).answer }
     ensures state { changed_record r result ≡ (called (on (out d) [] []) r).state }
 {
-    let k = of_out(r, d);
-    if k != 0 {
-        return Changed::Refused(k);
-    }
-    take_out(r, d)
+    of_out(r, d)?;
+    Ok(take_out(r, d))
 }

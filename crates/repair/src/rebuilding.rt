@@ -3,13 +3,13 @@
 ghost use Rattle.std.specs.Prelude.{◌≡◌, [], ◌+◌, ◌≤◌, ◌<◌, length};
 ghost use Rattle.state.specs.Good.{GoodRecord};
 ghost use Rattle.refusals.specs.Answers.{changed_answer, changed_record, counted_answer, counted_record};
-ghost use Rattle.calls.specs.Call.{begin, continue, feed, on};
+ghost use Rattle.calls.specs.Call.{begin, continue, feed, on, made};
 ghost use Rattle.calls.specs.Images.{disks_of, size, others_in, stored_in, fill_disk};
 ghost use Rattle.calls.specs.Table.{refusal_of};
 ghost use Rattle.calls.specs.Effect.{act, called};
 
 use blocks::rebuild_place;
-use refusals::{Changed, Counted, disks_of, due, of_begin, of_continue, rebuilt_to};
+use refusals::{Progress, Refusal, disks_of, due, of_begin, of_continue, rebuilt_to};
 use state::{Health, Record, disk_byte, stripes_done, with_health};
 
 // Disk d of `count` stripes from `first` on, each summed into `block` and then stored: two slices are told apart once and for all, two
@@ -22,10 +22,8 @@ fn fill_disk(r: Record, images: &mut [u8], d: u64, first: usize, count: usize, b
 {
     let disks = disks_of(r) as usize;
     let stripes = r.stripes as usize;
-    let mut made = 0;
-    while made < count {
+    for made in 0..count {
         rebuild_place(images, disks, stripes, first + made, d as usize, block);
-        made += 1;
     }
 }
 
@@ -47,59 +45,46 @@ fn fill_disk_alone(r: Record, images: &mut [u8], d: u64, first: usize, count: us
 }
 
 // Begin once the table lets it through. The images are for the contract alone.
-fn start_rebuild(r: Record, images: &[u8], d: u64) -> Changed
+fn start_rebuild(r: Record, images: &[u8], d: u64) -> Record
     requires { refusal_of r (feed (begin d) (length images.now) 0) ≡ 0 }
-    ensures answer { changed_answer result ≡ (act (on (begin d) images.now []) r).answer }
-    ensures state { changed_record r result ≡ (act (on (begin d) images.now []) r).state }
+    ensures state { result ≡ (act (on (begin d) images.now []) r).state }
 {
-    Changed::Done(with_health(
-        r,
-        Health::Rebuilding {
-            disk: d as u8,
-            done: 0,
-        },
-    ))
+    let disk = d as u8;
+    with_health(r, Health::Rebuilding { disk, done: 0 })
 }
 
 // Continue once the table lets it through.
-fn rebuild_due(r: Record, images: &mut [u8], k: u64) -> Counted
+fn rebuild_due(r: Record, images: &mut [u8], k: u64) -> Progress
     requires { refusal_of r (feed (continue k) (length images.old) 0) ≡ 0 }
-    ensures answer { counted_answer result ≡ (act (on (continue k) images.old []) r).answer }
-    ensures state { counted_record r result ≡ (act (on (continue k) images.old []) r).state }
+    ensures answer { made result.made ≡ (act (on (continue k) images.old []) r).answer }
+    ensures state { result.rec ≡ (act (on (continue k) images.old []) r).state }
     ensures images { images.new ≡ (act (on (continue k) images.old []) r).images }
 {
-    let health = r.health;
-    let disk = disk_byte(health);
-    let done = stripes_done(health);
+    let disk = disk_byte(r.health);
+    let done = stripes_done(r.health);
     let count = due(k, r.stripes - done);
     fill_disk_alone(r, images, disk as u64, done as usize, count as usize);
-    Counted::Made {
-        count: count as u64,
-        record: with_health(r, rebuilt_to(r.stripes, disk, done + count)),
+    Progress {
+        made: count as u64,
+        rec: with_health(r, rebuilt_to(r.stripes, disk, done + count)),
     }
 }
 
 // Begins to rebuild disk d. The images are lent for their length.
-pub fn begin_rebuild(r: Record, images: &[u8], d: u64) -> Changed
+pub fn begin_rebuild(r: Record, images: &[u8], d: u64) -> Result<Record, Refusal>
     ensures answer { changed_answer result ≡ (called (on (begin d) images.now []) r).answer }
     ensures state { changed_record r result ≡ (called (on (begin d) images.now []) r).state }
 {
-    let k = of_begin(r, images.len(), d);
-    if k != 0 {
-        return Changed::Refused(k);
-    }
-    start_rebuild(r, images, d)
+    of_begin(r, images.len(), d)?;
+    Ok(start_rebuild(r, images, d))
 }
 
 // Makes the next k stripes of the disk that is being rebuilt, or all that are left.
-pub fn continue_rebuild(r: Record, images: &mut [u8], k: u64) -> Counted
+pub fn continue_rebuild(r: Record, images: &mut [u8], k: u64) -> Result<Progress, Refusal>
     ensures answer { counted_answer result ≡ (called (on (continue k) images.old []) r).answer }
     ensures state { counted_record r result ≡ (called (on (continue k) images.old []) r).state }
     ensures images { images.new ≡ (called (on (continue k) images.old []) r).images }
 {
-    let refused = of_continue(r, images.len(), k);
-    if refused != 0 {
-        return Counted::Refused(refused);
-    }
-    rebuild_due(r, images, k)
+    of_continue(r, images.len(), k)?;
+    Ok(rebuild_due(r, images, k))
 }

@@ -7,7 +7,7 @@ ghost use Rattle.blocks.specs.Block.{is_zeros};
 ghost use Rattle.blocks.specs.Xor.{xor_all};
 ghost use Rattle.state.specs.declared.types.Health.TheVariants.{Whole};
 ghost use Rattle.state.specs.Good.{geometry, GoodRecord};
-ghost use Rattle.refusals.specs.Answers.{swept_answer};
+ghost use Rattle.refusals.specs.Answers.{found_answer, swept_answer};
 ghost use Rattle.calls.specs.Call.{sweep, feed, on};
 ghost use Rattle.calls.specs.Images.{disks_of, size};
 ghost use Rattle.calls.specs.Sound.{seen_stripe, blanks_zero, is_sound, unsound_stripes};
@@ -16,7 +16,7 @@ ghost use Rattle.calls.specs.Effect.{swept_to, act, called};
 
 use blocks::{GROUP, Group, cancels, is_zero, xor_others};
 use placement::{is_taken, open_stripes, stripe_of};
-use refusals::{Swept, disks_of, of_sweep, place_at};
+use refusals::{Refusal, Swept, disks_of, of_sweep, place_at};
 use state::{Record, geometry_of};
 
 // Do the places of stripe s on the first k disks xor to zero? If they are many, the first are summed in block ahead of the others: side by
@@ -49,15 +49,12 @@ fn blanks_are_zero(r: Record, images: &[u8], s: u32) -> bool
 {
     let g = geometry_of(r);
     let x = stripe_of(g.old, g.new, s);
-    let disks = g.old + g.new;
-    let mut d = 0;
-    while d < disks {
+    for d in 0..g.old + g.new {
         if !is_taken(g.old, g.new, g.moves, x, d) {
             if !is_zero(images, place_at(r, s, d), r.block as usize) {
                 return false;
             }
         }
-        d += 1;
     }
     true
 }
@@ -68,13 +65,11 @@ fn new_are_zero(r: Record, images: &[u8], s: u32) -> bool
         × (length images.now ≡ size r) }
     ensures answer { result ≡ blanks_zero r images.now s (disks_of r) }
 {
-    let disks = r.old as u32 + r.new as u32;
-    let mut d = r.old as u32;
-    while d < disks {
+    let old = r.old as u32;
+    for d in old..old + r.new as u32 {
         if !is_zero(images, place_at(r, s, d), r.block as usize) {
             return false;
         }
-        d += 1;
     }
     true
 }
@@ -115,38 +110,36 @@ fn is_sound(r: Record, images: &[u8], full: u32, s: u32, block: &mut [u8]) -> bo
 // Looks at stripe after stripe, up to the first that is unsound. Sums are made in block.
 fn look(r: Record, images: &[u8], block: &mut [u8]) -> Swept
     requires { GoodRecord r × (r.health ≡ Whole) × (length images.now ≡ size r) × (length block.old ≡ r.block) }
-    ensures answer { swept_answer result ≡ swept_to r.stripes (unsound_stripes r images.now) }
+    ensures answer { found_answer result.unsound result.read ≡ swept_to r.stripes (unsound_stripes r images.now) }
 {
     let full = open_stripes(geometry_of(r));
-    let mut s = 0;
-    while s < r.stripes {
+    for s in 0..r.stripes {
         if !is_sound(r, images, full, s, block) {
-            return Swept::Unsound {
-                stripe: s as u64,
+            return Swept {
+                unsound: Some(s as u64),
                 read: s as u64 + 1,
             };
         }
-        s += 1;
     }
-    Swept::Sound { read: s as u64 }
+    Swept {
+        unsound: None,
+        read: r.stripes as u64,
+    }
 }
 
 // The call once the table lets it through, with a block of its own to sum in.
 fn look_alone(r: Record, images: &[u8]) -> Swept
     requires { refusal_of r (feed sweep (length images.now) 0) ≡ 0 }
-    ensures answer { swept_answer result ≡ (act (on sweep images.now []) r).answer }
+    ensures answer { found_answer result.unsound result.read ≡ (act (on sweep images.now []) r).answer }
 {
     let mut block = [0u8; 4096];
     let len = r.block as usize;
     look(r, images, &mut block[..len])
 }
 
-pub fn sweep(r: Record, images: &[u8]) -> Swept
+pub fn sweep(r: Record, images: &[u8]) -> Result<Swept, Refusal>
     ensures answer { swept_answer result ≡ (called (on sweep images.now []) r).answer }
 {
-    let k = of_sweep(r, images.len());
-    if k != 0 {
-        return Swept::Refused(k);
-    }
-    look_alone(r, images)
+    of_sweep(r, images.len())?;
+    Ok(look_alone(r, images))
 }

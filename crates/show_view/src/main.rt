@@ -5,6 +5,7 @@
 
 ghost use Rattle.std.specs.Prelude.{◌≡◌, ◌≤◌, length, take};
 
+use refusals::number_of;
 use state::Record;
 use std::io;
 use viewer::{
@@ -12,7 +13,7 @@ use viewer::{
     without, write_marks,
 };
 
-// One view; what it leaves of the scratch is returned. The number is 255 before the call, which no call answers.
+// One view; what it leaves of the scratch is returned.
 fn show_one<'a>(
     rt: HostRuntime,
     scratch: &'a mut [u8],
@@ -20,11 +21,9 @@ fn show_one<'a>(
     images: &'a [u8],
     b: u64,
 ) -> io::Result<&'a [u8]> {
-    let mut left = images;
-    let mut number = 255u8;
-    let shown = view(r, images, b, scratch, &mut left, &mut number);
-    print_view(rt, number, shown)?;
-    Ok(left)
+    let x = view(r, images, b, scratch);
+    print_view(rt, number_of(x.outcome), x.view)?;
+    Ok(x.left)
 }
 
 // One case.
@@ -144,8 +143,7 @@ fn show_zone_end(rt: HostRuntime, three: Record, images: &mut [u8]) -> io::Resul
 }
 
 fn show_new_block(rt: HostRuntime, six: Record, images: &mut [u8]) -> io::Result<()> {
-    let bytes = mark(30);
-    access::write(six, images, 30, &bytes);
+    let _ = access::write(six, images, 30, &mark(30));
     show(rt, six, images, 30, b"6 moves made, written")?;
     show_without(rt, 3, six, images, 30, b"6 moves made, written, disk 3 out")
 }
@@ -171,7 +169,7 @@ fn show_growth(rt: HostRuntime, r: Record, images: &mut [u8]) -> io::Result<()> 
 // One stripe on 3 disks, with blocks as long as `bytes`, which block b is written with. Block 0 is on disk 2, block 1 on disk 1.
 fn one_stripe(images: &mut [u8], b: u64, bytes: &[u8]) -> Record {
     let r = formatted(no_array(), images, 3, bytes.len() as u64, 1);
-    access::write(r, images, b, bytes);
+    let _ = access::write(r, images, b, bytes);
     r
 }
 

@@ -18,10 +18,7 @@ pub fn write_marks(r: Record, images: &mut [u8], count: u64)
     requires { count ≤ 105 }
     ensures { images.new ≡ marked r images.old count }
 {
-    let mut b = 0;
-    while b < count {
-        let bytes = mark(b);
-        access::write(r, images, b, &bytes);
-        b += 1;
+    for b in 0..count {
+        let _ = access::write(r, images, b, &mark(b));
     }
 }

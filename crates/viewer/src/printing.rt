@@ -6,7 +6,7 @@ use std::io::Write;
 
 // A space and a number for each byte.
 fn print_bytes(rt: HostRuntime, s: &[u8]) -> io::Result<()> {
-    if s.len() == 0 {
+    if s.is_empty() {
         rt.stdout().write_all(b" empty")?;
     }
     for x in s {

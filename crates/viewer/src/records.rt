@@ -1,4 +1,4 @@
-// Calls of `lent` on a record that stands in a local: it is lent, and what the call leaves in it is returned.
+// Calls of `lent` on a record that stands in a local: it is lent, and what the call leaves in it is returned; by a refused call, as it was.
 ghost use Rattle.std.specs.Prelude.{◌≡◌, []};
 ghost use Rattle.calls.specs.Call.{format, grow, advance, out, begin, continue, on};
 ghost use Rattle.calls.specs.Effect.{called};
@@ -10,7 +10,7 @@ pub fn grown(mut r: Record, images: &mut [u8], m: u64) -> Record
     ensures state { result ≡ (called (on (grow m) images.old []) r).state }
     ensures images { images.new ≡ (called (on (grow m) images.old []) r).images }
 {
-    lent::grow(&mut r, images, m);
+    let _ = lent::grow(&mut r, images, m);
     r
 }
 
@@ -19,7 +19,7 @@ pub fn moved(mut r: Record, images: &mut [u8], k: u64) -> Record
     ensures state { result ≡ (called (on (advance k) images.old []) r).state }
     ensures images { images.new ≡ (called (on (advance k) images.old []) r).images }
 {
-    lent::advance(&mut r, images, k);
+    let _ = lent::advance(&mut r, images, k);
     r
 }
 
@@ -27,7 +27,7 @@ pub fn moved(mut r: Record, images: &mut [u8], k: u64) -> Record
 pub fn begun(mut r: Record, images: &[u8], d: u64) -> Record
     ensures state { result ≡ (called (on (begin d) images.now []) r).state }
 {
-    lent::begin_rebuild(&mut r, images, d);
+    let _ = lent::begin_rebuild(&mut r, images, d);
     r
 }
 
@@ -36,7 +36,7 @@ pub fn rebuilt(mut r: Record, images: &mut [u8], k: u64) -> Record
     ensures state { result ≡ (called (on (continue k) images.old []) r).state }
     ensures images { images.new ≡ (called (on (continue k) images.old []) r).images }
 {
-    lent::continue_rebuild(&mut r, images, k);
+    let _ = lent::continue_rebuild(&mut r, images, k);
     r
 }
 
@@ -44,7 +44,7 @@ pub fn rebuilt(mut r: Record, images: &mut [u8], k: u64) -> Record
 pub fn without(mut r: Record, d: u64) -> Record
     ensures state { result ≡ (called (on (out d) [] []) r).state }
 {
-    lent::out(&mut r, d);
+    let _ = lent::out(&mut r, d);
     r
 }
 
@@ -53,6 +53,6 @@ pub fn formatted(mut r: Record, images: &mut [u8], n: u64, block: u64, stripes: 
     ensures state { result ≡ (called (on (format n block stripes) images.old []) r).state }
     ensures images { images.new ≡ (called (on (format n block stripes) images.old []) r).images }
 {
-    lent::format(&mut r, images, n, block, stripes);
+    let _ = lent::format(&mut r, images, n, block, stripes);
     r
 }

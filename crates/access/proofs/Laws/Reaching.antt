@@ -97,11 +97,11 @@ module _ {r : Record} {len b room : ℕ} {y : Standing} (x : Reached r len b roo
 
   -- .. and which view it is
   pub choice-out : (img scratch : List ℕ) → absent r.health q.stripe q.disk ≡ true
-      → (Scratch ≡ choice_of 0 (view_of r b)) × (others_in r img q.stripe q.disk ≡ scratch_left r img b scratch)
+      → (Scratch ≡ choice_of (view_of r b)) × (others_in r img q.stripe q.disk ≡ scratch_left r img b scratch)
   unfolding view_of scratch_left
   choice-out img scratch u = rw (x.is, rw x.is at u) (refl, refl)
 
   pub choice-in : (img scratch : List ℕ) {at : ℕ} → at ≡ offset r.block r.stripes q.stripe q.disk → absent r.health q.stripe q.disk ≡ false
-      → (Part at ≡ choice_of 0 (view_of r b)) × (scratch ≡ scratch_left r img b scratch)
+      → (Part at ≡ choice_of (view_of r b)) × (scratch ≡ scratch_left r img b scratch)
   unfolding view_of scratch_left
   choice-in img scratch e u = rw (e, x.is, rw x.is at u) (refl, refl)

@@ -1,16 +1,33 @@
 -- The rows with which many calls begin: where they are passed the record is good. Assumes nothing.
 use Prim.Native.Nat.{ℕ}
-use mathlib.Core.Path.{◌≡◌, sym, ◌∙◌}
+use mathlib.Core.Path.{◌≡◌, refl, sym, ◌∙◌}
 use mathlib.Core.Bool.{Bool, true, false, not}
+use Rattle.std.proofs.lemmas.Bool.{false≢true}
 use mathlib.Core.Logic.{◌≢◌}
 use mathlib.Core.List.{List, [], ◌∷◌, ◌++◌}
+use native.Mathlib.Omega.{arith}
+use Rattle.std.specs.Prelude.{Result, Ok, Err, IsErr}
 use borrow.Author.Tests.{not-false}
 use Rattle.state.specs.declared.types.Record.{Record}
 use Rattle.state.specs.Good.{good, GoodRecord}
 use Rattle.state.proofs.Laws.Good.{limits}
 use Rattle.calls.specs.Images.{size}
 use Rattle.calls.specs.Table.{Row, bad_record, lost, degraded, images, disk, word, kept, kept_whole, kept_lent}
+use Rattle.refusals.specs.declared.types.Refusal.{Refusal}
+use Rattle.refusals.specs.Answers.{refusal_number, number_of}
+use Rattle.refusals.proofs.Theorem.{one-number}
 use Rattle.calls.proofs.Laws.Table.{passes, stops, given, skipped, lent-on}
+
+-- the number of an answer
+pub ok-number : {T : Type 0} {x : Result T Refusal} {y : T} → x ≡ Ok y → number_of x ≡ 0
+ok-number q = rw q refl
+
+pub above-0 : (e : Refusal) → refusal_number e ≢ 0
+above-0 e z = omega (arith, one-number e, z)
+
+pub err-number : {T : Type 0} (x : Result T Refusal) → IsErr x → number_of x ≢ 0
+err-number (Err e) l z = above-0 e z
+err-number (Ok y) l z = absurd (false≢true l)
 
 -- k is the number of these rows
 module _ (r : Record) {k : ℕ} where

@@ -1,17 +1,20 @@
 -- `read` meets its contract. Assumes nothing.
-use mathlib.Core.Path.{refl, sym, ◌∙◌}
+use mathlib.Core.Path.{refl, sym}
+use Rattle.std.proofs.Common.{rules}
 use Rattle.calls.specs.Call.{read, on}
 use Rattle.calls.specs.Effect.{effect}
-use Rattle.refusals.proofs.Laws.Called.{called-refused, called-done}
+use Rattle.refusals.proofs.Laws.Called.{called-stopped, called-done}
 use Rattle.access.proofs.reading.read.Goals as goal
 
-pub returns-then-k-ne0 : goal.returns-then-k-ne0
-returns-then-k-ne0 c =
+pub returns-in_err-of_reach : goal.returns-in_err-of_reach
+returns-in_err-of_reach c =
     let a = c.args in
-    rw (called-refused (on (read a.b) a.images.now a.block.now) a.r _ (sym c.of_reach-k.ensures.number) c.if-k-ne0.true) (record { answer = refl; block = refl })
+    let x = c.from_residual.result in
+    let l = c.from_residual.ensures.0 in
+    rw (called-stopped (on (read a.b) a.images.now a.block.now) a.r x l (search rules)) (record { answer = refl; block = refl })
 
 pub returns : goal.returns
 unfolding effect
 returns c =
     let a = c.args in
-    rw (called-done (on (read a.b) a.images.now a.block.now) a.r (sym c.of_reach-k.ensures.number ∙ c.if-k-ne0.false)) (record { answer = refl; block = c.fill.ensures.block })
+    rw (called-done (on (read a.b) a.images.now a.block.now) a.r (sym c.in_ok-of_reach.ensures.number)) (record { answer = refl; block = c.fill.ensures.block })

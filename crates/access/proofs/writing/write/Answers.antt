@@ -7,30 +7,36 @@ use Rattle.state.specs.Good.{geometry}
 use Rattle.calls.specs.Call.{read, write, feed, on}
 use Rattle.calls.specs.Table.{refusal_of}
 use Rattle.calls.specs.Effect.{effect}
-use Rattle.refusals.proofs.Laws.Called.{called-refused, called-done}
+use Rattle.refusals.proofs.Laws.Called.{called-stopped, called-done}
+use Rattle.refusals.proofs.Laws.Ready.{ok-number}
+use Rattle.refusals.specs.Answers.{number_of}
+use Rattle.std.proofs.Common.{rules}
 use Rattle.calls.proofs.Laws.Table.{write-rows}
 use Rattle.access.proofs.writing.write.Goals as goal
-use Rattle.access.proofs.writing.write.Goals.{After-of_reach-k}
+use Rattle.access.proofs.writing.write.Goals.{After-of_reach}
 
 -- the number is the table's
-numbered : (c : After-of_reach-k) →
+numbered : (c : After-of_reach) →
     let a = c.args in
-    refusal_of a.r (feed (write a.b a.bytes.now) (length a.images.now) 0) ≡ c.of_reach-k.result
+    number_of c.of_reach.result ≡ refusal_of a.r (feed (write a.b a.bytes.now) (length a.images.now) 0)
 numbered c =
     let a = c.args in
-    let n : c.of_reach-k.result ≡ refusal_of a.r (feed (read a.b) (length a.images.now) (length a.bytes.now)) = c.of_reach-k.ensures.number in
-    write-rows a.r (capacity (geometry a.r)) (length a.images.now) 0 a.b a.bytes.now ∙ sym n
+    let n : number_of c.of_reach.result ≡ refusal_of a.r (feed (read a.b) (length a.images.now) (length a.bytes.now)) = c.of_reach.ensures.number in
+    n ∙ sym (write-rows a.r (capacity (geometry a.r)) (length a.images.now) 0 a.b a.bytes.now)
 
-pub returns-then-k-ne0 : goal.returns-then-k-ne0
-returns-then-k-ne0 c =
+pub returns-in_err-of_reach : goal.returns-in_err-of_reach
+returns-in_err-of_reach c =
     let a = c.args in
-    rw (called-refused (on (write a.b a.bytes.now) a.images.now []) a.r _ (numbered (goal.at.returns-then-k-ne0 c).After-of_reach-k) c.if-k-ne0.true) (record { answer = refl; images = refl })
+    let x = c.from_residual.result in
+    let n : number_of x ≡ number_of c.of_reach.result = search rules in
+    let p = (goal.at.returns-in_err-of_reach c).After-of_reach in
+    rw (called-stopped (on (write a.b a.bytes.now) a.images.now []) a.r x c.from_residual.ensures.0 (n ∙ numbered p)) (record { answer = refl; images = refl })
 
 pub put-requires : goal.put-requires
-put-requires c = numbered (goal.at.put-requires c).After-of_reach-k ∙ c.if-k-ne0.false
+put-requires c = sym (numbered (goal.at.put-requires c).After-of_reach) ∙ ok-number c.in_ok-of_reach.was
 
 pub returns : goal.returns
 unfolding effect
 returns c =
     let a = c.args in
-    rw (called-done (on (write a.b a.bytes.now) a.images.now []) a.r (numbered (goal.at.returns c).After-of_reach-k ∙ c.if-k-ne0.false)) (record { answer = refl; images = c.put.ensures.images })
+    rw (called-done (on (write a.b a.bytes.now) a.images.now []) a.r (sym (numbered (goal.at.returns c).After-of_reach) ∙ ok-number c.in_ok-of_reach.was)) (record { answer = refl; images = c.put.ensures.images })

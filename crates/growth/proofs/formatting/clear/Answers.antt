@@ -27,4 +27,4 @@ overflow_cast-stripes c = omega (arith, (fits (goal.at.overflow_cast-stripes c).
 pub returns : goal.returns
 returns c =
     let a = c.args in
-    record { answer = λ r. (format-done a.images.now r a.n a.block a.stripes (c.requires r)).0; state = λ r. c.formatted.ensures ∙ (format-done a.images.now r a.n a.block a.stripes (c.requires r)).1; images = λ r. c.zero_block.ensures.images ∙ (format-done a.images.now r a.n a.block a.stripes (c.requires r)).2 }
+    record { state = λ r. c.formatted.ensures ∙ (format-done a.images.now r a.n a.block a.stripes (c.requires r)).1; images = λ r. c.zero_block.ensures.images ∙ (format-done a.images.now r a.n a.block a.stripes (c.requires r)).2 }

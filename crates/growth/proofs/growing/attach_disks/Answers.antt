@@ -22,4 +22,4 @@ overflow_cast-m c = omega (arith, (passed (goal.at.overflow_cast-m c).Start).sma
 pub returns : goal.returns
 returns c =
     let q = grow-done c.args.images.now c.args.r c.args.m c.requires in
-    record { answer = q.0; state = c.grown_by.ensures ∙ q.1; images = c.zero_block.ensures.images ∙ q.2 }
+    record { state = c.grown_by.ensures ∙ q.1; images = c.zero_block.ensures.images ∙ q.2 }

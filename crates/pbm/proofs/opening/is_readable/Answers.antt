@@ -5,18 +5,13 @@ use Rattle.conditions.proofs.Tests.{and-true, and-false}
 use Rattle.pbm.specs.Opening.{readable}
 use Rattle.pbm.proofs.opening.is_readable.Goals as goal
 
-pub returns-then-bytes-ne-RECORD_LENGTH : goal.returns-then-bytes-ne-RECORD_LENGTH
+pub returns-then-bytes-eq-RECORD_LENGTH : goal.returns-then-bytes-eq-RECORD_LENGTH
 unfolding readable
-returns-then-bytes-ne-RECORD_LENGTH c =
-    record {
-      answer =
-          sym (and-false _ _ (ne_eqb _ _ c.if-bytes-ne-RECORD_LENGTH.true));
-    }
+returns-then-bytes-eq-RECORD_LENGTH c =
+    record { answer = c.is_plain.ensures ∙ sym (and-true _ _ (eq-eqb _ _ c.if-bytes-eq-RECORD_LENGTH.true)) }
 
-pub returns : goal.returns
+pub returns-else-bytes-eq-RECORD_LENGTH : goal.returns-else-bytes-eq-RECORD_LENGTH
 unfolding readable
-returns c =
-    record {
-      answer =
-          c.is_plain.ensures ∙ sym (and-true _ _ (eq-eqb _ _ c.if-bytes-ne-RECORD_LENGTH.false));
-    }
+returns-else-bytes-eq-RECORD_LENGTH c =
+    let z = ne_eqb _ _ c.if-bytes-eq-RECORD_LENGTH.false in
+    record { answer = z ∙ sym (and-false _ _ z) }

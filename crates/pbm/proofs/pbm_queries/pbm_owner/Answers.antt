@@ -1,26 +1,22 @@
 -- `pbm_owner` meets its contract. Assumes nothing.
-use mathlib.Core.Path.{◌≡◌, refl}
-use mathlib.Core.Bool.{true}
+use mathlib.Core.Path.{refl}
 use mathlib.Core.List.{[]}
-use Rattle.conditions.proofs.Tests.{went_on, returned}
-use Rattle.calls.specs.Call.{owner, on}
-use Rattle.pbm.specs.Opening.{readable}
-use Rattle.pbm.proofs.Opened.{long, unreadable, answered}
+use Rattle.calls.specs.Call.{owner, Event, on}
+use Rattle.pbm.proofs.Opened.{unopened, answered}
 use Rattle.pbm.proofs.pbm_queries.pbm_owner.Goals as goal
-use Rattle.pbm.proofs.pbm_queries.pbm_owner.Goals.{Else-not-is_readable}
+use Rattle.pbm.proofs.pbm_queries.pbm_owner.Goals.{Start}
 
-is-readable : (c : Else-not-is_readable) → readable c.args.rec.now ≡ true
-is-readable c = went_on c.is_readable.ensures.answer c.if-not-is_readable.false
+abbrev event : Start → Event
+event c = on (owner c.args.s c.args.d) [] []
 
-pub returns-then-not-is_readable : goal.returns-then-not-is_readable
-returns-then-not-is_readable c =
-    rw (unreadable (on (owner c.args.s c.args.d) [] []) c.args.rec.now refl (returned c.is_readable.ensures.answer c.if-not-is_readable.true)) (record { answer = refl; beside = refl })
+pub returns-in_default : goal.returns-in_default
+returns-in_default c =
+    rw (c.from.ensures, unopened (event (goal.at.returns-in_default c).Start) c.args.rec.now refl c.in_default.ensures.record) (record { answer = refl; beside = refl })
 
-pub decode-requires : goal.decode-requires
-decode-requires c = long _ (is-readable (goal.at.decode-requires c).Else-not-is_readable)
+pub returns-in-Err : goal.returns-in-Err
+returns-in-Err c =
+    rw (answered (event (goal.at.returns-in-Err c).Start) c.args.rec.now c.in-Some.ensures.record c.in-Err.ensures.answer, c.from-in-Err.ensures) (record { answer = refl; beside = refl })
 
-pub returns-in-Refused : goal.returns-in-Refused
-returns-in-Refused c = rw (answered (on (owner c.args.s c.args.d) [] []) c.args.rec.now (is-readable (goal.at.returns-in-Refused c).Else-not-is_readable) c.decode.ensures c.in-Refused.ensures.answer) (record { answer = refl; beside = refl })
-
-pub returns-in-By : goal.returns-in-By
-returns-in-By c = rw (answered (on (owner c.args.s c.args.d) [] []) c.args.rec.now (is-readable (goal.at.returns-in-By c).Else-not-is_readable) c.decode.ensures c.in-By.ensures.answer) (record { answer = refl; beside = rw (c.role_number.ensures.number, c.role_block.ensures.block) refl })
+pub returns-in-Ok : goal.returns-in-Ok
+returns-in-Ok c =
+    rw (answered (event (goal.at.returns-in-Ok c).Start) c.args.rec.now c.in-Some.ensures.record c.in-Ok.ensures.answer) (record { answer = refl; beside = rw (c.role_number.ensures.number, c.role_block.ensures.block) refl })

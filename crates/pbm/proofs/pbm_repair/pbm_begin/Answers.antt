@@ -1,36 +1,26 @@
 -- `pbm_begin` meets its contract. Assumes nothing.
-use mathlib.Core.Path.{◌≡◌, refl, ap, ◌∙◌}
-use mathlib.Core.Bool.{true}
+use mathlib.Core.Path.{refl, ◌∙◌}
 use mathlib.Core.List.{[]}
-use Rattle.conditions.proofs.Tests.{went_on, returned}
-use Rattle.calls.specs.Call.{begin, Event, on, number}
-use Rattle.pbm.specs.Opening.{readable}
-use Rattle.pbm.proofs.Opened.{long, unreadable, opened}
-use Rattle.pbm.proofs.Closed.{numbered, closed}
+use Rattle.calls.specs.Call.{begin, Event, on}
+use Rattle.pbm.proofs.Opened.{long, unopened, on_record}
+use Rattle.pbm.proofs.Closed.{closed}
 use Rattle.pbm.proofs.pbm_repair.pbm_begin.Goals as goal
-use Rattle.pbm.proofs.pbm_repair.pbm_begin.Goals.{Else-not-is_readable, Start}
+use Rattle.pbm.proofs.pbm_repair.pbm_begin.Goals.{Start}
 
 abbrev event : Start → Event
 event c = on (begin c.args.d) c.args.images.now []
 
-is-readable : (c : Else-not-is_readable) → readable c.args.rec.now ≡ true
-is-readable c = went_on c.is_readable.ensures.answer c.if-not-is_readable.false
-
-pub returns-then-not-is_readable : goal.returns-then-not-is_readable
-returns-then-not-is_readable c =
-    rw (unreadable (event (goal.at.returns-then-not-is_readable c).Start) c.args.rec.now refl (returned c.is_readable.ensures.answer c.if-not-is_readable.true)) (record { answer = refl; state = refl })
-
-pub decode-r-requires : goal.decode-r-requires
-decode-r-requires c = long _ (is-readable (goal.at.decode-r-requires c).Else-not-is_readable)
+pub returns-in_default : goal.returns-in_default
+returns-in_default c =
+    rw (c.from.ensures, unopened (event (goal.at.returns-in_default c).Start) c.args.rec.now refl c.in_default.ensures.record) (record { answer = refl; state = refl })
 
 pub close-requires : goal.close-requires
-close-requires c = long _ (is-readable (goal.at.close-requires c).Else-not-is_readable)
+close-requires c = long _ c.in-Some.ensures.record
 
 pub returns : goal.returns
 returns c =
-    let t = c.stepped-s in
-    let e = c.begin_rebuild in
-    let x = opened (event (goal.at.returns c).Start) c.args.rec.now (is-readable (goal.at.returns c).Else-not-is_readable) c.decode-r.ensures in
-    let n = t.ensures.answer ∙ ap number e.ensures.answer in
+    let x = on_record (event (goal.at.returns c).Start) c.args.rec.now c.in-Some.ensures.record in
+    let e = c.begin_rebuild.ensures in
     let f = c.close.ensures in
-    record { answer = f.answer ∙ numbered x n; state = f.state ∙ closed x _ _ n (t.ensures.state ∙ e.ensures.state) }
+    let q = closed x _ c.begin_rebuild.result e.answer e.state in
+    record { answer = f.answer ∙ q.0; state = f.state ∙ q.1 }

@@ -1,36 +1,27 @@
 -- `pbm_continue` meets its contract. Assumes nothing.
-use mathlib.Core.Path.{◌≡◌, refl, sym, ap, ◌∙◌}
-use mathlib.Core.Bool.{true}
-use mathlib.Core.List.{[]}
-use Rattle.conditions.proofs.Tests.{went_on, returned}
-use Rattle.calls.specs.Call.{continue, Event, on, number}
-use Rattle.pbm.specs.Opening.{readable}
-use Rattle.pbm.proofs.Opened.{long, unreadable, opened}
-use Rattle.pbm.proofs.Closed.{numbered, closed, counted}
+use mathlib.Core.Path.{refl, sym, ap, ◌∙◌}
+use mathlib.Core.List.{[], ◌∷◌}
+use Prim.Native.Nat.{ℕ}
+use Rattle.calls.specs.Call.{continue, Event, on}
+use Rattle.pbm.proofs.Opened.{long, unopened, on_record}
+use Rattle.pbm.proofs.Closed.{closed_counted}
 use Rattle.pbm.proofs.pbm_repair.pbm_continue.Goals as goal
-use Rattle.pbm.proofs.pbm_repair.pbm_continue.Goals.{Else-not-is_readable, Start}
+use Rattle.pbm.proofs.pbm_repair.pbm_continue.Goals.{Start}
 
 abbrev event : Start → Event
 event c = on (continue c.args.k) c.args.images.now []
 
-is-readable : (c : Else-not-is_readable) → readable c.args.rec.now ≡ true
-is-readable c = went_on c.is_readable.ensures.answer c.if-not-is_readable.false
+pub returns-in_default : goal.returns-in_default
+returns-in_default c =
+    rw (c.from.ensures, unopened (event (goal.at.returns-in_default c).Start) c.args.rec.now refl c.in_default.ensures.record) (record { answer = refl; beside = refl; state = refl; images = refl })
 
-pub returns-then-not-is_readable : goal.returns-then-not-is_readable
-returns-then-not-is_readable c =
-    rw (unreadable (event (goal.at.returns-then-not-is_readable c).Start) c.args.rec.now refl (returned c.is_readable.ensures.answer c.if-not-is_readable.true)) (record { answer = refl; beside = refl; state = refl; images = refl })
-
-pub decode-r-requires : goal.decode-r-requires
-decode-r-requires c = long _ (is-readable (goal.at.decode-r-requires c).Else-not-is_readable)
-
-pub close-requires : goal.close-requires
-close-requires c = long _ (is-readable (goal.at.close-requires c).Else-not-is_readable)
+pub close_counted-requires : goal.close_counted-requires
+close_counted-requires c = long _ c.in-Some.ensures.record
 
 pub returns : goal.returns
 returns c =
-    let t = c.progressed-p in
-    let e = c.continue_rebuild in
-    let x = opened (event (goal.at.returns c).Start) c.args.rec.now (is-readable (goal.at.returns c).Else-not-is_readable) c.decode-r.ensures in
-    let n = t.ensures.answer.0 ∙ ap number e.ensures.answer in
-    let f = c.close.ensures in
-    record { answer = f.answer ∙ numbered x n; beside = counted x e.result t.ensures.answer.1 e.ensures.answer; state = f.state ∙ closed x _ _ n (t.ensures.state ∙ e.ensures.state); images = e.ensures.images ∙ sym x.images }
+    let x = on_record (event (goal.at.returns c).Start) c.args.rec.now c.in-Some.ensures.record in
+    let e = c.continue_rebuild.ensures in
+    let f = c.close_counted.ensures in
+    let q = closed_counted x _ c.continue_rebuild.result e.answer e.state in
+    record { answer = f.answer ∙ q.0; beside = ap (λ (n : ℕ). n ∷ []) f.beside ∙ q.1; state = f.state ∙ q.2; images = e.images ∙ sym x.images }

@@ -1,29 +1,25 @@
 -- `pbm_sweep` meets its contract. Assumes nothing.
-use mathlib.Core.Path.{◌≡◌, refl}
-use mathlib.Core.Bool.{true}
+use mathlib.Core.Path.{refl}
 use mathlib.Core.List.{[]}
-use Rattle.conditions.proofs.Tests.{went_on, returned}
-use Rattle.calls.specs.Call.{sweep, on}
-use Rattle.pbm.specs.Opening.{readable}
-use Rattle.pbm.proofs.Opened.{long, unreadable, answered}
+use Rattle.calls.specs.Call.{sweep, Event, on}
+use Rattle.pbm.proofs.Opened.{unopened, answered}
+use Rattle.pbm.proofs.Numbers.{found_numbers}
 use Rattle.pbm.proofs.pbm_scrub.pbm_sweep.Goals as goal
-use Rattle.pbm.proofs.pbm_scrub.pbm_sweep.Goals.{Else-not-is_readable}
+use Rattle.pbm.proofs.pbm_scrub.pbm_sweep.Goals.{Start}
 
-is-readable : (c : Else-not-is_readable) → readable c.args.rec.now ≡ true
-is-readable c = went_on c.is_readable.ensures.answer c.if-not-is_readable.false
+abbrev event : Start → Event
+event c = on sweep c.args.images.now []
 
-pub returns-then-not-is_readable : goal.returns-then-not-is_readable
-returns-then-not-is_readable c =
-    rw (unreadable (on sweep c.args.images.now []) c.args.rec.now refl (returned c.is_readable.ensures.answer c.if-not-is_readable.true)) (record { answer = refl; beside = refl })
+pub returns-in_default : goal.returns-in_default
+returns-in_default c =
+    rw (c.from.ensures, unopened (event (goal.at.returns-in_default c).Start) c.args.rec.now refl c.in_default.ensures.record) (record { answer = refl; beside = refl })
 
-pub decode-requires : goal.decode-requires
-decode-requires c = long _ (is-readable (goal.at.decode-requires c).Else-not-is_readable)
+pub returns-in-Err : goal.returns-in-Err
+returns-in-Err c =
+    rw (answered (event (goal.at.returns-in-Err c).Start) c.args.rec.now c.in-Some.ensures.record c.in-Err.ensures.answer, c.from-in-Err.ensures) (record { answer = refl; beside = refl })
 
-pub returns-in-Refused : goal.returns-in-Refused
-returns-in-Refused c = rw (answered (on sweep c.args.images.now []) c.args.rec.now (is-readable (goal.at.returns-in-Refused c).Else-not-is_readable) c.decode.ensures c.in-Refused.ensures.answer) (record { answer = refl; beside = refl })
-
-pub returns-in-Sound : goal.returns-in-Sound
-returns-in-Sound c = rw (answered (on sweep c.args.images.now []) c.args.rec.now (is-readable (goal.at.returns-in-Sound c).Else-not-is_readable) c.decode.ensures c.in-Sound.ensures.answer) (record { answer = refl; beside = refl })
-
-pub returns-in-Unsound : goal.returns-in-Unsound
-returns-in-Unsound c = rw (answered (on sweep c.args.images.now []) c.args.rec.now (is-readable (goal.at.returns-in-Unsound c).Else-not-is_readable) c.decode.ensures c.in-Unsound.ensures.answer) (record { answer = refl; beside = refl })
+pub returns-in-Ok : goal.returns-in-Ok
+returns-in-Ok c =
+    rw (answered (event (goal.at.returns-in-Ok c).Start) c.args.rec.now c.in-Some.ensures.record c.in-Ok.ensures.answer) (
+        let q = found_numbers c.in-Ok.x.unsound c.in-Ok.x.read in
+        record { answer = q.0; beside = rw (c.from-in-Ok.ensures, c.is_some.ensures, c.unwrap_or.ensures) q.1 })

@@ -1,29 +1,28 @@
 -- `is_formable` meets its contract. Assumes nothing.
-use mathlib.Core.Path.{refl}
-use Rattle.conditions.proofs.Tests.{went_on, returned}
+use mathlib.Core.Path.{sym, ◌∙◌}
+use Rattle.std.proofs.lemmas.Bool.{false≢true}
 use Rattle.calls.specs.Table.{formable}
 use Rattle.refusals.proofs.refusal.is_formable.Goals as goal
+use Rattle.refusals.proofs.refusal.is_formable.Goals.{then-old_is_good, else-old_is_good}
 
-pub returns-then-not-old_is_good : goal.returns-then-not-old_is_good
+pub returns-then-block_is_good : goal.returns-then-block_is_good
 unfolding formable
-returns-then-not-old_is_good c =
-    record {
-      answer =
-          rw (returned c.old_is_good.ensures c.if-not-old_is_good.true) refl;
-    }
+returns-then-block_is_good c =
+    elim c.if-old_is_good.branch [
+      | then-old_is_good w ↦
+          record {
+            answer = rw (sym w.if-old_is_good.ensures, sym w.block_is_good.ensures ∙ sym w.value-is ∙ c.if-block_is_good.true) c.stripes_are_good.ensures;
+          }
+      | else-old_is_good w ↦ absurd (false≢true (sym w.if-old_is_good.false ∙ sym w.value-is ∙ c.if-block_is_good.true))
+    ]
 
-pub returns-then-not-block_is_good : goal.returns-then-not-block_is_good
+pub returns-else-block_is_good : goal.returns-else-block_is_good
 unfolding formable
-returns-then-not-block_is_good c =
-    record {
-      answer =
-          rw (went_on c.old_is_good.ensures c.if-not-old_is_good.false, returned c.block_is_good.ensures c.if-not-block_is_good.true) refl;
-    }
-
-pub returns : goal.returns
-unfolding formable
-returns c =
-    record {
-      answer =
-          rw (went_on c.old_is_good.ensures c.if-not-old_is_good.false, went_on c.block_is_good.ensures c.if-not-block_is_good.false) c.stripes_are_good.ensures;
-    }
+returns-else-block_is_good c =
+    elim c.if-old_is_good.branch [
+      | then-old_is_good w ↦
+          record {
+            answer = rw (sym w.if-old_is_good.ensures, sym w.block_is_good.ensures ∙ sym w.value-is ∙ c.if-block_is_good.false) c.if-block_is_good.false;
+          }
+      | else-old_is_good w ↦ record { answer = rw (sym w.if-old_is_good.ensures) c.if-block_is_good.false }
+    ]

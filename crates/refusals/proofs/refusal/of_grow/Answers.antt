@@ -3,6 +3,7 @@ use Prim.Native.Nat.{ℕ}
 use mathlib.Core.Path.{◌≡◌, refl, sym, ap, ◌∙◌}
 use mathlib.Core.Bool.{not}
 use mathlib.Core.List.{List, [], ◌∷◌}
+use Rattle.std.proofs.Common.{rules}
 use Rattle.conditions.proofs.Tests.{went_on, returned}
 use Rattle.conditions.proofs.Asked.{same, other}
 use Rattle.layout.specs.Layout.{capacity}
@@ -13,9 +14,9 @@ use Rattle.calls.specs.Call.{grow, feed}
 use Rattle.calls.specs.Images.{size_with}
 use Rattle.calls.specs.Table.{Row, grown_already, bad_geometry, images, word, kept_whole, refusal_of}
 use Rattle.calls.proofs.Laws.Table.{stops, given, skipped, whole-on, grow-rows}
-use Rattle.refusals.proofs.Laws.Ready.{ready-whole}
+use Rattle.refusals.proofs.Laws.Ready.{err-number, ready-whole}
 use Rattle.refusals.proofs.refusal.of_grow.Goals as goal
-use Rattle.refusals.proofs.refusal.of_grow.Goals.{Else-k-ne0, Else-not-new_is_good, Else-r-ne0}
+use Rattle.refusals.proofs.refusal.of_grow.Goals.{In_ok-of_whole, Else-not-new_is_good, Else-r-ne0}
 
 -- the rows from 7, from 6 and from 4 on
 abbrev from-7 : Record → ℕ → ℕ → List Row
@@ -27,11 +28,11 @@ from-6 r m len = bad_geometry (new_good m) ∷ from-7 r m len
 abbrev from-4 : Record → ℕ → ℕ → List Row
 from-4 r m len = grown_already r ∷ from-6 r m len
 
-past-1 : (c : Else-k-ne0) → let a = c.args in refusal_of a.r (feed (grow a.m) a.images 0) ≡ word (from-4 a.r a.m a.images)
+past-1 : (c : In_ok-of_whole) → let a = c.args in refusal_of a.r (feed (grow a.m) a.images 0) ≡ word (from-4 a.r a.m a.images)
 past-1 c =
     let a = c.args in
     grow-rows a.r (capacity (geometry a.r)) a.images 0 a.m
-    ∙ whole-on a.r (from-4 a.r a.m a.images) c.of_whole-k.ensures.number c.if-k-ne0.false
+    ∙ whole-on a.r (from-4 a.r a.m a.images) c.in_ok-of_whole.ensures.number refl
 
 past-2 : (c : Else-r-ne0) →
     let a = c.args in
@@ -45,12 +46,12 @@ past-3 c =
     let a = c.args in
     past-2 c.before.before ∙ skipped 6 (from-7 a.r a.m a.images) (ap not (went_on c.new_is_good.ensures c.if-not-new_is_good.false))
 
-pub returns-then-k-ne0 : goal.returns-then-k-ne0
-returns-then-k-ne0 c =
+pub returns-in_err-of_whole : goal.returns-in_err-of_whole
+returns-in_err-of_whole c =
     record {
       number =
           let a = c.args in
-          stops (kept_whole a.r) (from-4 a.r a.m a.images) c.of_whole-k.ensures.number c.if-k-ne0.true
+          stops (kept_whole a.r) (from-4 a.r a.m a.images) (search rules) (err-number c.from_residual.result c.from_residual.ensures.0)
           ∙ sym (grow-rows a.r (capacity (geometry a.r)) a.images 0 a.m);
     }
 
@@ -58,7 +59,7 @@ pub returns-then-r-ne0 : goal.returns-then-r-ne0
 returns-then-r-ne0 c =
     record {
       number =
-          let a = c.args in sym (past-1 (goal.at.returns-then-r-ne0 c).Else-k-ne0 ∙ given 4 (from-6 a.r a.m a.images) (ap not (other refl c.if-r-ne0.true)));
+          let a = c.args in sym (past-1 (goal.at.returns-then-r-ne0 c).In_ok-of_whole ∙ given 4 (from-6 a.r a.m a.images) (ap not (other refl c.if-r-ne0.true)));
     }
 
 pub returns-then-not-new_is_good : goal.returns-then-not-new_is_good
@@ -71,7 +72,7 @@ returns-then-not-new_is_good c =
 
 pub size_with-requires : goal.size_with-requires
 size_with-requires c =
-    let l = ready-whole c.args.r c.of_whole-k.ensures.number c.if-k-ne0.false in
+    let l = ready-whole c.args.r c.in_ok-of_whole.ensures.number refl in
     (l, (within-true 1 _ 16 (went_on c.new_is_good.ensures c.if-not-new_is_good.false)).1)
 
 pub returns-then-images-size_with : goal.returns-then-images-size_with

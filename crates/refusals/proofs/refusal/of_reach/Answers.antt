@@ -3,6 +3,7 @@ use Prim.Native.Nat.{ℕ}
 use mathlib.Core.Path.{◌≡◌, refl, sym, ap, ◌∙◌}
 use mathlib.Core.Bool.{not}
 use mathlib.Core.List.{List, [], ◌∷◌}
+use Rattle.std.proofs.Common.{rules}
 use Rattle.conditions.proofs.Asked.{same, other}
 use Rattle.conditions.proofs.Tests.{went_on, returned}
 use Rattle.layout.specs.Layout.{capacity}
@@ -11,9 +12,9 @@ use Rattle.state.specs.Good.{geometry}
 use Rattle.calls.specs.Call.{read, feed}
 use Rattle.calls.specs.Table.{Row, past_end, block_length, word, kept_lent, refusal_of}
 use Rattle.calls.proofs.Laws.Table.{stops, given, skipped, lent-on, read-rows}
-use Rattle.refusals.proofs.Laws.Ready.{ready-lent}
+use Rattle.refusals.proofs.Laws.Ready.{ready-lent, ok-number, err-number}
 use Rattle.refusals.proofs.refusal.of_reach.Goals as goal
-use Rattle.refusals.proofs.refusal.of_reach.Goals.{Else-begun-ne0, Else-not-is_block}
+use Rattle.refusals.proofs.refusal.of_reach.Goals.{In_ok-begun, Else-not-is_block}
 
 -- the rows from 9 and from 8 on
 abbrev from-9 : Record → ℕ → List Row
@@ -22,35 +23,35 @@ from-9 r room = block_length r room ∷ []
 abbrev from-8 : Record → ℕ → ℕ → List Row
 from-8 r b room = past_end b (capacity (geometry r)) ∷ from-9 r room
 
-past-1 : (c : Else-begun-ne0) → let a = c.args in refusal_of a.r (feed (read a.b) a.images a.room) ≡ word (from-8 a.r a.b a.room)
+past-1 : (c : In_ok-begun) → let a = c.args in refusal_of a.r (feed (read a.b) a.images a.room) ≡ word (from-8 a.r a.b a.room)
 past-1 c =
     let a = c.args in
     read-rows a.r (capacity (geometry a.r)) a.images a.room a.b
-    ∙ lent-on a.r (from-8 a.r a.b a.room) a.images c.requires c.if-begun-ne0.false
+    ∙ lent-on a.r (from-8 a.r a.b a.room) a.images c.requires (ok-number c.in_ok-begun.was)
 
 past-2 : (c : Else-not-is_block) → let a = c.args in refusal_of a.r (feed (read a.b) a.images a.room) ≡ word (from-9 a.r a.room)
 past-2 c =
     let a = c.args in
     past-1 c.before.before ∙ skipped 8 (from-9 a.r a.room) (ap not (went_on c.is_block.ensures.answer c.if-not-is_block.false))
 
-pub returns-then-begun-ne0 : goal.returns-then-begun-ne0
-returns-then-begun-ne0 c =
+pub returns-in_err-begun : goal.returns-in_err-begun
+returns-in_err-begun c =
     record {
       number =
           let a = c.args in
-          stops (kept_lent a.r a.images) (from-8 a.r a.b a.room) c.requires c.if-begun-ne0.true
+          stops (kept_lent a.r a.images) (from-8 a.r a.b a.room) (search rules) (err-number c.from_residual.result c.from_residual.ensures.0)
           ∙ sym (read-rows a.r (capacity (geometry a.r)) a.images a.room a.b);
     }
 
 pub is_block-requires : goal.is_block-requires
-is_block-requires c = let a = c.args in ready-lent a.r a.images c.requires c.if-begun-ne0.false
+is_block-requires c = let a = c.args in ready-lent a.r a.images c.requires (ok-number c.in_ok-begun.was)
 
 pub returns-then-not-is_block : goal.returns-then-not-is_block
 returns-then-not-is_block c =
     record {
       number =
           let a = c.args in
-          sym (past-1 (goal.at.returns-then-not-is_block c).Else-begun-ne0 ∙ given 8 (from-9 a.r a.room) (ap not (returned c.is_block.ensures.answer c.if-not-is_block.true)));
+          sym (past-1 (goal.at.returns-then-not-is_block c).In_ok-begun ∙ given 8 (from-9 a.r a.room) (ap not (returned c.is_block.ensures.answer c.if-not-is_block.true)));
     }
 
 pub returns-then-room-r : goal.returns-then-room-r

@@ -1,8 +1,9 @@
 -- `of_sweep` meets its contract: `past-1` is what is left of the rows after the first test. Assumes nothing.
 use Prim.Native.Nat.{ℕ}
-use mathlib.Core.Path.{◌≡◌, sym, ap, ◌∙◌}
+use mathlib.Core.Path.{◌≡◌, refl, sym, ap, ◌∙◌}
 use mathlib.Core.Bool.{not}
 use mathlib.Core.List.{List, [], ◌∷◌}
+use Rattle.std.proofs.Common.{rules}
 use Rattle.conditions.proofs.Asked.{same, other}
 use Rattle.layout.specs.Layout.{capacity}
 use Rattle.state.specs.declared.types.Record.{Record}
@@ -11,44 +12,44 @@ use Rattle.calls.specs.Call.{sweep, feed}
 use Rattle.calls.specs.Images.{size}
 use Rattle.calls.specs.Table.{Row, images, word, kept_whole, refusal_of}
 use Rattle.calls.proofs.Laws.Table.{stops, given, skipped, whole-on, sweep-rows}
-use Rattle.refusals.proofs.Laws.Ready.{ready-whole}
+use Rattle.refusals.proofs.Laws.Ready.{err-number, ready-whole}
 use Rattle.refusals.proofs.refusal.of_sweep.Goals as goal
-use Rattle.refusals.proofs.refusal.of_sweep.Goals.{Else-k-ne0}
+use Rattle.refusals.proofs.refusal.of_sweep.Goals.{In_ok-of_whole}
 
 -- the rows from 7 on
 abbrev from-7 : Record → ℕ → List Row
 from-7 r len = images (size r) len ∷ []
 
-past-1 : (c : Else-k-ne0) → let a = c.args in refusal_of a.r (feed sweep a.images 0) ≡ word (from-7 a.r a.images)
+past-1 : (c : In_ok-of_whole) → let a = c.args in refusal_of a.r (feed sweep a.images 0) ≡ word (from-7 a.r a.images)
 past-1 c =
     let a = c.args in
     sweep-rows a.r (capacity (geometry a.r)) a.images 0
-    ∙ whole-on a.r (from-7 a.r a.images) c.of_whole-k.ensures.number c.if-k-ne0.false
+    ∙ whole-on a.r (from-7 a.r a.images) c.in_ok-of_whole.ensures.number refl
 
-pub returns-then-k-ne0 : goal.returns-then-k-ne0
-returns-then-k-ne0 c =
+pub returns-in_err-of_whole : goal.returns-in_err-of_whole
+returns-in_err-of_whole c =
     record {
       number =
           let a = c.args in
-          stops (kept_whole a.r) (from-7 a.r a.images) c.of_whole-k.ensures.number c.if-k-ne0.true
+          stops (kept_whole a.r) (from-7 a.r a.images) (search rules) (err-number c.from_residual.result c.from_residual.ensures.0)
           ∙ sym (sweep-rows a.r (capacity (geometry a.r)) a.images 0);
     }
 
 pub size_with-requires : goal.size_with-requires
 size_with-requires c =
-    let l = ready-whole c.args.r c.of_whole-k.ensures.number c.if-k-ne0.false in
+    let l = ready-whole c.args.r c.in_ok-of_whole.ensures.number refl in
     (l, l.array.disks.m_high)
 
 pub returns-then-images-size_with : goal.returns-then-images-size_with
 returns-then-images-size_with c =
     record {
       number =
-          sym (past-1 (goal.at.returns-then-images-size_with c).Else-k-ne0 ∙ given 7 [] (ap not (other c.size_with.ensures.length c.if-images-size_with.true)));
+          sym (past-1 (goal.at.returns-then-images-size_with c).In_ok-of_whole ∙ given 7 [] (ap not (other c.size_with.ensures.length c.if-images-size_with.true)));
     }
 
 pub returns : goal.returns
 returns c =
     record {
       number =
-          sym (past-1 (goal.at.returns c).Else-k-ne0 ∙ skipped 7 [] (ap not (same c.size_with.ensures.length c.if-images-size_with.false)));
+          sym (past-1 (goal.at.returns c).In_ok-of_whole ∙ skipped 7 [] (ap not (same c.size_with.ensures.length c.if-images-size_with.false)));
     }

@@ -1,16 +1,21 @@
 -- `out` meets its contract. Assumes nothing.
-use mathlib.Core.Path.{refl, sym, ◌∙◌}
+use mathlib.Core.Path.{refl, sym}
 use mathlib.Core.List.{[]}
+use Rattle.std.proofs.Common.{rules}
 use Rattle.calls.specs.Call.{out, on}
-use Rattle.refusals.proofs.Laws.Called.{called-refused, called-done}
+use Rattle.calls.specs.Effect.{effect}
+use Rattle.refusals.proofs.Laws.Called.{called-stopped, called-done, err-changed, err-unchanged}
 use Rattle.repair.proofs.failing.out.Goals as goal
 
-pub returns-then-k-ne0 : goal.returns-then-k-ne0
-returns-then-k-ne0 c =
+pub returns-in_err-of_out : goal.returns-in_err-of_out
+returns-in_err-of_out c =
     let a = c.args in
-    rw (called-refused (on (out a.d) [] []) a.r _ (sym c.of_out-k.ensures.number) c.if-k-ne0.true) (record { answer = refl; state = refl })
+    let x = c.from_residual.result in
+    let l = c.from_residual.ensures.0 in
+    rw (called-stopped (on (out a.d) [] []) a.r x l (search rules)) (record { answer = err-changed x l; state = err-unchanged a.r x l })
 
 pub returns : goal.returns
+unfolding effect
 returns c =
     let a = c.args in
-    rw (called-done (on (out a.d) [] []) a.r (sym c.of_out-k.ensures.number ∙ c.if-k-ne0.false)) c.take_out.ensures
+    rw (called-done (on (out a.d) [] []) a.r (sym c.in_ok-of_out.ensures.number)) (record { answer = refl; state = c.take_out.ensures.state })

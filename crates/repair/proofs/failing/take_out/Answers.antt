@@ -1,5 +1,5 @@
 -- `take_out` meets its contract. Assumes nothing.
-use mathlib.Core.Path.{refl, ap, ◌∙◌}
+use mathlib.Core.Path.{ap, ◌∙◌}
 use native.Mathlib.Omega.{arith}
 use Rattle.state.specs.Update.{with_health}
 use Rattle.calls.specs.Images.{recorded}
@@ -13,4 +13,4 @@ overflow_cast-d c = omega (arith, out-asks c.args.r c.args.d c.requires)
 pub returns : goal.returns
 unfolding effect recorded
 returns c =
-    record { answer = refl; state = c.with_health.ensures ∙ ap (with_health c.args.r) c.after_out.ensures.health }
+    record { state = c.with_health.ensures ∙ ap (with_health c.args.r) c.after_out.ensures.health }

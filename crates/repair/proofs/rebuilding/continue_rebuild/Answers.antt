@@ -1,16 +1,21 @@
 -- `continue_rebuild` meets its contract. Assumes nothing.
-use mathlib.Core.Path.{refl, sym, ◌∙◌}
+use mathlib.Core.Path.{refl, sym}
 use mathlib.Core.List.{[]}
+use Rattle.std.proofs.Common.{rules}
 use Rattle.calls.specs.Call.{continue, on}
-use Rattle.refusals.proofs.Laws.Called.{called-refused, called-done}
+use Rattle.calls.specs.Effect.{effect}
+use Rattle.refusals.proofs.Laws.Called.{called-stopped, called-done, err-counted, err-uncounted}
 use Rattle.repair.proofs.rebuilding.continue_rebuild.Goals as goal
 
-pub returns-then-refused-ne0 : goal.returns-then-refused-ne0
-returns-then-refused-ne0 c =
+pub returns-in_err-of_continue : goal.returns-in_err-of_continue
+returns-in_err-of_continue c =
     let a = c.args in
-    rw (called-refused (on (continue a.k) a.images.now []) a.r _ (sym c.of_continue-refused.ensures.number) c.if-refused-ne0.true) (record { answer = refl; state = refl; images = refl })
+    let x = c.from_residual.result in
+    let l = c.from_residual.ensures.0 in
+    rw (called-stopped (on (continue a.k) a.images.now []) a.r x l (search rules)) (record { answer = err-counted x l; state = err-uncounted a.r x l; images = refl })
 
 pub returns : goal.returns
+unfolding effect
 returns c =
     let a = c.args in
-    rw (called-done (on (continue a.k) a.images.now []) a.r (sym c.of_continue-refused.ensures.number ∙ c.if-refused-ne0.false)) c.rebuild_due.ensures
+    rw (called-done (on (continue a.k) a.images.now []) a.r (sym c.in_ok-of_continue.ensures.number)) (record { answer = c.rebuild_due.ensures.answer; state = c.rebuild_due.ensures.state; images = c.rebuild_due.ensures.images })

@@ -22,4 +22,4 @@ unfolding marked
 loop-b-init c = (refl, refl, omega arith)
 
 pub loop-b-preserved : goal.loop-b-preserved
-loop-b-preserved c = (one_more _ _ _ _ _ _ c.loop-b.invariant.0 c.mark-bytes.ensures c.write.ensures.images, omega arith, omega arith)
+loop-b-preserved c = (one_more _ _ _ _ _ _ c.loop-b.invariant.0 c.mark.ensures c.write.ensures.images, omega arith, omega arith)

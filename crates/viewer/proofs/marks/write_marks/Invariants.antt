@@ -1,5 +1,5 @@
 -- `write_marks` meets its contract. The loop has written the first b blocks. Assumes nothing.
-use Prim.Native.Nat.{◌-◌, ◌≤◌}
+use Prim.Native.Nat.{◌≤◌}
 use mathlib.Core.Path.{◌≡◌}
 use lib.ListN.{length}
 use Rattle.viewer.specs.Marks.{marked}
@@ -7,6 +7,3 @@ use Rattle.viewer.proofs.marks.write_marks.Given as goal
 
 abbrev pub invariant-loop-b : goal.invariant-loop-b
 invariant-loop-b l = (l.images ≡ marked l.r l.initial.images l.b) × (length l.images ≡ length l.initial.images) × (l.b ≤ l.count)
-
-abbrev pub decreases-loop-b : goal.decreases-loop-b
-decreases-loop-b l = l.count - l.b
