@@ -145,9 +145,14 @@ pub fn structs(source: &str) -> Structs {
             let (name, rest) = text[at + word.len()..].split_once('{').expect("fields");
             let (fields, _) = bracketed(rest, '{', '}');
             let fields = split(fields, ',').filter_map(Parameter::of).collect();
-            (name.trim().to_string(), fields)
+            (head(name).to_string(), fields)
         })
         .collect()
+}
+
+/// The name of a type, without its parameters.
+fn head(kind: &str) -> &str {
+    kind.split('<').next().unwrap().trim()
 }
 
 /// The enums of a source file, with the text of each variant.
@@ -239,12 +244,20 @@ pub const RECORDS: &[(&str, &[usize])] = &[("Stored", &[3, 4])];
 /// What definitions make of an answer that is an enum, or a struct of bytes; those of one type together leave nothing of it
 /// open.
 const MADE: &[(&str, &[&str])] = &[
-    ("Changed", &["changed_answer", "changed_record"]),
-    ("Counted", &["counted_answer", "counted_record"]),
-    ("Report", &["report_answer"]),
-    ("Located", &["located_answer"]),
-    ("Owned", &["owned_answer"]),
-    ("Swept", &["swept_answer"]),
+    ("Result<(), Refusal>", &["number_of"]),
+    ("Result<u64, Refusal>", &["number_of", "count_of"]),
+    (
+        "Result<Record, Refusal>",
+        &["changed_answer", "changed_record"],
+    ),
+    (
+        "Result<Progress, Refusal>",
+        &["counted_answer", "counted_record"],
+    ),
+    ("Result<Figures, Refusal>", &["report_answer"]),
+    ("Result<Standing, Refusal>", &["located_answer"]),
+    ("Result<Role, Refusal>", &["owned_answer"]),
+    ("Result<Swept, Refusal>", &["swept_answer"]),
     ("Lane", &["lane_bytes"]),
     ("Quad", &["quad_bytes"]),
 ];
@@ -381,41 +394,30 @@ impl Function {
     pub fn says_answer(&self, structs: &Structs) -> bool {
         match &self.returns {
             None => true,
-            Some(_) if self.returns_reference() => self.given().contains(&format!("{ANSWER}.now")),
             Some(kind) => says_all(&self.given(), ANSWER, kind, structs),
         }
     }
 
-    /// Whether it says what it leaves of this parameter, which it is lent to write: what it holds at exit; or, where a reference is
-    /// returned, that it is handed back through another parameter.
+    /// Whether it says what it leaves of this parameter, which it is lent to write: what it holds at exit; or, where it is spent on what
+    /// is returned, in which part of that it is handed back.
     pub fn says_exit(&self, parameter: &Parameter) -> bool {
         let name = &parameter.name;
         let held = format!("{name}.new");
         let given = self.given();
-        let mut others = self.parameters.iter().filter(|p| p.is_written());
-        given.iter().any(|side| lists(side).contains(&held))
-            || self.points(name)
-            || (self.returns_reference() && others.any(|p| self.hands_back(name, &p.name)))
+        given.iter().any(|side| lists(side).contains(&held)) || self.hands_back(name, &given)
     }
 
-    fn returns_reference(&self) -> bool {
-        self.returns
-            .as_ref()
-            .is_some_and(|kind| kind.starts_with('&'))
-    }
-
-    /// Whether it says of `p: &mut &[u8]` what p points to at exit, and where that begins.
-    fn points(&self, p: &str) -> bool {
-        let given = self.given();
-        given.contains(&format!("{p}.new.now")) && given.contains(&format!("{p}.new.ref_ptr"))
-    }
-
-    /// Whether what p points to at exit begins where `name` began.
-    fn hands_back(&self, name: &str, p: &str) -> bool {
-        let start = format!("{p}.new.ref_ptr");
+    /// Whether a part of the answer begins where `name` began, and its bytes are said.
+    fn hands_back(&self, name: &str, given: &[String]) -> bool {
         let entry = format!("{name}.entry.ref_ptr");
+        let is_said = |side: &String| {
+            let part = side.strip_suffix(".ref_ptr");
+            part.is_some_and(|part| {
+                part.starts_with(ANSWER) && given.contains(&format!("{part}.now"))
+            })
+        };
         let mut sides = self.ensures.iter().flat_map(equations);
-        self.points(p) && sides.any(|two| two.contains(&start) && two.contains(&entry))
+        sides.any(|two| two.contains(&entry) && two.iter().any(is_said))
     }
 
     /// The parameters that it is lent to write and does not speak of.
@@ -436,6 +438,9 @@ impl Function {
 /// Whether the sides have a value of this type: itself, all fields of a struct, or all that the definitions make of
 /// it, for an enum or a struct of bytes.
 fn says_all(given: &[String], value: &str, kind: &str, structs: &Structs) -> bool {
+    if kind.starts_with('&') {
+        return given.contains(&format!("{value}.now"));
+    }
     if given.iter().any(|side| side == value) {
         return true;
     }
@@ -443,7 +448,7 @@ fn says_all(given: &[String], value: &str, kind: &str, structs: &Structs) -> boo
         let says = |name: &&str| given.iter().any(|side| is_made(side, name, value));
         return definitions.iter().all(says);
     }
-    structs.get(kind).is_some_and(|fields| {
+    structs.get(head(kind)).is_some_and(|fields| {
         let says =
             |f: &Parameter| says_all(given, &format!("{value}.{}", f.name), &f.kind, structs);
         !fields.is_empty() && fields.iter().all(says)

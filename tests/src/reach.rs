@@ -1,5 +1,6 @@
 //! What a Rattle function reaches: what its text names, what the text of that names, and so on, through all crates. A name is that of
-//! its own file, or of the one that the file has it from by a `use`, or it stands after its crate (`access::write`).
+//! its own file, or of the one that the file has it from by a `use`, or it stands after its crate (`access::write`). A method is taken to
+//! be every method of that name that our crates have, whatever type it is called on; one that none of them has is the library's.
 
 use crate::contracts::{bracketed, functions, without_comments};
 use std::collections::BTreeSet;
@@ -25,6 +26,8 @@ struct File {
     in_crate: String,
     module: String,
     items: Vec<Item>,
+    /// Its functions may be methods.
+    has_methods: bool,
     /// The parts of each `use`, but for the ghost ones.
     uses: Vec<Vec<String>>,
 }
@@ -35,9 +38,12 @@ impl File {
         let (in_crate, rest) = path.split_once("/src/")?;
         let module = rest.strip_suffix(".rt")?;
         let text = without_comments(text);
-        let is_impl = |line: &str| line.trim_start().starts_with("impl");
-        let has_methods = text.lines().any(is_impl);
-        assert!(!has_methods, "{path}: methods are not followed");
+        let is_block = |line: &str| {
+            ["impl", "trait", "pub trait"]
+                .iter()
+                .any(|w| line.starts_with(w))
+        };
+        let has_methods = text.lines().any(is_block);
         let item = |(name, text)| Item {
             name,
             in_crate: in_crate.to_string(),
@@ -48,6 +54,7 @@ impl File {
             in_crate: in_crate.to_string(),
             module: module.to_string(),
             items: items(&text).into_iter().map(item).collect(),
+            has_methods,
             uses: uses(&text),
         })
     }
@@ -108,12 +115,14 @@ struct Path<'a> {
     parts: Vec<&'a str>,
     /// As a function: variants of an enum begin with a capital.
     is_called: bool,
+    /// After a dot.
+    is_method: bool,
 }
 
 /// What may stand before a bracket and is no function.
 const KEYWORDS: &[&str] = &["if", "while", "match", "return"];
 
-/// All but fields and methods, which stand after a dot.
+/// All but fields.
 fn paths(text: &str) -> Vec<Path<'_>> {
     let is_part = |c: char| c.is_alphanumeric() || c == '_' || c == ':';
     let mut all = Vec::new();
@@ -124,12 +133,15 @@ fn paths(text: &str) -> Vec<Path<'_>> {
         let (word, behind) = behind.split_at(end);
         let parts: Vec<&str> = word.trim_matches(':').split("::").collect();
         let last = parts[parts.len() - 1];
-        if !before.ends_with('.') || before.ends_with("..") {
+        let is_method = before.ends_with('.') && !before.ends_with("..");
+        let is_called = (behind.starts_with('(') || behind.starts_with("::<"))
+            && last.starts_with(char::is_lowercase)
+            && !KEYWORDS.contains(&last);
+        if is_called || !is_method {
             all.push(Path {
-                is_called: behind.starts_with('(')
-                    && last.starts_with(char::is_lowercase)
-                    && !KEYWORDS.contains(&last),
                 parts,
+                is_called,
+                is_method,
             });
         }
         rest = behind;
@@ -165,16 +177,34 @@ impl Sources {
     /// What the text of an item names. Every call must be found.
     fn named(&self, item: &Item) -> Vec<&Item> {
         let find = |path: Path| {
-            let found = self.named_by(item, &path.parts);
+            let last = path.parts[path.parts.len() - 1];
+            let found = if path.is_method {
+                return self.methods(last);
+            } else {
+                self.named_by(item, &path.parts)
+            };
+            // of a type, or of a type's parameter, as `Lane::load` or `W::load`
+            let methods = match (found, &path.parts[..]) {
+                (None, [_, name]) if path.is_called => self.methods(name),
+                _ => Vec::new(),
+            };
+            let is_library = NUMBERS.contains(&path.parts[0]);
             let what = path.parts.join("::");
             assert!(
-                found.is_some() || !path.is_called,
+                found.is_some() || !methods.is_empty() || is_library || !path.is_called,
                 "{what}, called by {}",
                 item.place()
             );
-            found
+            found.into_iter().chain(methods).collect()
         };
-        paths(&item.text).into_iter().filter_map(find).collect()
+        paths(&item.text).into_iter().flat_map(find).collect()
+    }
+
+    /// All methods of this name.
+    fn methods(&self, name: &str) -> Vec<&Item> {
+        let files = self.0.iter().filter(|file| file.has_methods);
+        let items = files.flat_map(|file| &file.items);
+        items.filter(|item| item.name == name).collect()
     }
 
     fn named_by(&self, item: &Item, parts: &[&str]) -> Option<&Item> {

@@ -208,10 +208,18 @@ fn an_array_in_a_tuple_struct() {
     );
 }
 
+/// Called on a value, by its type and by a type's parameter; one of the library is none of ours.
 #[test]
-#[should_panic(expected = "a/src/lib.rt: methods are not followed")]
-fn a_method() {
-    made_up(&[("a/src/lib.rt", "impl Own {\n}\n")]);
+fn methods_are_followed() {
+    let own = "impl Own {\n    pub fn fill(&self) -> u64\n    {\n        let x = [a, b];\n        0\n    }\n}\n";
+    for call in ["o.fill()", "Own::fill(o)", "W::fill(o).min(3)"] {
+        let lib = format!("use own::Own;\npub fn go(o: Own) -> u64\n{{\n    {call}\n}}\n");
+        let sources = made_up(&[("a/src/lib.rt", &lib), ("a/src/own.rt", own)]);
+        assert_eq!(
+            arrays_of(&sources.reached("a", "go")),
+            ["[a, b] of fill in a/src/own.rt"]
+        );
+    }
 }
 
 /// `impl` in a type has no method.

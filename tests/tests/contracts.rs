@@ -127,7 +127,10 @@ fn the_search_finds_the_functions() {
     assert!(lent > 40, "lent to write: {lent}");
     let fields =
         |name: &str| -> Vec<&str> { structs[name].iter().map(|f| f.name.as_str()).collect() };
-    assert_eq!(fields("Count"), ["number", "made"]);
+    assert_eq!(fields("Progress"), ["made", "rec"]);
+    assert_eq!(fields("Figures"), ["capacity", "moves", "total", "health"]);
+    assert_eq!(fields("Swept"), ["unsound", "read"]);
+    assert_eq!(fields("Viewed"), ["view", "left", "outcome"]);
     assert_eq!(fields("Place"), ["stripe", "disk"]);
 }
 
@@ -257,7 +260,7 @@ fn only(text: &str) -> Function {
 }
 
 fn says_answer(text: &str) -> bool {
-    only(text).says_answer(&structs("pub struct Pair { pub a: u64, pub b: Count, }\npub struct Count { pub number: u8, pub made: u64 }"))
+    only(text).says_answer(&structs("pub struct Pair { pub a: u64, pub b: Count, }\npub struct Count { pub number: u8, pub made: u64 }\npub struct Shown<'a> { pub part: &'a [u8], pub count: u64 }"))
 }
 
 /// A function that returns this type, with this clause.
@@ -300,12 +303,16 @@ fn an_answer_is_set_equal_to_something() {
             "ensures { result.a ≡ x }\n    ensures { (result.b.number ≡ 0) × (result.b.made ≡ 1) }",
         ),
         (
-            "Report",
+            "Result<Figures, Refusal>",
             "ensures { report_answer result ≡ (called (on status [] []) y).answer }",
         ),
         (
-            "Changed",
+            "Result<Record, Refusal>",
             "ensures { changed_answer result ≡ a }\n    ensures { changed_record y result ≡ b }",
+        ),
+        (
+            "Shown<'a>",
+            "ensures { (result.part.now ≡ x) × (result.count ≡ y) }",
         ),
         (
             "Lane",
@@ -342,9 +349,23 @@ fn less_is_no_answer() {
         ("&'a [u8]", "ensures place { result.ref_ptr ≡ f x }"),
         ("Count", "ensures { result.number ≡ 0 }"),
         ("Pair", "ensures { (result.a ≡ 0) × (result.b.made ≡ 1) }"),
-        ("Changed", "ensures { changed_answer result ≡ a }"),
-        ("Changed", "ensures { changed_record y result ≡ b }"),
-        ("Report", "ensures { changed_answer result ≡ a }"),
+        (
+            "Result<Record, Refusal>",
+            "ensures { changed_answer result ≡ a }",
+        ),
+        (
+            "Result<Record, Refusal>",
+            "ensures { changed_record y result ≡ b }",
+        ),
+        (
+            "Result<Figures, Refusal>",
+            "ensures { changed_answer result ≡ a }",
+        ),
+        ("Shown<'a>", "ensures { result.part.now ≡ x }"),
+        (
+            "Shown<'a>",
+            "ensures { (result.part.ref_ptr ≡ x) × (result.count ≡ y) }",
+        ),
         ("Quad", "ensures { lane_bytes result ≡ x }"),
         ("Lane", "ensures { f (lane_bytes result) ≡ x }"),
         ("Lane", "ensures { result.b0 ≡ x }"),
@@ -402,23 +423,19 @@ fn what_is_lent_to_write_is_named_at_exit() {
 
 #[test]
 fn what_is_returned_is_handed_back() {
-    let lent = "scratch: &'a mut [u8], left: &mut &'a [u8]";
-    let bytes = "ensures scratch { left.new.now ≡ (called (f x) r).room }";
-    let start = "ensures whole { left.new.ref_ptr ≡ scratch.entry.ref_ptr }";
-    let elsewhere = "ensures whole { left.new.ref_ptr ≡ images.entry.ref_ptr }";
+    let lent = "scratch: &'a mut [u8]";
+    let bytes = "ensures scratch { result.left.now ≡ (called (f x) r).room }";
+    let start = "ensures whole { result.left.ref_ptr ≡ scratch.entry.ref_ptr }";
     let none: [&str; 0] = [];
     assert_eq!(open(lent, &format!("{bytes}\n    {start}")), none);
-    assert_eq!(open(lent, bytes), ["scratch", "left"]);
-    assert_eq!(open(lent, start), ["scratch", "left"]);
-    assert_eq!(
-        open(lent, &format!("{bytes}\n    {elsewhere}")),
-        ["scratch"]
-    );
-    let none_back = "scratch: &'a mut [u8]";
-    assert_eq!(
-        open(none_back, &format!("{bytes}\n    {start}")),
-        ["scratch"]
-    );
+    for less in [
+        "ensures whole { result.left.ref_ptr ≡ images.entry.ref_ptr }",
+        "ensures whole { result.view.ref_ptr ≡ scratch.entry.ref_ptr }",
+        "",
+    ] {
+        assert_eq!(open(lent, &format!("{bytes}\n    {less}")), ["scratch"]);
+    }
+    assert_eq!(open(lent, start), ["scratch"]);
 }
 
 #[test]
@@ -590,14 +607,10 @@ fn fields_of_variants_are_in_order() {
     for (_, text) in texts(&target().join("../crates"), "rt") {
         found.extend(named_fields(&text));
     }
-    let wanted: [(&str, &[&str]); 7] = [
-        ("Counted::Made", &["count", "record"]),
+    let wanted: [(&str, &[&str]); 3] = [
         ("Field::Number", &["value", "next"]),
         ("Health::Rebuilding", &["disk", "done"]),
-        ("Report::Figures", &["capacity", "moves", "total", "health"]),
         ("Request::Zone", &["n", "m", "z"]),
-        ("Swept::Sound", &["read"]),
-        ("Swept::Unsound", &["stripe", "read"]),
     ];
     let owned = |names: &[&str]| names.iter().map(|n| n.to_string()).collect::<Vec<_>>();
     let wanted = wanted.map(|(variant, names)| (variant.to_string(), owned(names)));

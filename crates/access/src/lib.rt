@@ -1,5 +1,5 @@
 // The calls that reach one block: read, view and write. None requires anything: each asks
-// `refusals` for its number, and is made where that is 0.
+// `refusals` first, and is made where that lets it through.
 #![tactic(auto)]
 
 mod reading;

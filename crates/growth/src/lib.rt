@@ -1,5 +1,5 @@
 // The calls that make the array and grow it: format, grow and advance. None requires anything: each asks
-// `refusals` for its number, and is made where that is 0.
+// `refusals` first, and is made where that lets it through.
 #![tactic(auto)]
 
 mod advancing;

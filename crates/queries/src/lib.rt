@@ -1,5 +1,5 @@
 // The calls that answer from the record alone: status, locate and owner. None requires anything: each asks
-// `refusals` for its number, and is made where that is 0.
+// `refusals` first, and is made where that lets it through.
 #![tactic(auto)]
 
 mod asking;

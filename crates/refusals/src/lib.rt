@@ -1,6 +1,6 @@
-// Deciding: what each call is refused for, by the table of documents 01 and 02. Beside it what the
-// crates of the calls share: what health means for a disk, where places lie, how much of what is left a call does, and the answers
-// (specs/Answers.antt says what the enums are in document 01's numbers and values).
+// Deciding: what each call is refused for, by the table of documents 01 and 02. Beside it what the crates of the calls share: what health
+// means for a disk, where places lie, how much of what is left a call does, and the answers (specs/Answers.antt says what they are in
+// document 01's numbers and values).
 #![tactic(auto)]
 
 mod answers;

@@ -1,5 +1,5 @@
 // The calls on a disk that fails and is rebuilt: out, begin and continue. None requires anything: each asks
-// `refusals` for its number, and is made where that is 0.
+// `refusals` first, and is made where that lets it through.
 #![tactic(auto)]
 
 mod failing;

@@ -1,4 +1,4 @@
-// The call that reads all stripes: sweep. It requires nothing: it asks `refusals` for its number, and is made where that is 0.
+// The call that reads all stripes: sweep. It requires nothing: it asks `refusals` first, and is made where that lets it through.
 #![tactic(auto)]
 
 mod sweeping;
