@@ -1,6 +1,6 @@
 // Which records are good. The limits of single fields are functions of their own: format and grow are held to them too.
 ghost use Rattle.std.specs.Prelude.{◌≤◌, ◌≡◌};
-ghost use Rattle.state.specs.Good.{geometry, within, old_good, new_good, added_good, block_good, stripes_good};
+ghost use Rattle.state.specs.Good.{geometry, old_good, new_good, added_good, block_good, stripes_good};
 ghost use Rattle.state.specs.Good.{moves_good, health_good, good};
 
 use crate::types::{Health, Record};
@@ -19,64 +19,49 @@ pub fn geometry_of(r: Record) -> Geometry
     }
 }
 
-// Is x between the two, both included?
-fn is_within(low: u64, x: u64, high: u64) -> bool
-    ensures { result ≡ within low x high }
-{
-    if x < low {
-        return false;
-    }
-    x <= high
-}
-
 // May an array have n old disks?
 pub fn old_is_good(n: u64) -> bool
     ensures { result ≡ old_good n }
 {
-    is_within(3, n, 16)
+    (3..=16).contains(&n)
 }
 
 // May m disks be added to an array?
 pub fn new_is_good(m: u64) -> bool
     ensures { result ≡ new_good m }
 {
-    is_within(1, m, 16)
+    (1..=16).contains(&m)
 }
 
 // May a block be this long?
 pub fn block_is_good(length: u64) -> bool
     ensures { result ≡ block_good length }
 {
-    is_within(1, length, 4096)
+    (1..=4096).contains(&length)
 }
 
 // May an array have this many stripes?
 pub fn stripes_are_good(stripes: u64) -> bool
     ensures { result ≡ stripes_good stripes }
 {
-    is_within(1, stripes, 1048576)
+    (1..=1048576).contains(&stripes)
 }
 
 // May an array have m new disks, or none?
 fn added_is_good(m: u64) -> bool
     ensures { result ≡ added_good m }
 {
-    if m == 0 {
-        return true;
-    }
-    new_is_good(m)
+    m == 0 || new_is_good(m)
 }
 
 // Can the array have come this far? (With no new disk the total is 0. To ask for it there too costs less than to ask for m first: the
 // compiler then makes one division of this and of the test whether all moves are made.)
+#[tactic(auto, unfolding(crate::specs::Good::moves_good))]
 fn moves_are_good(r: Record) -> bool
     requires { (3 ≤ r.old) × (r.old ≤ 16) × (r.stripes ≤ 1048576) }
     ensures { result ≡ moves_good (geometry r) }
 {
-    if !added_is_good(r.new as u64) {
-        return false;
-    }
-    moves_fit(geometry_of(r))
+    added_is_good(r.new as u64) && moves_fit(geometry_of(r))
 }
 
 // Is the disk that is out or being rebuilt, if one is, a disk of the array, and is a stripe of it left to rebuild?
@@ -84,36 +69,22 @@ fn health_is_good(disks: u64, stripes: u32, health: Health) -> bool
     ensures { result ≡ health_good disks stripes health }
 {
     match health {
-        Health::Whole => true,
+        Health::Whole | Health::Lost => true,
         Health::Out(d) => (d as u64) < disks,
-        Health::Lost => true,
-        Health::Rebuilding { disk, done } => {
-            if disks <= disk as u64 {
-                return false;
-            }
-            done < stripes
-        }
+        Health::Rebuilding { disk, done } => (disk as u64) < disks && done < stripes,
     }
 }
 
 // Is every field in its limits?
+#[tactic(auto, unfolding(crate::specs::Good::good))]
 pub fn is_good(r: Record) -> bool
     ensures { result ≡ good r }
 {
     let n = r.old as u64;
     let m = r.new as u64;
-    let health = r.health;
-    if !old_is_good(n) {
-        return false;
-    }
-    if !block_is_good(r.block as u64) {
-        return false;
-    }
-    if !stripes_are_good(r.stripes as u64) {
-        return false;
-    }
-    if !moves_are_good(r) {
-        return false;
-    }
-    health_is_good(n + m, r.stripes, health)
+    old_is_good(n)
+        && block_is_good(r.block as u64)
+        && stripes_are_good(r.stripes as u64)
+        && moves_are_good(r)
+        && health_is_good(n + m, r.stripes, r.health)
 }

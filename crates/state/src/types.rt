@@ -1,6 +1,6 @@
 // All disks are in; two were out at once, and nothing can be read until a new format; the one that is out; or the one that is being
 // rebuilt, with the stripes of it that are done: those below that number.
-#[derive(Clone, Copy)]
+#[derive(Clone, Copy, PartialEq, Eq, Debug)]
 pub enum Health {
     Whole,
     Lost,
@@ -9,7 +9,7 @@ pub enum Health {
 }
 
 // n old disks, m new ones (0 before growth), B the block length, T stripes, t moves done.
-#[derive(Clone, Copy)]
+#[derive(Clone, Copy, PartialEq, Eq, Debug)]
 pub struct Record {
     pub old: u8,
     pub new: u8,

@@ -12,8 +12,8 @@ pub fn formatted(n: u8, block: u16, stripes: u32) -> Record
         old: n,
         new: 0,
         health: Health::Whole,
-        block: block,
-        stripes: stripes,
+        block,
+        stripes,
         moves: 0,
     }
 }
@@ -22,14 +22,10 @@ pub fn formatted(n: u8, block: u16, stripes: u32) -> Record
 pub fn grown_by(r: Record, m: u8) -> Record
     ensures { result ≡ grown_by r m }
 {
-    let health = r.health;
     Record {
-        old: r.old,
         new: m,
-        health: health,
-        block: r.block,
-        stripes: r.stripes,
         moves: 0,
+        ..r
     }
 }
 
@@ -37,27 +33,12 @@ pub fn grown_by(r: Record, m: u8) -> Record
 pub fn with_moves(r: Record, moves: u32) -> Record
     ensures { result ≡ with_moves r moves }
 {
-    let health = r.health;
-    Record {
-        old: r.old,
-        new: r.new,
-        health: health,
-        block: r.block,
-        stripes: r.stripes,
-        moves: moves,
-    }
+    Record { moves, ..r }
 }
 
 // With another health.
 pub fn with_health(r: Record, health: Health) -> Record
     ensures { result ≡ with_health r health }
 {
-    Record {
-        old: r.old,
-        new: r.new,
-        health: health,
-        block: r.block,
-        stripes: r.stripes,
-        moves: r.moves,
-    }
+    Record { health, ..r }
 }

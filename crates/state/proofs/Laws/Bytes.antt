@@ -8,6 +8,7 @@ use lib.ListN.{length, get_or, drop}
 use lib.Seq.{drop-cons, drop-length}
 use lib.Dec.{eqb}
 use borrow.Author.Tests.{leb-true, eqb-true}
+use Rattle.std.specs.Int.{w16, w32, to_le_bytes}
 use Rattle.blocks.specs.Block.{AreBytes}
 use Rattle.blocks.proofs.Laws.Number.{two_back, four-back, two_bytes, four_bytes}
 use Rattle.state.specs.declared.types.Health.TheVariants.{Whole, Out, Lost, Rebuilding}
@@ -93,6 +94,14 @@ bytes-encode r f =
     let counts = four-fits r.stripes f.stripes-fits (four-fits r.moves f.moves-fits done) in
     let sizes = two_fits r.block f.block-fits (more zero-fits (more zero-fits counts)) in
     small (more f.old-fits (more f.new-fits (more h.0 (more h.1 sizes))))
+
+-- ---- the bytes of a number that fits them, by the library's rule: it takes each byte modulo 256, the last one too
+
+pub le-two : (x : ℕ) → x < 65536 → to_le_bytes w16 x ≡ x % 256 ∷ x / 256 ∷ []
+le-two x h = let e : x / 256 % 256 ≡ x / 256 = omega arith in cc
+
+pub le-four : (x : ℕ) → x < 4294967296 → to_le_bytes w32 x ≡ x % 256 ∷ x / 256 % 256 ∷ x / 65536 % 256 ∷ x / 16777216 ∷ []
+le-four x h = let e : x / 16777216 % 256 ≡ x / 16777216 = omega arith in cc
 
 -- ---- from the bytes to the record and back
 

@@ -1,10 +1,10 @@
 -- The limits of a record, from the tests to the facts and back. Assumes nothing.
 use Prim.Native.Nat.{ℕ, ◌+◌, ◌≤◌, ◌<◌}
-use mathlib.Core.Path.{◌≡◌, refl, sym, ◌∙◌, subst}
-use mathlib.Core.Bool.{true, false}
+use mathlib.Core.Path.{◌≡◌, refl, ◌∙◌, subst}
+use mathlib.Core.Bool.{true}
 use native.Mathlib.Decide.{ℕ_discrete}
 use native.Mathlib.Omega.{arith}
-use lib.Dec.{leb, eqb}
+use lib.Dec.{eqb}
 use borrow.Author.Tests.{ltb-true, leb-true, lt-ltb, le-leb, eq-eqb, ne_eqb}
 use Rattle.layout.specs.declared.Geometry.{Geometry}
 use Rattle.layout.specs.Layout.{total_of}
@@ -13,7 +13,7 @@ use Rattle.state.specs.declared.types.Health.{Health}
 use Rattle.state.specs.declared.types.Record.{Record}
 use Rattle.state.specs.Update.{with_health}
 use Rattle.state.specs.Good.{geometry, within, new_good, added_good, moves_good, health_good, good, HealthWithin, GoodRecord}
-use Rattle.conditions.proofs.Tests.{both, and-true, and-false, second}
+use Rattle.conditions.proofs.Tests.{both, and-true, second}
 
 -- ---- between two bounds
 
@@ -41,16 +41,6 @@ module _ (g : Geometry) where
   good-moves : g.new ≤ 16 → g.moves ≤ total_of g → moves_good g ≡ true
   unfolding moves_good
   good-moves p q = and-true _ _ (high-added g.new p) ∙ le-leb _ _ q
-
-  -- what a program says that asks for new disks, and then for the count
-
-  pub new-refused : added_good g.new ≡ false → false ≡ moves_good g
-  unfolding moves_good
-  new-refused h = sym (and-false _ _ h)
-
-  pub count-asked : added_good g.new ≡ true → leb g.moves (total_of g) ≡ moves_good g
-  unfolding moves_good
-  count-asked h = sym (and-true _ _ h)
 
 -- ---- health
 
