@@ -137,15 +137,16 @@ fn clause(name: &str, inside: &str) -> Clause {
     }
 }
 
-/// The structs of a source file.
+/// The structs of a source file, without their ghost fields.
 pub fn structs(source: &str) -> Structs {
     let text = without_comments(source);
     text.match_indices("struct ")
         .map(|(at, word)| {
             let (name, rest) = text[at + word.len()..].split_once('{').expect("fields");
             let (fields, _) = bracketed(rest, '{', '}');
-            let fields = split(fields, ',').filter_map(Parameter::of).collect();
-            (head(name).to_string(), fields)
+            let fields = split(fields, ',').filter_map(Parameter::of);
+            let fields = fields.filter(|field| !field.name.starts_with("ghost "));
+            (head(name).to_string(), fields.collect())
         })
         .collect()
 }
@@ -334,8 +335,25 @@ fn is_binder(premise: &[String]) -> bool {
     })
 }
 
-/// The equations of a record that the formula cites.
+/// The equations of `IfSome result (λ x. formula)`, with the answer for x: what is said of its value, if it has one.
+fn of_some(formula: &[String]) -> Option<Vec<[String; 2]>> {
+    let [word, value, function] = &arguments(formula)[..] else {
+        return None;
+    };
+    let (name, inside) = function.strip_prefix("λ ")?.split_once(". ")?;
+    let named = |word: String| match word.strip_prefix(name) {
+        Some(field) if field.is_empty() || field.starts_with('.') => format!("{ANSWER}{field}"),
+        _ => word,
+    };
+    let inside: Words = words(inside).into_iter().map(named).collect();
+    (word == "IfSome" && value == ANSWER).then(|| promised(&bare(&inside)))
+}
+
+/// The equations of a record that the formula cites, or of `IfSome`.
 fn cited(formula: &[String]) -> Vec<[String; 2]> {
+    if let Some(equations) = of_some(formula) {
+        return equations;
+    }
     let is_cited = |name: &str| formula.first().is_some_and(|first| first == name);
     let known = RECORDS.iter().find(|(name, _)| is_cited(name));
     let Some((name, about)) = known else {
@@ -435,8 +453,8 @@ impl Function {
     }
 }
 
-/// Whether the sides have a value of this type: itself, all fields of a struct, or all that the definitions make of
-/// it, for an enum or a struct of bytes.
+/// Whether the sides have a value of this type: itself, all fields of a struct, all that the definitions make of it, for an enum
+/// or a struct of bytes, or of an `Option` whether it has a value and what that is.
 fn says_all(given: &[String], value: &str, kind: &str, structs: &Structs) -> bool {
     if kind.starts_with('&') {
         return given.contains(&format!("{value}.now"));
@@ -447,6 +465,11 @@ fn says_all(given: &[String], value: &str, kind: &str, structs: &Structs) -> boo
     if let Some((_, definitions)) = MADE.iter().find(|(name, _)| *name == kind) {
         let says = |name: &&str| given.iter().any(|side| is_made(side, name, value));
         return definitions.iter().all(says);
+    }
+    let optional = kind.strip_prefix("Option<");
+    if let Some(kind) = optional.and_then(|kind| kind.strip_suffix('>')) {
+        let is_told = given.iter().any(|side| is_made(side, "is_some", value));
+        return is_told && says_all(given, value, kind, structs);
     }
     structs.get(head(kind)).is_some_and(|fields| {
         let says =

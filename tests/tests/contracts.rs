@@ -319,6 +319,10 @@ fn an_answer_is_set_equal_to_something() {
             "ensures { lane_bytes result ≡ xor_b (lane_bytes x) y }",
         ),
         ("Quad", "ensures { quad_bytes result ≡ f x }"),
+        (
+            "Option<Count>",
+            "ensures { is_some result ≡ f x }\n    ensures { IfSome result (λ c. (c.number ≡ 0) × (c.made ≡ x)) }",
+        ),
     ] {
         assert!(answering(kind, clause), "{clause}");
     }
@@ -369,6 +373,19 @@ fn less_is_no_answer() {
         ("Quad", "ensures { lane_bytes result ≡ x }"),
         ("Lane", "ensures { f (lane_bytes result) ≡ x }"),
         ("Lane", "ensures { result.b0 ≡ x }"),
+        ("Option<Count>", "ensures { is_some result ≡ f x }"),
+        (
+            "Option<Count>",
+            "ensures { IfSome result (λ c. (c.number ≡ 0) × (c.made ≡ x)) }",
+        ),
+        (
+            "Option<Count>",
+            "ensures { is_some result ≡ f x }\n    ensures { IfSome result (λ c. c.number ≡ 0) }",
+        ),
+        (
+            "Option<Count>",
+            "ensures { is_some result ≡ f x }\n    ensures { IfSome y (λ c. (result.number ≡ 0) × (result.made ≡ x)) }",
+        ),
         ("u64", "// ensures { result ≡ 2 }"),
     ] {
         assert!(!answering(kind, clause), "{clause}");
