@@ -5,6 +5,7 @@ ghost use Rattle.state.specs.Bytes.{record_length, done_from, health_of, decode,
 ghost use Rattle.state.specs.Bytes.{health_byte, disk_byte, stripes_done, encode};
 
 use crate::types::{Health, Record};
+use blocks::{join_four, join_two};
 
 // How many they are: `record_length`.
 pub const RECORD_LENGTH: usize = 20;
@@ -14,7 +15,7 @@ fn done_from(bytes: &[u8]) -> u32
     requires { length bytes.now ≡ record_length }
     ensures { result ≡ done_from bytes.now }
 {
-    u32::from_le_bytes([bytes[16], bytes[17], bytes[18], bytes[19]])
+    join_four(bytes[16], bytes[17], bytes[18], bytes[19])
 }
 
 // Is the health byte 0 to 3, are the stripes done zero unless it is 3, and is the disk unless it is 1 or 3?
@@ -50,7 +51,7 @@ fn health_from(h: u8, d: u8, done: u32) -> Health
     }
 }
 
-// The record that the bytes spell.
+// The record that the bytes spell. (Its numbers by `join_two` and `join_four`, which have no array: a write of C reads the record by this.)
 #[tactic(auto, unfolding(crate::specs::Bytes::decode))]
 pub fn decode(bytes: &[u8]) -> Record
     requires { length bytes.now ≡ record_length }
@@ -60,9 +61,9 @@ pub fn decode(bytes: &[u8]) -> Record
         old: bytes[0],
         new: bytes[1],
         health: health_from(bytes[2], bytes[3], done_from(bytes)),
-        block: u16::from_le_bytes([bytes[4], bytes[5]]),
-        stripes: u32::from_le_bytes([bytes[8], bytes[9], bytes[10], bytes[11]]),
-        moves: u32::from_le_bytes([bytes[12], bytes[13], bytes[14], bytes[15]]),
+        block: join_two(bytes[4], bytes[5]),
+        stripes: join_four(bytes[8], bytes[9], bytes[10], bytes[11]),
+        moves: join_four(bytes[12], bytes[13], bytes[14], bytes[15]),
     }
 }
 
