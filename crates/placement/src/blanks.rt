@@ -9,14 +9,14 @@ ghost use Rattle.layout.specs.Blanks.{blanks, blanks_below};
 ghost use Rattle.layout.specs.Runs.{settled, Resting, first_lag, end_lag, runs_of, lift_of};
 ghost use Rattle.layout.specs.Limits.{TakenApart};
 
-use crate::choice::{excess, pick};
+use crate::choice::pick;
 use layout::{Runs, Stripe};
 
 // The lags of the stripe's moves: from the first ..
 fn first_lag(n: u32, x: Stripe) -> u32
     ensures { result ≡ first_lag n x.within }
 {
-    excess(n, x.within)
+    n.saturating_sub(x.within)
 }
 
 // .. to below this one.
@@ -24,7 +24,7 @@ fn end_lag(n: u32, m: u32, x: Stripe) -> u32
     requires { TakenApart n m x }
     ensures { result ≡ end_lag n m x.within }
 {
-    n - excess(x.within, m)
+    n - x.within.saturating_sub(m)
 }
 
 fn runs_of(n: u32, m: u32, x: Stripe) -> Runs
@@ -34,15 +34,15 @@ fn runs_of(n: u32, m: u32, x: Stripe) -> Runs
     let first = first_lag(n, x);
     let end = end_lag(n, m, x);
     let left = end - first;
-    let early = left + excess(x.within, n);
+    let early = left + x.within.saturating_sub(n);
     let past = x.home + 1;
-    let low = excess(past, end);
+    let low = past.saturating_sub(end);
     Runs {
-        low: low,
-        high: n - excess(end, past),
-        some: excess(past, first) - low,
-        left: left,
-        early: early,
+        low,
+        high: n - end.saturating_sub(past),
+        some: past.saturating_sub(first) - low,
+        left,
+        early,
     }
 }
 
@@ -99,5 +99,5 @@ pub(crate) fn count_below(n: u32, m: u32, t: u32, x: Stripe, e: u32) -> u32
     ensures { (result ≤ e) × (Resting n m t x.number → taken n m t x.number e ≡ false →
         result ≡ length (blanks_below n m t x.number e)) }
 {
-    excess(e, pick(is_settled(n, m, t, x), disk_lift(n, m, x, e), n))
+    e.saturating_sub(pick(is_settled(n, m, t, x), disk_lift(n, m, x, e), n))
 }

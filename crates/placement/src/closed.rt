@@ -3,7 +3,7 @@ ghost use Rattle.std.specs.Prelude.{◌<◌, ◌≡◌};
 ghost use Rattle.layout.specs.Closed.{stripe_of, lag, carried_to, source, taken};
 ghost use Rattle.layout.specs.Limits.{Sizes, TakenApart};
 
-use crate::choice::{both, excess, pick};
+use crate::choice::pick;
 use layout::{Carried, Stripe};
 
 pub fn stripe_of(n: u32, m: u32, s: u32) -> Stripe
@@ -34,11 +34,11 @@ pub(crate) fn carried_to(n: u32, m: u32, t: u32, x: Stripe, d: u32) -> Carried
 {
     let i = lag_of(n, m, x, d);
     let p = x.within + i;
-    let turn = (x.zone * m + excess(p, n)) * n + i;
-    let moved = both(both(n <= p, p < n + m), turn < t);
+    let turn = (x.zone * m + p.saturating_sub(n)) * n + i;
+    let moved = (n <= p) & (p < n + m) & (turn < t);
     Carried {
         disk: pick(moved, p, d),
-        moved: moved,
+        moved,
     }
 }
 
@@ -47,7 +47,7 @@ pub(crate) fn source_of(n: u32, m: u32, x: Stripe, e: u32) -> u32
     requires { TakenApart n m x }
     ensures { result ≡ source n m x.number e }
 {
-    let i = excess(e, x.within);
+    let i = e.saturating_sub(x.within);
     let d = lag_of(n, m, x, pick(n <= i, 0, i));
     pick(e < n, e, d)
 }

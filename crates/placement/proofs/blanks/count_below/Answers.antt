@@ -6,4 +6,4 @@ use Rattle.placement.proofs.blanks.count_below.Goals as goal
 pub returns : goal.returns
 returns c =
     let w = c.requires in
-    resting-below _ _ (omega (arith, w.0.sizes.disks.n_low)) _ _ _ c.is_settled.ensures _ _ _ _ c.disk_lift.ensures c.pick.ensures c.excess.ensures
+    resting-below _ _ (omega (arith, w.0.sizes.disks.n_low)) _ _ _ c.is_settled.ensures _ _ _ _ c.disk_lift.ensures c.pick.ensures c.saturating_sub.ensures

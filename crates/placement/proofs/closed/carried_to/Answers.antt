@@ -1,4 +1,5 @@
 -- `carried_to` meets its contract. Assumes nothing.
+use mathlib.Core.Path.{refl}
 use native.Mathlib.Omega.{arith}
 use Rattle.layout.proofs.Laws.Apart.{says-carried}
 use Rattle.layout.proofs.Laws.Bounds.{turns}
@@ -11,13 +12,13 @@ pub overflow_add-turn : goal.overflow_add-turn
 overflow_add-turn c = omega (arith, turns _ _ _ c.requires.0 _ _ c.lag_of-i.ensures)
 
 pub overflow_mul-turn-2 : goal.overflow_mul-turn-2
-overflow_mul-turn-2 c = omega (arith, (turns _ _ _ c.requires.0 _ _ c.lag_of-i.ensures).index _ c.excess.ensures)
+overflow_mul-turn-2 c = omega (arith, (turns _ _ _ c.requires.0 _ _ c.lag_of-i.ensures).index _ c.saturating_sub.ensures)
 
 pub overflow_add-turn-2 : goal.overflow_add-turn-2
 overflow_add-turn-2 c =
     let r = turns _ _ _ c.requires.0 _ _ c.lag_of-i.ensures in
-    omega (arith, r.lag, r.index _ c.excess.ensures)
+    omega (arith, r.lag, r.index _ c.saturating_sub.ensures)
 
 pub returns : goal.returns
 returns c =
-    says-carried _ _ _ c.requires.0 _ _ _ c.lag_of-i.ensures _ _ _ _ c.excess.ensures c.both.ensures c.both-moved.ensures c.pick.ensures
+    says-carried _ _ _ c.requires.0 _ _ _ c.lag_of-i.ensures _ _ _ _ c.saturating_sub.ensures refl refl c.pick.ensures

@@ -3,4 +3,4 @@ use Rattle.layout.proofs.Laws.Home.{block-picked}
 use Rattle.placement.proofs.home.home_block.Goals as goal
 
 pub returns : goal.returns
-returns c = block-picked _ _ _ c.requires.2 _ _ _ c.pick.ensures c.excess.ensures
+returns c = block-picked _ _ _ c.requires.2 _ _ _ c.pick.ensures c.saturating_sub.ensures
