@@ -10,7 +10,8 @@ pub struct Place {
     pub disk: u32,
 }
 
-// Where a block stands: its place, that of its stripe's parity, and whether a move, of any growth, carried the block itself.
+// Where a block stands: its place, that of its stripe's parity, and whether a move, of any growth, carried the block itself. (No Option: the
+// place stands in both cases.)
 #[derive(Clone, Copy)]
 pub struct Standing {
     pub block: Place,
@@ -67,16 +68,22 @@ pub struct Stripe {
     pub home: u32,
 }
 
-// A block's stripe, taken apart, and what tells its disk there: for a block of before the growth the disk on which it stood, for a new one
-// which of the blanks it is.
+// What tells a block's disk in its stripe: of a block of before the growth the disk on which it stood, of a new one which of the blanks it
+// is.
+#[derive(Clone, Copy)]
+pub enum Seat {
+    Old(u32),
+    New(u32),
+}
+
+// A block's stripe, taken apart, and its seat there.
 #[derive(Clone, Copy)]
 pub struct Slot {
     pub stripe: Stripe,
-    pub nth: u32,
-    pub new: bool,
+    pub seat: Seat,
 }
 
-// The disk on which stands what stood on another, and whether a move carried it there.
+// The disk on which stands what stood on another, and whether a move carried it there. (No Option: the disk stands in both cases.)
 #[derive(Clone, Copy)]
 pub struct Carried {
     pub disk: u32,

@@ -4,7 +4,7 @@ ghost use Rattle.std.specs.Prelude.{◌*◌, ◌<◌, ◌≡◌, false, ltb, leb
 ghost use Rattle.layout.specs.Closed.{taken};
 ghost use Rattle.layout.specs.Layout.{disks, total_of, old_blocks, finished_zones, open_stripes, capacity};
 ghost use Rattle.layout.specs.Layout.{new_owner, layout};
-ghost use Rattle.layout.specs.Slots.{old_slot, new_slot, slot_of, slot_disk, InSlot};
+ghost use Rattle.layout.specs.Slots.{old_slot, new_slot, slot_of, Seated, seat_disk};
 ghost use Rattle.layout.specs.Coded.{code};
 ghost use Rattle.layout.specs.Limits.{TakenApart, Sized, GoodArray};
 
@@ -13,7 +13,7 @@ use crate::choice::pick;
 use crate::closed::{carried_to, source_of, stripe_of};
 use crate::coded::{BLANK, role_of};
 use crate::home::{data_disk, home_code};
-use layout::{Carried, Geometry, Place, Role, Slot, Standing, Stripe};
+use layout::{Carried, Geometry, Place, Role, Seat, Slot, Standing, Stripe};
 
 // The moves of the growth: those of its whole groups. With no whole group there is none. It is formed here alone, by one division: as
 // only whole groups count, to compare products will not do.
@@ -100,8 +100,7 @@ fn old_slot(g: Geometry, b: u32) -> Slot
     let x = stripe_of(n, g.new, b / (n - 1));
     Slot {
         stripe: x,
-        nth: data_disk(n, x.home, x.number, b % (n - 1)),
-        new: false,
+        seat: Seat::Old(data_disk(n, x.home, x.number, b % (n - 1))),
     }
 }
 
@@ -112,8 +111,7 @@ fn new_slot(g: Geometry, k: u32) -> Slot
 {
     Slot {
         stripe: stripe_of(g.old, g.new, k / g.new),
-        nth: k % g.new,
-        new: true,
+        seat: Seat::New(k % g.new),
     }
 }
 
@@ -130,19 +128,18 @@ pub fn slot_of(g: Geometry, b: u64) -> Slot
     new_slot(g, (b - old) as u32)
 }
 
-// The disk of slot y, and whether a move carried its block.
-fn slot_disk(g: Geometry, y: Slot) -> Carried
-    requires { InSlot g y }
-    ensures { result ≡ slot_disk g y }
+// The disk of a seat in stripe x, and whether a move carried its block.
+fn seat_disk(g: Geometry, x: Stripe, seat: Seat) -> Carried
+    requires { TakenApart g.old g.new x × Seated g x.number seat }
+    ensures { result ≡ seat_disk g x.number seat }
 {
-    let x = y.stripe;
-    if y.new {
-        return Carried {
-            disk: nth_blank(g.old, g.new, g.moves, x, y.nth),
+    match seat {
+        Seat::Old(disk) => carried_to(g.old, g.new, g.moves, x, disk),
+        Seat::New(nth) => Carried {
+            disk: nth_blank(g.old, g.new, g.moves, x, nth),
             moved: false,
-        };
+        },
     }
-    carried_to(g.old, g.new, g.moves, x, y.nth)
 }
 
 // Where block b stands, whose slot is y, and its parity; and whether a move carried the block. (The number is for the contract alone.)
@@ -153,7 +150,7 @@ pub fn place_of(g: Geometry, b: u64, y: Slot) -> Standing
     let x = y.stripe;
     let s = x.number;
     let parity = carried_to(g.old, g.new, g.moves, x, x.home);
-    let block = slot_disk(g, y);
+    let block = seat_disk(g, x, y.seat);
     Standing {
         block: Place {
             stripe: s,

@@ -8,9 +8,9 @@ carried_to-parity-requires c =
     let w = (slot-in _ c.requires.0 _ c.requires.1 _ c.requires.2).apart in
     (w, (parts _ _ _ w).home)
 
-pub slot_disk-block-requires : goal.slot_disk-block-requires
-slot_disk-block-requires c = slot-in _ c.requires.0 _ c.requires.1 _ c.requires.2
+pub seat_disk-block-requires : goal.seat_disk-block-requires
+seat_disk-block-requires c = let w = slot-in _ c.requires.0 _ c.requires.1 _ c.requires.2 in (w.apart, w.seated)
 
 pub returns : goal.returns
 returns c =
-    placed _ c.requires.0 _ c.requires.1 _ c.requires.2 _ _ c.carried_to-parity.ensures c.slot_disk-block.ensures
+    placed _ c.requires.0 _ c.requires.1 _ c.requires.2 _ _ c.carried_to-parity.ensures c.seat_disk-block.ensures
