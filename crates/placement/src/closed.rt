@@ -1,62 +1,56 @@
-// Where the contents of a stripe stand after t moves, by the closed form.
+// Where the contents of a stripe stand after the moves made, by the closed form.
 ghost use Rattle.std.specs.Prelude.{◌<◌, ◌≡◌};
-ghost use Rattle.layout.specs.Closed.{stripe_of, lag, carried_to, source, taken};
-ghost use Rattle.layout.specs.Limits.{Sizes, TakenApart};
+ghost use Rattle.layout.specs.Closed.{lag, carried_to, source, taken};
 
 use crate::choice::pick;
-use layout::{Carried, Stripe};
+use crate::row::Row;
+use layout::Carried;
 
-pub fn stripe_of(n: u32, m: u32, s: u32) -> Stripe
-    requires { Sizes n m s }
-    ensures { result ≡ stripe_of n m s }
-{
-    Stripe {
-        number: s,
-        zone: s / (n + m),
-        within: s % (n + m),
-        home: s % n,
+impl Row {
+    // The lag of the one move that can carry what stood on disk d.
+    fn lag_of(self, d: u32) -> u32
+        requires { d < self.array.old }
+        ensures { result ≡ lag self.array.old self.stripe.number d }
+    {
+        let home = self.stripe.home;
+        if d <= home {
+            home - d
+        } else {
+            home + self.array.old - d
+        }
     }
-}
 
-// The lag of the one move that can carry what stood on disk d.
-fn lag_of(n: u32, m: u32, x: Stripe, d: u32) -> u32
-    requires { TakenApart n m x × (d < n) }
-    ensures { result ≡ lag n x.number d }
-{
-    let home = x.home;
-    if d <= home { home - d } else { home + n - d }
-}
-
-// Where, after t moves, stands what stood on disk d, and whether a move carried it there.
-pub(crate) fn carried_to(n: u32, m: u32, t: u32, x: Stripe, d: u32) -> Carried
-    requires { TakenApart n m x × (d < n) }
-    ensures { result ≡ carried_to n m t x.number d }
-{
-    let i = lag_of(n, m, x, d);
-    let p = x.within + i;
-    let turn = (x.zone * m + p.saturating_sub(n)) * n + i;
-    let moved = (n <= p) & (p < n + m) & (turn < t);
-    Carried {
-        disk: pick(moved, p, d),
-        moved,
+    // Where, now, stands what stood on disk d, and whether a move carried it there.
+    pub(crate) fn carried_to(self, d: u32) -> Carried
+        requires { d < self.array.old }
+        ensures { result ≡ carried_to self.array.old self.array.new self.array.moves self.stripe.number d }
+    {
+        let n = self.array.old;
+        let m = self.array.new;
+        let i = self.lag_of(d);
+        let p = self.stripe.within + i;
+        let turn = (self.stripe.zone * m + p.saturating_sub(n)) * n + i;
+        let moved = (n <= p) & (p < n + m) & (turn < self.array.moves);
+        Carried {
+            disk: pick(moved, p, d),
+            moved,
+        }
     }
-}
 
-// The only disk whose content can have come to stand on disk e.
-pub(crate) fn source_of(n: u32, m: u32, x: Stripe, e: u32) -> u32
-    requires { TakenApart n m x }
-    ensures { result ≡ source n m x.number e }
-{
-    let i = e.saturating_sub(x.within);
-    let d = lag_of(n, m, x, pick(n <= i, 0, i));
-    pick(e < n, e, d)
-}
+    // The only disk whose content can have come to stand on disk e.
+    pub(crate) fn source_of(self, e: u32) -> u32
+        ensures { result ≡ source self.array.old self.array.new self.stripe.number e }
+    {
+        let n = self.array.old;
+        let i = e.saturating_sub(self.stripe.within);
+        let d = self.lag_of(pick(n <= i, 0, i));
+        pick(e < n, e, d)
+    }
 
-// Does anything of before the growth stand on disk e after t moves?
-pub fn is_taken(n: u32, m: u32, t: u32, x: Stripe, e: u32) -> bool
-    requires { TakenApart n m x }
-    ensures { result ≡ taken n m t x.number e }
-{
-    let there = carried_to(n, m, t, x, source_of(n, m, x, e));
-    there.disk == e
+    // Does anything of before the growth stand on disk e?
+    pub fn is_taken(self, e: u32) -> bool
+        ensures { result ≡ taken self.array.old self.array.new self.array.moves self.stripe.number e }
+    {
+        self.carried_to(self.source_of(e)).disk == e
+    }
 }

@@ -10,10 +10,11 @@ mod coded;
 mod home;
 mod moves;
 mod placing;
+mod row;
 
-pub use closed::{is_taken, stripe_of};
 pub use moves::{cursor_of, move_of, next_move};
 pub use placing::{
     all_moved, capacity_of, has_block, moves_fit, open_stripes, owner_of, place_of, slot_of,
     total_of,
 };
+pub use row::Row;

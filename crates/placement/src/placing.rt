@@ -6,14 +6,12 @@ ghost use Rattle.layout.specs.Layout.{disks, total_of, old_blocks, finished_zone
 ghost use Rattle.layout.specs.Layout.{new_owner, layout};
 ghost use Rattle.layout.specs.Slots.{old_slot, new_slot, slot_of, Seated, seat_disk};
 ghost use Rattle.layout.specs.Coded.{code};
-ghost use Rattle.layout.specs.Limits.{TakenApart, Sized, GoodArray};
+ghost use Rattle.layout.specs.Limits.{Sized, GoodArray};
 
-use crate::blanks::{count_below, is_settled, nth_blank};
 use crate::choice::pick;
-use crate::closed::{carried_to, source_of, stripe_of};
 use crate::coded::{BLANK, role_of};
-use crate::home::{data_disk, home_code};
-use layout::{Carried, Geometry, Place, Role, Seat, Slot, Standing, Stripe};
+use crate::row::Row;
+use layout::{Carried, Geometry, Place, Role, Seat, Slot, Standing};
 
 // The moves of the growth: those of its whole groups. With no whole group there is none. It is formed here alone, by one division: as
 // only whole groups count, to compare products will not do.
@@ -96,11 +94,10 @@ fn old_slot(g: Geometry, b: u32) -> Slot
     requires { GoodArray g × (b < old_blocks g) }
     ensures { result ≡ old_slot g b }
 {
-    let n = g.old;
-    let x = stripe_of(n, g.new, b / (n - 1));
+    let x = Row::of(g, b / (g.old - 1));
     Slot {
-        stripe: x,
-        seat: Seat::Old(data_disk(n, x.home, x.number, b % (n - 1))),
+        stripe: x.stripe,
+        seat: Seat::Old(x.data_disk(b % (g.old - 1))),
     }
 }
 
@@ -110,7 +107,7 @@ fn new_slot(g: Geometry, k: u32) -> Slot
     ensures { result ≡ new_slot g k }
 {
     Slot {
-        stripe: stripe_of(g.old, g.new, k / g.new),
+        stripe: Row::of(g, k / g.new).stripe,
         seat: Seat::New(k % g.new),
     }
 }
@@ -128,62 +125,68 @@ pub fn slot_of(g: Geometry, b: u64) -> Slot
     new_slot(g, (b - old) as u32)
 }
 
-// The disk of a seat in stripe x, and whether a move carried its block.
-fn seat_disk(g: Geometry, x: Stripe, seat: Seat) -> Carried
-    requires { TakenApart g.old g.new x × Seated g x.number seat }
-    ensures { result ≡ seat_disk g x.number seat }
-{
-    match seat {
-        Seat::Old(disk) => carried_to(g.old, g.new, g.moves, x, disk),
-        Seat::New(nth) => Carried {
-            disk: nth_blank(g.old, g.new, g.moves, x, nth),
-            moved: false,
-        },
-    }
-}
-
 // Where block b stands, whose slot is y, and its parity; and whether a move carried the block. (The number is for the contract alone.)
 pub fn place_of(g: Geometry, b: u64, y: Slot) -> Standing
     requires { GoodArray g × (b < capacity g) × (y ≡ slot_of g b) }
     ensures { result ≡ (layout g).place b }
 {
-    let x = y.stripe;
-    let s = x.number;
-    let parity = carried_to(g.old, g.new, g.moves, x, x.home);
-    let block = seat_disk(g, x, y.seat);
+    let stripe = y.stripe.number;
+    let x = Row {
+        array: g,
+        stripe: y.stripe,
+    };
+    let parity = x.carried_to(x.stripe.home);
+    let block = x.seat_disk(y.seat);
     Standing {
         block: Place {
-            stripe: s,
+            stripe,
             disk: block.disk,
         },
         parity: Place {
-            stripe: s,
+            stripe,
             disk: parity.disk,
         },
         moved: block.moved,
     }
 }
 
-// Is stripe x open: are its blanks new blocks? Its zone is finished, or the growth is over. (With no division for the zone.)
-fn is_open(g: Geometry, x: Stripe) -> bool
-    requires { GoodArray g × TakenApart g.old g.new x × (x.number < g.stripes) }
-    ensures { result ≡ ltb x.number (open_stripes g) }
-{
-    if all_moved(g) {
-        return true;
+impl Row {
+    // The disk of a seat, and whether a move carried its block.
+    fn seat_disk(self, seat: Seat) -> Carried
+        requires { Seated self.array self.stripe.number seat }
+        ensures { result ≡ seat_disk self.array self.stripe.number seat }
+    {
+        match seat {
+            Seat::Old(disk) => self.carried_to(disk),
+            Seat::New(nth) => Carried {
+                disk: self.nth_blank(nth),
+                moved: false,
+            },
+        }
     }
-    is_settled(g.old, g.new, g.moves, x)
-}
 
-// What disk e of stripe x holds, coded, if nothing of before the growth. It is picked: in mid-growth it cannot be foretold whether the zone
-// of a place is finished. So the blanks are counted for any stripe.
-fn new_code(g: Geometry, x: Stripe, e: u32) -> u32
-    requires { GoodArray g × TakenApart g.old g.new x × (x.number < g.stripes) × (e < disks g) }
-    ensures { taken g.old g.new g.moves x.number e ≡ false → result ≡ code (new_owner g x.number e) }
-{
-    let j = count_below(g.old, g.new, g.moves, x, e);
-    let new = old_blocks(g) + (x.number * g.new + j);
-    pick(is_open(g, x), new, BLANK)
+    // Is the stripe open: are its blanks new blocks? Its zone is finished, or the growth is over. (With no division for the zone.)
+    fn is_open(self) -> bool
+        requires { GoodArray self.array × (self.stripe.number < self.array.stripes) }
+        ensures { result ≡ ltb self.stripe.number (open_stripes self.array) }
+    {
+        if all_moved(self.array) {
+            return true;
+        }
+        self.is_settled()
+    }
+
+    // What disk e holds, coded, if nothing of before the growth. It is picked: in mid-growth it cannot be foretold whether the zone of a
+    // place is finished. So the blanks are counted for any stripe.
+    fn new_code(self, e: u32) -> u32
+        requires { GoodArray self.array × (self.stripe.number < self.array.stripes) × (e < disks self.array) }
+        ensures { taken self.array.old self.array.new self.array.moves self.stripe.number e ≡ false
+            → result ≡ code (new_owner self.array self.stripe.number e) }
+    {
+        let j = self.count_below(e);
+        let new = old_blocks(self.array) + (self.stripe.number * self.array.new + j);
+        pick(self.is_open(), new, BLANK)
+    }
 }
 
 // What disk e of stripe s holds: what came to stand there, or a new block, or nothing.
@@ -191,10 +194,8 @@ pub fn owner_of(g: Geometry, s: u32, e: u32) -> Role
     requires { GoodArray g × (s < g.stripes) × (e < disks g) }
     ensures { result ≡ (layout g).owner s e }
 {
-    let x = stripe_of(g.old, g.new, s);
-    let d = source_of(g.old, g.new, x, e);
-    let there = carried_to(g.old, g.new, g.moves, x, d);
-    let old = home_code(g.old, x.home, s, d);
-    let new = new_code(g, x, e);
-    role_of(pick(there.disk == e, old, new))
+    let x = Row::of(g, s);
+    let d = x.source_of(e);
+    let there = x.carried_to(d);
+    role_of(pick(there.disk == e, x.home_code(d), x.new_code(e)))
 }

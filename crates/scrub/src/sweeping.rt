@@ -15,7 +15,7 @@ ghost use Rattle.calls.specs.Table.{refusal_of};
 ghost use Rattle.calls.specs.Effect.{swept_to, act, called};
 
 use blocks::{GROUP, Group, cancels, is_zero, xor_others};
-use placement::{is_taken, open_stripes, stripe_of};
+use placement::{Row, open_stripes};
 use refusals::{Refusal, Swept, disks_of, of_sweep, place_at};
 use state::{Record, geometry_of};
 
@@ -48,9 +48,9 @@ fn blanks_are_zero(r: Record, images: &[u8], s: u32) -> bool
     ensures answer { result ≡ blanks_zero r images.now s (disks_of r) }
 {
     let g = geometry_of(r);
-    let x = stripe_of(g.old, g.new, s);
+    let x = Row::of(g, s);
     for d in 0..g.old + g.new {
-        if !is_taken(g.old, g.new, g.moves, x, d) {
+        if !x.is_taken(d) {
             if !is_zero(images, place_at(r, s, d), r.block as usize) {
                 return false;
             }

@@ -93,10 +93,10 @@ module _ (r : Record) (img : List ℕ) (S : ℕ) where
 -- ---- a loop over the disks of a stripe: the blanks on the first d of them are zero
 
 -- what the code asks of a stripe that it has taken apart is asked of the stripe
-pub taken-there : (r : Record) (S d : ℕ) {t : Bool} (g : Geometry) (x : Stripe) → g ≡ geometry r → x ≡ stripe_of g.old g.new S
-    → t ≡ taken g.old g.new g.moves x.number d → t ≡ taken r.old r.new r.moves S d
-taken-there r S d g x eg ex q =
-    q ∙ ap (λ (y : Stripe). taken g.old g.new g.moves y.number d) ex ∙ ap (λ (h : Geometry). taken h.old h.new h.moves S d) eg
+pub taken-there : (r : Record) (S d : ℕ) {t : Bool} (g h : Geometry) (x : Stripe) → g ≡ geometry r → (h ≡ g) × (x ≡ stripe_of g.old g.new S)
+    → t ≡ taken h.old h.new h.moves x.number d → t ≡ taken r.old r.new r.moves S d
+taken-there r S d g h x eg e q =
+    q ∙ ap (λ (y : Stripe). taken h.old h.new h.moves y.number d) e.1 ∙ ap (λ (h : Geometry). taken h.old h.new h.moves S d) (e.0 ∙ eg)
 
 pub record Looked (r : Record) (img : List ℕ) (S d : ℕ) : Type 0 where
   pub are : blanks_zero r img S d ≡ true

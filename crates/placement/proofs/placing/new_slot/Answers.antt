@@ -3,9 +3,9 @@ use Rattle.layout.proofs.Laws.Bounds.{sizes-of}
 use Rattle.layout.proofs.Laws.Layout.{new-room, new-made}
 use Rattle.placement.proofs.placing.new_slot.Goals as goal
 
-pub stripe_of-requires : goal.stripe_of-requires
-stripe_of-requires c = sizes-of _ c.requires.0 _ (new-room _ c.requires.0 _ c.requires.1).1
+pub of-requires : goal.of-requires
+of-requires c = sizes-of _ c.requires.0 _ (new-room _ c.requires.0 _ c.requires.1).1
 
 pub returns : goal.returns
 returns c =
-    new-made _ c.requires.0 _ c.requires.1 _ c.stripe_of.ensures
+    new-made _ c.requires.0 _ c.requires.1 _ c.of.ensures.1

@@ -30,14 +30,14 @@ pub returns-then-not-is_zero : goal.returns-then-not-is_zero
 returns-then-not-is_zero c =
     let p = c.requires in
     let l = disk_lt _ c.args.r c.geometry_of-g.ensures c.loop-d-test.true in
-    let asks = taken-there c.args.r _ _ _ _ c.geometry_of-g.ensures c.stripe_of-x.ensures c.is_taken.ensures in
+    let asks = taken-there c.args.r _ _ _ _ _ c.geometry_of-g.ensures c.of-x.ensures c.is_taken.ensures in
     record { answer = looked-stop p.1 p.2 c.loop-d.invariant l c.place_at.ensures.start c.is_zero.ensures.zero asks c.if-not-is_taken.true c.if-not-is_zero.true }
 
 pub loop-d-preserved : goal.loop-d-preserved
 loop-d-preserved c =
     let p = c.requires in
     let l = disk_lt _ c.args.r c.geometry_of-g.ensures c.loop-d-test.true in
-    let asks = taken-there c.args.r _ _ _ _ c.geometry_of-g.ensures c.stripe_of-x.ensures c.is_taken.ensures in
+    let asks = taken-there c.args.r _ _ _ _ _ c.geometry_of-g.ensures c.of-x.ensures c.is_taken.ensures in
     elim c.if-not-is_taken.branch [
       | then-not-is_taken+else-not-is_zero w ↦ looked-zero p.1 p.2 c.loop-d.invariant l w.place_at.ensures.start w.is_zero.ensures.zero w.if-not-is_zero.false
       | else-not-is_taken w ↦ looked-taken p.1 p.2 c.loop-d.invariant l asks w.if-not-is_taken.false

@@ -1,6 +1,6 @@
 -- `new_code` meets its contract. Assumes nothing.
 use Rattle.layout.proofs.Laws.Layout.{code-new}
-use Rattle.placement.proofs.placing.new_code.Goals as goal
+use Rattle.placement.proofs.row.Row.new_code.Goals as goal
 
 pub returns : goal.returns
 returns c =

@@ -1,6 +1,0 @@
--- `data_disk` meets its contract. Assumes nothing.
-use Rattle.layout.proofs.Laws.Home.{disk-picked}
-use Rattle.placement.proofs.home.data_disk.Goals as goal
-
-pub returns : goal.returns
-returns c = disk-picked _ _ _ c.requires.2 _ _ c.pick.ensures

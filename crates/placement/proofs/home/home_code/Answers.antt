@@ -1,6 +1,0 @@
--- `home_code` meets its contract. Assumes nothing.
-use Rattle.layout.proofs.Laws.Home.{code-picked}
-use Rattle.placement.proofs.home.home_code.Goals as goal
-
-pub returns : goal.returns
-returns c = code-picked _ _ _ c.requires.2 _ _ _ c.home_block.ensures c.pick.ensures

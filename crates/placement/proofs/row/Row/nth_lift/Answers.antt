@@ -1,0 +1,7 @@
+-- `nth_lift` meets its contract. Assumes nothing.
+use Rattle.layout.proofs.Laws.Runs.{nth-lifted}
+use Rattle.placement.proofs.row.Row.nth_lift.Goals as goal
+
+pub returns : goal.returns
+returns c =
+    nth-lifted _ _ _ c.args.self.apart _ c.runs-r.ensures _ _ c.lift.ensures c.requires
