@@ -10,8 +10,8 @@ pub struct Place {
     pub disk: u32,
 }
 
-// Where a block stands: its place, that of its stripe's parity, and whether a move, of any growth, carried the block itself. (No Option: the
-// place stands in both cases.)
+// Where a block stands: its place, that of its stripe's parity, and whether a move, of any growth, carried the block itself. (No Option:
+// the place stands in both cases.)
 #[derive(Clone, Copy)]
 pub struct Standing {
     pub block: Place,

@@ -1,5 +1,6 @@
 // The layout of the whole array: its numbers, places and owners. The place of a block takes three divisions, an owner two, and the total,
 // where it is asked for, one more. (Before a growth a case for m = 0 would save one. It is left out, so that the functions stay short.)
+// (GoodArray stays a clause of each contract: those who call have a Geometry, and a type that says it would ask them for more.)
 ghost use Rattle.std.specs.Prelude.{◌*◌, ◌<◌, ◌≡◌, false, ltb, leb, eqb};
 ghost use Rattle.layout.specs.Closed.{taken};
 ghost use Rattle.layout.specs.Layout.{disks, total_of, old_blocks, finished_zones, open_stripes, capacity};

@@ -1,13 +1,9 @@
 -- `place_of` meets its contract. Assumes nothing.
-use Rattle.layout.proofs.Laws.Bounds.{parts}
 use Rattle.layout.proofs.Laws.Layout.{slot-in, placed}
 use Rattle.placement.proofs.placing.place_of.Goals as goal
 
 pub invariant_of-x : goal.invariant_of-x
 invariant_of-x c = record { apart = (slot-in _ c.requires.0 _ c.requires.1 _ c.requires.2).apart }
-
-pub carried_to-parity-requires : goal.carried_to-parity-requires
-carried_to-parity-requires c = (parts _ _ _ (slot-in _ c.requires.0 _ c.requires.1 _ c.requires.2).apart).home
 
 pub seat_disk-block-requires : goal.seat_disk-block-requires
 seat_disk-block-requires c = (slot-in _ c.requires.0 _ c.requires.1 _ c.requires.2).seated
