@@ -3,10 +3,11 @@
 // be together.) A crate of its own, since `parity` and `packing` both use it: neither has to know the other.
 #![tactic(auto)]
 
-mod four;
-mod one;
+mod lane;
+mod quad;
 mod types;
+mod wide;
 
-pub use four::{QUAD, load_quad, store_quad, xor_quads};
-pub use one::{LANE, load_lane, store_lane, xor_lanes};
+pub use lane::LANE;
 pub use types::{Lane, Quad};
+pub use wide::Wide;

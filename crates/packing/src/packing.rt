@@ -7,7 +7,7 @@ ghost use Rattle.points.specs.Part.{differences_of, sides, part_packed, EvenAndA
 ghost use Rattle.points.specs.Points.{half, packed};
 
 use crate::point::{POINTS, byte_of, is_refused, point_at};
-use lanes::{LANE, Lane, store_lane};
+use lanes::{LANE, Lane, Wide};
 use points::Side;
 
 // The difference of point i from the one before. (That one is read once more, and not kept from turn to turn: so the compiler can take
@@ -61,8 +61,8 @@ fn pack_lane(source: &[u8], target: &mut [u8], i: usize)
 {
     let low = lane_at(source, i, Side::Low);
     let high = lane_at(source, i, Side::High);
-    store_lane(target, i, low);
-    store_lane(target, source.len() / 2 + i, high);
+    low.store(target, i);
+    high.store(target, source.len() / 2 + i);
 }
 
 // Packs points from the second on, lane by lane, as far as lanes go. Answers where they end: any end would do, as the rest is packed
