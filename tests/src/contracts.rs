@@ -137,13 +137,15 @@ fn clause(name: &str, inside: &str) -> Clause {
     }
 }
 
-/// The structs of a source file, without their ghost fields.
+/// The structs of a source file, those with no fields too, without their ghost fields.
 pub fn structs(source: &str) -> Structs {
     let text = without_comments(source);
     text.match_indices("struct ")
         .map(|(at, word)| {
-            let (name, rest) = text[at + word.len()..].split_once('{').expect("fields");
-            let (fields, _) = bracketed(rest, '{', '}');
+            let rest = &text[at + word.len()..];
+            let (name, behind) = rest.split_at(rest.find(['{', ';']).expect("an end"));
+            let inside = behind.strip_prefix('{');
+            let fields = inside.map_or("", |rest| bracketed(rest, '{', '}').0);
             let fields = split(fields, ',').filter_map(Parameter::of);
             let fields = fields.filter(|field| !field.name.starts_with("ghost "));
             (head(name).to_string(), fields.collect())
@@ -242,8 +244,8 @@ const INHABITED: &[&str] = &["ℕ", "Record", "List ℕ"];
 /// says what `after` and `next` are.
 pub const RECORDS: &[(&str, &[usize])] = &[("Stored", &[3, 4])];
 
-/// What definitions make of an answer that is an enum, or a struct of bytes; those of one type together leave nothing of it
-/// open.
+/// What definitions make of an answer that is an enum, a struct of bytes or a `Result`; those of one type together leave nothing of
+/// it open.
 const MADE: &[(&str, &[&str])] = &[
     ("Result<(), Refusal>", &["number_of"]),
     ("Result<u64, Refusal>", &["number_of", "count_of"]),
@@ -261,6 +263,7 @@ const MADE: &[(&str, &[&str])] = &[
     ("Result<Swept, Refusal>", &["swept_answer"]),
     ("Lane", &["lane_bytes"]),
     ("Quad", &["quad_bytes"]),
+    ("Result<(), BadPoints>", &["number_of"]),
 ];
 
 type Words = Vec<String>;

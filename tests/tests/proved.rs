@@ -62,6 +62,7 @@ const STATEMENTS: &[&str] = &[
     "BothWays",
     "Differences",
     "Fills",
+    "Told",
     "Tells",
     "ViewBegins",
     "Versioned",

@@ -3,7 +3,9 @@
 
 mod packing;
 mod point;
+mod refusal;
 mod unpacking;
 
 pub use packing::pack;
+pub use refusal::BadPoints;
 pub use unpacking::unpack;

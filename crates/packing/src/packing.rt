@@ -2,11 +2,13 @@
 ghost use Rattle.std.specs.Prelude.{◌≡◌, ◌+◌, ◌-◌, ◌*◌, ◌<◌, ◌≤◌, length, slice_index};
 ghost use Rattle.blocks.specs.Block.{block_at};
 ghost use Rattle.lanes.specs.Lanes.{lane_bytes};
+ghost use Rattle.packing.specs.Number.{number_of};
 ghost use Rattle.points.specs.Answer.{answer, filled};
 ghost use Rattle.points.specs.Part.{differences_of, sides, part_packed, EvenAndAlike};
 ghost use Rattle.points.specs.Points.{half, packed};
 
-use crate::point::{POINTS, byte_of, is_refused, point_at};
+use crate::point::point_at;
+use crate::refusal::{BadPoints, check};
 use lanes::{LANE, Lane, Wide};
 use points::Side;
 
@@ -18,7 +20,7 @@ fn difference_at(source: &[u8], i: usize) -> u16
 {
     let point = point_at(source, i);
     let before = point_at(source, i - 1);
-    std::num::wrapping_sub_u16(point, before)
+    point.wrapping_sub(before)
 }
 
 // One byte of it.
@@ -26,7 +28,11 @@ fn byte_at(source: &[u8], i: usize, s: Side) -> u8
     requires { (1 ≤ i) × (2 * i + 1 < length source.now) }
     ensures byte { result ≡ slice_index (sides s source.now) i }
 {
-    byte_of(difference_at(source, i), s)
+    let [low, high] = difference_at(source, i).to_le_bytes();
+    match s {
+        Side::Low => low,
+        Side::High => high,
+    }
 }
 
 // One byte of each of sixteen differences, from the i-th on. (One function for both bytes costs nothing: it is inlined twice.)
@@ -55,6 +61,8 @@ fn lane_at(source: &[u8], i: usize, s: Side) -> Lane
 }
 
 // Packs sixteen points, from i on. Both lanes are there before either is stored, as the compiler cannot tell two lent slices apart.
+// (Source and target are no struct with their likeness as a ghost field: each function here would have to promise as well that the struct
+// still holds these two slices.)
 fn pack_lane(source: &[u8], target: &mut [u8], i: usize)
     requires { EvenAndAlike source.now target.old × (1 ≤ i) × (i + 16 ≤ half source.now) }
     ensures target { target.new ≡ part_packed source.now target.old i 16 }
@@ -66,19 +74,18 @@ fn pack_lane(source: &[u8], target: &mut [u8], i: usize)
 }
 
 // Packs points from the second on, lane by lane, as far as lanes go. Answers where they end: any end would do, as the rest is packed
-// one by one.
+// one by one. (Lanes are counted, and not points by `step_by`, which compares twice a turn: three instructions more for each lane. By the
+// `%` the compiler sees that fewer than sixteen points are left, so that it makes no vectors of those.)
 fn pack_lanes(source: &[u8], target: &mut [u8]) -> usize
     requires { EvenAndAlike source.now target.old × (1 ≤ half source.now) }
     ensures end { (1 ≤ result) × (result ≤ half source.now) }
     ensures target { target.new ≡ part_packed source.now target.old 1 (result - 1) }
 {
     let half = source.len() / 2;
-    let mut i = 1;
-    while LANE <= half - i {
-        pack_lane(source, target, i);
-        i += LANE;
+    for lane in 0..(half - 1) / LANE {
+        pack_lane(source, target, 1 + LANE * lane);
     }
-    i
+    half - (half - 1) % LANE
 }
 
 // Packs points from `first` on, one by one, to the end.
@@ -88,13 +95,10 @@ fn pack_points(source: &[u8], target: &mut [u8], first: usize)
         part_packed source.now target.old first (half source.now - first) }
 {
     let half = source.len() / 2;
-    let mut i = first;
-    while i < half {
-        let low = byte_at(source, i, Side::Low);
-        let high = byte_at(source, i, Side::High);
+    for i in first..half {
+        let [low, high] = difference_at(source, i).to_le_bytes();
         target[i] = low;
         target[half + i] = high;
-        i += 1;
     }
 }
 
@@ -107,23 +111,21 @@ fn pack_all(source: &[u8], target: &mut [u8])
     if half == 0 {
         return;
     }
-    let first = point_at(source, 0);
-    target[0] = byte_of(first, Side::Low);
-    target[half] = byte_of(first, Side::High);
+    let [low, high] = point_at(source, 0).to_le_bytes();
+    target[0] = low;
+    target[half] = high;
     let i = pack_lanes(source, target);
     pack_points(source, target, i);
 }
 
-// Fills the target with the source's points, packed. Answers 0, or the number of the refusal. (Clause `source` says what the type does,
-// that the source stays: document 01's reviewer asks for a clause on all that is lent.)
-pub fn pack(source: &[u8], target: &mut [u8]) -> u8
-    ensures answer { result ≡ answer source.now target.old }
+// Fills the target with the source's points, packed. (Clause `source` says what the type does, that the source stays: document 01's
+// reviewer asks for a clause on all that is lent.)
+pub fn pack(source: &[u8], target: &mut [u8]) -> Result<(), BadPoints>
+    ensures answer { number_of result ≡ answer source.now target.old }
     ensures source { source.exit.now ≡ source.entry.now }
     ensures target { target.new ≡ filled packed source.now target.old }
 {
-    if is_refused(source, target) {
-        return POINTS;
-    }
+    check(source, target)?;
     pack_all(source, target);
-    0
+    Ok(())
 }

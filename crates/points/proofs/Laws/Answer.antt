@@ -1,20 +1,17 @@
 -- What the test of a call shows, and when it comes out how. Assumes nothing.
 use Prim.Native.Nat.{ℕ, ◌%◌}
 use mathlib.Core.Path.{◌≡◌, refl}
-use mathlib.Core.Bool.{Bool, true, false, not, ◌||◌}
+use mathlib.Core.Bool.{true, false, not}
 use mathlib.Core.Logic.{◌≢◌}
 use mathlib.Core.List.{List}
 use native.Mathlib.Omega.{arith}
 use lib.Dec.{eqb}
 use lib.ListN.{length}
 use borrow.Author.Tests.{eq-eqb, ne_eqb}
+use Rattle.std.proofs.Math.Bool.{or-true}
 use Rattle.conditions.proofs.Tests.{equal, neither}
 use Rattle.points.specs.Answer.{refused}
 use Rattle.points.specs.Part.{EvenAndAlike}
-
-or-true : (a : Bool) → (a || true) ≡ true
-or-true true = refl
-or-true false = refl
 
 module _ (source target : List ℕ) where
   pub accepted : refused source target ≡ false → EvenAndAlike source target

@@ -1,11 +1,12 @@
 -- Points packed piece by piece: a piece of one point, two pieces one after the other, and all of them. Assumes nothing.
-use Prim.Native.Nat.{ℕ, suc, ◌+◌, ◌*◌, ◌-◌, ◌^◌, ◌%◌, ◌<◌, ◌≤◌}
+use Prim.Native.Nat.{ℕ, zero, suc, ◌+◌, ◌*◌, ◌-◌, ◌/◌, ◌%◌, ◌<◌, ◌≤◌}
 use mathlib.Core.Path.{◌≡◌, refl, sym, ap, ap₂, ◌∙◌, subst}
-use mathlib.Core.List.{List, [], ◌∷◌, ◌++◌, map}
+use mathlib.Core.List.{List, [], ◌∷◌, ◌++◌}
 use native.Mathlib.Omega.{arith}
 use native.Mathlib.Nat.{add-zero, sub-zero}
-use lib.ListN.{length, get_or, set, length-set, length-map, get_or-map}
+use lib.ListN.{length, get_or, set, length-map, get_or-map}
 use lib.Seq.{take_all}
+use Rattle.std.specs.Int.{w16, to_le_bytes}
 use Rattle.blocks.specs.Block.{block_at, store}
 use Rattle.blocks.proofs.Laws.Block.{length-store, store-nil, store-append, store-one, store_swap, store-whole, length-block_at, block_at-short, block_at-split}
 use Rattle.lanes.proofs.Laws.Lanes.{block_one}
@@ -18,16 +19,11 @@ use Rattle.points.proofs.Laws.Elements.{get_or-differences}
 
 -- ---- a difference
 
--- what wraps back to p when q is added is p less q
-wraps : (r p q : ℕ) → r < 65536 → q < 65536 → (r + q) % 2 ^ 16 ≡ p → r ≡ minus p q
-wraps r p q h k e = omega arith
-
-pub is-difference : (l : List ℕ) (i j r p q : ℕ) → i ≡ suc j → 2 * i + 1 < length l → p ≡ get_or (points_of l) i 0 → q ≡ get_or (points_of l) j 0 → r < 65536 → q < 65536
-    → (r + q) % 2 ^ 16 ≡ p → r ≡ get_or (differences_of l) i 0
-is-difference l i j r p q o h e f k m s =
-    wraps r p q k m s ∙ ap₂ minus (e ∙ ap (λ (x : ℕ). get_or (points_of l) x 0) o) f
-    ∙ sym (get_or-differences 0 (points_of l) j (omega (arith, length-points l)))
-    ∙ ap (λ (x : ℕ). get_or (differences_of l) x 0) (sym o)
+pub is-difference : (l : List ℕ) (i : ℕ) → 1 ≤ i → 2 * i + 1 < length l → get_or (differences_of l) i 0 ≡ minus (get_or (points_of l) i 0) (get_or (points_of l) (i - 1) 0)
+is-difference l zero h k = absurd (omega arith)
+is-difference l (suc j) h k =
+    let e : suc j - 1 ≡ j = omega arith in
+    rw e (get_or-differences 0 (points_of l) j (omega (arith, length-points l)))
 
 -- the first is from 0
 pub first-is : (l : List ℕ) → 2 ≤ length l → get_or (points_of l) 0 0 < 65536 → get_or (points_of l) 0 0 ≡ get_or (differences_of l) 0 0
@@ -35,13 +31,15 @@ first-is [] h k = absurd (omega arith)
 first-is (a ∷ []) h k = absurd (omega arith)
 first-is (a ∷ b ∷ l) h k = omega arith
 
--- one byte of it
-get_or-sides : (s : Side) (ds : List ℕ) (i : ℕ) → get_or (map (side s) ds) i 0 ≡ side s (get_or ds i 0)
-get_or-sides Low ds i = get_or-map low ds i 0
-get_or-sides High ds i = get_or-map high ds i 0
+-- the two bytes of one that is d
+module _ (l : List ℕ) (i : ℕ) {d : ℕ} {bytes : List ℕ} (e : d ≡ get_or (differences_of l) i 0) (f : bytes ≡ to_le_bytes w16 d) where
+  pub low_is : get_or bytes 0 0 ≡ get_or (sides Low l) i 0
+  low_is = ap (λ (x : List ℕ). get_or x 0 0) f ∙ ap low e ∙ sym (get_or-map low (differences_of l) i 0)
 
-pub byte-is : (l : List ℕ) (i : ℕ) (s : Side) {d b : ℕ} → d ≡ get_or (differences_of l) i 0 → b ≡ side s d → b ≡ get_or (sides s l) i 0
-byte-is l i s e f = f ∙ ap (side s) e ∙ sym (get_or-sides s (differences_of l) i)
+  pub high_is : d < 65536 → get_or bytes 1 0 ≡ get_or (sides High l) i 0
+  high_is h =
+      let whole : d / 256 % 256 ≡ high d = omega arith in
+      ap (λ (x : List ℕ). get_or x 1 0) f ∙ whole ∙ ap high e ∙ sym (get_or-map high (differences_of l) i 0)
 
 -- ---- pieces
 
@@ -51,13 +49,14 @@ length-differences_of l = length-differences 0 (points_of l) ∙ length-points l
 pub length-side : (s : Side) (l : List ℕ) → length (sides s l) ≡ half l
 length-side s l = length-map (differences_of l) (side s) ∙ length-differences_of l
 
--- a piece of one point
-pub part-one : (l t : List ℕ) {i a b : ℕ} → i < half l → a ≡ get_or (sides Low l) i 0 → b ≡ get_or (sides High l) i 0 → set (set t i a) (half l + i) b ≡ part_packed l t i 1
-part-one l t {i} {a} {b} h e f =
-    let x : a ∷ [] ≡ block_at (sides Low l) i 1 = ap (λ (y : ℕ). y ∷ []) e ∙ block_one (sides Low l) i (omega (arith, length-side Low l)) in
-    let z : b ∷ [] ≡ block_at (sides High l) i 1 = ap (λ (y : ℕ). y ∷ []) f ∙ block_one (sides High l) i (omega (arith, length-side High l)) in
-    ap (λ (r : List ℕ). set r (half l + i) b) (sym (store-one t i a) ∙ ap (store t i) x)
-    ∙ sym (store-one (store t i (block_at (sides Low l) i 1)) (half l + i) b)
+-- a piece of one point, whose difference is d
+pub part-one : (l t : List ℕ) (i : ℕ) {d : ℕ} {bytes : List ℕ} → i < half l → d < 65536 → d ≡ get_or (differences_of l) i 0 → bytes ≡ to_le_bytes w16 d
+    → set (set t i (get_or bytes 0 0)) (half l + i) (get_or bytes 1 0) ≡ part_packed l t i 1
+part-one l t i {d} {bytes} h k e f =
+    let x : get_or bytes 0 0 ∷ [] ≡ block_at (sides Low l) i 1 = ap (λ (y : ℕ). y ∷ []) (low_is l i e f) ∙ block_one (sides Low l) i (omega (arith, length-side Low l)) in
+    let z : get_or bytes 1 0 ∷ [] ≡ block_at (sides High l) i 1 = ap (λ (y : ℕ). y ∷ []) (high_is l i e f k) ∙ block_one (sides High l) i (omega (arith, length-side High l)) in
+    ap (λ (r : List ℕ). set r (half l + i) (get_or bytes 1 0)) (sym (store-one t i (get_or bytes 0 0)) ∙ ap (store t i) x)
+    ∙ sym (store-one (store t i (block_at (sides Low l) i 1)) (half l + i) (get_or bytes 1 0))
     ∙ ap (store (store t i (block_at (sides Low l) i 1)) (half l + i)) z
 
 -- runs of the list m, one after the other
@@ -106,14 +105,14 @@ packing-none l t first h =
     let e : first - first ≡ 0 = omega arith in
     record { is = sym (ap (part_packed l t first) e ∙ ap (λ (r : List ℕ). store r (half l + first) []) (store-nil t first) ∙ store-nil t (half l + first)); size = refl; behind = omega arith; within = h }
 
-pub packing-more : {l t₀ : List ℕ} {first : ℕ} {t t' : List ℕ} {i : ℕ} → Packing l t₀ first t i → (n : ℕ) → i + n ≤ half l → t' ≡ part_packed l t i n → Packing l t₀ first t' (i + n)
-packing-more {l} {t₀} {first} {t} {t'} {i} f n h e =
+pub packing-more : {l t₀ : List ℕ} {first : ℕ} {t t' : List ℕ} {i j : ℕ} → Packing l t₀ first t i → (n : ℕ) → i + n ≡ j → j ≤ half l → t' ≡ part_packed l t i n → Packing l t₀ first t' j
+packing-more {l} {t₀} {first} {t} {t'} {i} {j} f n to h e =
     let k : ℕ = i - first in
     let at : i ≡ first + k = omega (arith, f.behind) in
-    let sum : k + n ≡ i + n - first = omega (arith, f.behind) in
+    let sum : k + n ≡ j - first = omega (arith, f.behind) in
     record {
       is =
-          e ∙ ap₂ (λ (r : List ℕ) (j : ℕ). part_packed l r j n) f.is at
+          e ∙ ap₂ (λ (r : List ℕ) (x : ℕ). part_packed l r x n) f.is at
           ∙ part-part l t₀ first k n (omega (arith, f.behind))
           ∙ ap (part_packed l t₀ first) sum;
       size = ap length e ∙ length_part l t i n ∙ f.size;
@@ -123,29 +122,18 @@ packing-more {l} {t₀} {first} {t} {t'} {i} f n h e =
 
 -- ---- the whole way
 
--- no point at all
-pub packed_none : (l t : List ℕ) → length l % 2 ≡ 0 → length l ≡ length t → half l ≡ 0 → t ≡ packed l
-packed_none [] [] even e h = refl
-packed_none [] (x ∷ t) even e h = absurd (omega arith)
-packed_none (a ∷ l) t even e h = absurd (omega arith)
-
--- the first point, which is its own difference
-pub packed-first : (l t : List ℕ) (p a b : ℕ) → 2 ≤ length l → p < 65536 → p ≡ get_or (points_of l) 0 0 → a ≡ low p → b ≡ high p → set (set t 0 a) (half l) b ≡ part_packed l t 0 1
-packed-first l t p a b h k e ea eb =
+-- the first point p, which is its own difference
+pub packed-first : (l t : List ℕ) {p : ℕ} {bytes : List ℕ} → 2 ≤ length l → p < 65536 → p ≡ get_or (points_of l) 0 0 → bytes ≡ to_le_bytes w16 p
+    → set (set t 0 (get_or bytes 0 0)) (half l) (get_or bytes 1 0) ≡ part_packed l t 0 1
+packed-first l t {p} {bytes} h k e f =
     let d : p ≡ get_or (differences_of l) 0 0 = e ∙ first-is l h (subst (λ (x : ℕ). x < 65536) e k) in
-    ap (λ (i : ℕ). set (set t 0 a) i b) (sym (add-zero (half l))) ∙ part-one l t {i = 0} (omega arith) (byte-is l 0 Low d ea) (byte-is l 0 High d eb)
-
--- a piece after it leaves the length
-pub length-kept : (l t : List ℕ) (h a b i n : ℕ) {t₂ : List ℕ} → t₂ ≡ part_packed l (set (set t 0 a) h b) i n → length t₂ ≡ length t
-length-kept l t h a b i n e = ap length e ∙ length_part l (set (set t 0 a) h b) i n ∙ length-set (set t 0 a) h b ∙ length-set t 0 a
+    ap (λ (i : ℕ). set (set t 0 (get_or bytes 0 0)) i (get_or bytes 1 0)) (sym (add-zero (half l))) ∙ part-one l t 0 (omega arith) k d f
 
 -- the first, lanes as far as they go, and the rest point by point
 pub packed-by : (l t : List ℕ) {t₁ t₂ t₃ : List ℕ} {end : ℕ} → length l % 2 ≡ 0 → length l ≡ length t → 1 ≤ half l → t₁ ≡ part_packed l t 0 1 → 1 ≤ end → end ≤ half l → t₂ ≡ part_packed l t₁ 1 (end - 1)
     → t₃ ≡ part_packed l t₂ end (half l - end) → t₃ ≡ packed l
 packed-by l t {t₁} {t₂} {t₃} {end} even alike h e o w f g =
-    let n : 0 + 1 + (end - 1) ≡ end = omega arith in
-    let m : end + (half l - end) ≡ half l = omega arith in
-    let first : Packing l t 0 t₁ (0 + 1) = packing-more (packing-none l t 0 (omega arith)) 1 (omega arith) e in
-    let lanes : Packing l t 0 t₂ end = subst (λ (i : ℕ). Packing l t 0 t₂ i) n (packing-more first (end - 1) (omega arith) f) in
-    let all : Packing l t 0 t₃ (half l) = subst (λ (i : ℕ). Packing l t 0 t₃ i) m (packing-more lanes (half l - end) (omega arith) g) in
+    let first : Packing l t 0 t₁ 1 = packing-more (packing-none l t 0 (omega arith)) 1 (omega arith) h e in
+    let lanes : Packing l t 0 t₂ end = packing-more first (end - 1) (omega arith) w f in
+    let all : Packing l t 0 t₃ (half l) = packing-more lanes (half l - end) (omega arith) (omega arith) g in
     all.is ∙ ap (part_packed l t 0) (sub-zero (half l)) ∙ part-all l t even alike

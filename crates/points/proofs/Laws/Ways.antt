@@ -4,7 +4,7 @@ use mathlib.Core.Path.{◌≡◌, refl, sym, ap, ap₂, ◌∙◌}
 use mathlib.Core.List.{List, [], ◌∷◌, ◌++◌, map}
 use native.Mathlib.Omega.{arith}
 use lib.ListN.{length, get_or, take, drop, length-append, length-map, length-drop, take-append-drop}
-use lib.Seq.{take_at, drop_at, length-take-le}
+use lib.Seq.{get_or-drop, take_at, drop_at, length-take-le}
 use Rattle.blocks.specs.Block.{AreBytes}
 use Rattle.blocks.proofs.Laws.Number.{two_back, two-low, two-high}
 use Rattle.points.specs.Points.{points_of, minus, differences_from, low, high, side_by_side, joined, half, from_sides, plus, sums_from, bytes_of}
@@ -126,9 +126,7 @@ take_below (suc n) (x ∷ l) p h zero = h 0
 take_below (suc n) (x ∷ l) p h (suc i) = take_below n l p (λ j. h (suc j)) i
 
 drop-below : {m : ℕ} (n : ℕ) (l : List ℕ) → Below m l → Below m (drop n l)
-drop-below zero l h i = h i
-drop-below (suc n) [] h i = h i
-drop-below (suc n) (x ∷ l) h i = drop-below n l (λ j. h (suc j)) i
+drop-below n l h i = rw (get_or-drop n l i 0) (h (n + i))
 
 append-below : {m : ℕ} (a b : List ℕ) → Below m a → Below m b → Below m (a ++ b)
 append-below [] b h k i = k i

@@ -1,10 +1,10 @@
 -- `byte_at` meets its contract. Assumes nothing.
-use Rattle.points.proofs.Laws.Pack.{byte-is}
+use Rattle.std.proofs.Common.{rules}
+use Rattle.points.proofs.Laws.Pack.{low_is, high_is}
 use Rattle.packing.proofs.packing.byte_at.Goals as goal
 
-pub returns : goal.returns
-returns c =
-    record {
-      byte =
-          let a = c.args in byte-is a.source.now a.i a.s c.difference_at.ensures.difference c.byte_of.ensures.byte;
-    }
+pub returns-in-Low : goal.returns-in-Low
+returns-in-Low c = search (rules, low_is)
+
+pub returns-in-High : goal.returns-in-High
+returns-in-High c = search (rules, high_is)

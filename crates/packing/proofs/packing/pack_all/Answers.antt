@@ -7,11 +7,9 @@ pub returns : goal.returns
 returns c =
     record {
       target =
+          let source = c.args.source.now in
+          let target = c.args.target.now in
+          let first = packed-first source target (omega arith) c.point_at.type_inv c.point_at.ensures.point c.to_le_bytes.ensures in
           let e = c.pack_lanes-i.ensures in
-          packed-by c.args.source.now c.args.target.now c.requires.0 c.requires.1 (omega arith)
-          (packed-first c.args.source.now c.args.target.now c.point_at-first.result c.byte_of.result c.byte_of-2.result (omega arith) c.point_at-first.type_inv c.point_at-first.ensures.point c.byte_of.ensures.byte c.byte_of-2.ensures.byte)
-          e.end.0
-          e.end.1
-          e.target
-          c.pack_points.ensures.target;
+          packed-by source target c.requires.0 c.requires.1 (omega arith) first e.end.0 e.end.1 e.target c.pack_points.ensures.target;
     }

@@ -1,0 +1,3 @@
+-- What the functions answer, as a number.
+pub mod Number
+pub mod Theorem
