@@ -240,10 +240,6 @@ const ANSWER: &str = "result";
 /// Types that have values, so that what is said of all of them says something.
 const INHABITED: &[&str] = &["ℕ", "Record", "List ℕ"];
 
-/// Records of equations that contracts cite: name, and the argument that each equation is about. `Stored out at text after next`
-/// says what `after` and `next` are.
-pub const RECORDS: &[(&str, &[usize])] = &[("Stored", &[3, 4])];
-
 /// What definitions make of an answer that is an enum, a struct of bytes or a `Result`; those of one type together leave nothing of
 /// it open.
 const MADE: &[(&str, &[&str])] = &[
@@ -320,7 +316,7 @@ fn promised(formula: &[String]) -> Vec<[String; 2]> {
     }
     match &parts(conclusion, "≡")[..] {
         [left, right] => vec![[left.join(" "), right.join(" ")]],
-        _ => cited(conclusion),
+        _ => of_some(conclusion).unwrap_or_default(),
     }
 }
 
@@ -350,23 +346,6 @@ fn of_some(formula: &[String]) -> Option<Vec<[String; 2]>> {
     };
     let inside: Words = words(inside).into_iter().map(named).collect();
     (word == "IfSome" && value == ANSWER).then(|| promised(&bare(&inside)))
-}
-
-/// The equations of a record that the formula cites, or of `IfSome`.
-fn cited(formula: &[String]) -> Vec<[String; 2]> {
-    if let Some(equations) = of_some(formula) {
-        return equations;
-    }
-    let is_cited = |name: &str| formula.first().is_some_and(|first| first == name);
-    let known = RECORDS.iter().find(|(name, _)| is_cited(name));
-    let Some((name, about)) = known else {
-        return Vec::new();
-    };
-    let arguments = arguments(&formula[1..]);
-    about
-        .iter()
-        .map(|&at| [arguments[at].clone(), format!("what {name} says")])
-        .collect()
 }
 
 /// The arguments of an application: words, or what stands in brackets.
@@ -456,13 +435,14 @@ impl Function {
     }
 }
 
-/// Whether the sides have a value of this type: itself, all fields of a struct, all that the definitions make of it, for an enum
-/// or a struct of bytes, or of an `Option` whether it has a value and what that is.
+/// Whether the sides have a value of this type: itself, the text that it prints as, all fields of a struct, all that the definitions
+/// make of it, for an enum or a struct of bytes, or of an `Option` whether it has a value and what that is.
 fn says_all(given: &[String], value: &str, kind: &str, structs: &Structs) -> bool {
     if kind.starts_with('&') {
         return given.contains(&format!("{value}.now"));
     }
-    if given.iter().any(|side| side == value) {
+    let text = format!("⟦<{kind} as fmt::Display>⟧.output {value}");
+    if given.iter().any(|side| side == value || *side == text) {
         return true;
     }
     if let Some((_, definitions)) = MADE.iter().find(|(name, _)| *name == kind) {
@@ -472,12 +452,23 @@ fn says_all(given: &[String], value: &str, kind: &str, structs: &Structs) -> boo
     let optional = kind.strip_prefix("Option<");
     if let Some(kind) = optional.and_then(|kind| kind.strip_suffix('>')) {
         let is_told = given.iter().any(|side| is_made(side, "is_some", value));
-        return is_told && says_all(given, value, kind, structs);
+        let fields = structs.get(kind).map_or(&[][..], |fields| fields);
+        return given.iter().any(|side| maps_fields(side, value, fields))
+            || is_told && says_all(given, value, kind, structs);
     }
     structs.get(head(kind)).is_some_and(|fields| {
         let says =
             |f: &Parameter| says_all(given, &format!("{value}.{}", f.name), &f.kind, structs);
         !fields.is_empty() && fields.iter().all(says)
+    })
+}
+
+/// Whether a side makes an Option of a struct one of all its fields: `option_map (λ x. (x.a, x.b)) value`.
+fn maps_fields(side: &str, value: &str, fields: &[Parameter]) -> bool {
+    let rest = side.strip_prefix("option_map ( λ ").unwrap_or_default();
+    rest.split_once(". ").is_some_and(|(x, _)| {
+        let all: Vec<String> = fields.iter().map(|f| format!("{x}.{}", f.name)).collect();
+        side == format!("option_map ( λ {x}. ( {} ) ) {value}", all.join(", "))
     })
 }
 

@@ -1,4 +1,3 @@
-pub mod Decimal
 pub mod Request
 pub mod Listing
 pub mod Exact
