@@ -3,7 +3,7 @@ use Rattle.std.specs.Prelude.{ℕ, ◌+◌, ◌-◌, ◌*◌, ◌≤◌, ◌<◌
 use Rattle.std.specs.Prelude.{Some, decimal}
 use Rattle.layout.specs.Moves.{move_zone, move_within, move_from, move_to}
 use Rattle.zone_moves.specs.Request.{Limited, request_of}
-use Rattle.zone_moves.specs.Listing.{column, lines_of, zone_moves, refusal, answer}
+use Rattle.zone_moves.specs.Listing.{column, lines_of, zone_moves, refusal, answer, written}
 
 -- the line "n m z": "decimal, no leading zeros, single spaces, a line feed behind"
 unfoldable pub line : ℕ → ℕ → ℕ → List ℕ
@@ -116,5 +116,7 @@ pub record Exact : Type 0 where
       ++ (sp ∷ decimal (move_to n m k)) ++ (lf ∷ lines_of n m ks)
   pub no_more : (n m : ℕ) → lines_of n m [] ≡ []
   pub columns : (x stop : ℕ) → column x stop ≡ decimal x ++ (stop ∷ [])
+  -- a text takes the bytes from `at` on of a buffer, and leaves the others
+  pub stored : (out text : List ℕ) (at : ℕ) → written out at text ≡ take at out ++ text ++ drop (at + length text) out
   -- the examples, computed
   pub examples : Examples

@@ -1,5 +1,5 @@
 -- What is printed.
-use Rattle.std.specs.Prelude.{ℕ, ◌*◌, List, [], ◌∷◌, ◌++◌, Option, Some, None, decimal, flat_map}
+use Rattle.std.specs.Prelude.{ℕ, ◌+◌, ◌*◌, List, [], ◌∷◌, ◌++◌, Option, Some, None, length, take, drop, decimal, flat_map}
 use Rattle.std.specs.List.{range_with_len}
 use Rattle.layout.specs.declared.Move.{Move}
 use Rattle.layout.specs.Moves.{move_of}
@@ -34,3 +34,7 @@ answered (Some (n, m, z)) = lines_of n m (zone_moves n m z)
 -- the answer to an input
 abbrev pub answer : List ℕ → List ℕ
 answer s = answered (request_of s)
+
+-- a buffer with a text stored from position `at` on, for a caller that has one
+abbrev pub written : List ℕ → ℕ → List ℕ → List ℕ
+written out at text = take at out ++ text ++ drop (at + length text) out
