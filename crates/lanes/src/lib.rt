@@ -3,11 +3,10 @@
 // be together.) A crate of its own, since `parity` and `packing` both use it: neither has to know the other.
 #![tactic(auto)]
 
-mod lane;
-mod quad;
+mod four;
+mod one;
 mod types;
-mod wide;
 
-pub use lane::LANE;
+pub use four::{QUAD, load_quad, store_quad, xor_quads};
+pub use one::{LANE, load_lane, store_lane, xor_lanes};
 pub use types::{Lane, Quad};
-pub use wide::Wide;

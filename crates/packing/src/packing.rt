@@ -9,7 +9,7 @@ ghost use Rattle.points.specs.Points.{half, packed};
 
 use crate::point::point_at;
 use crate::refusal::{BadPoints, check};
-use lanes::{LANE, Lane, Wide};
+use lanes::{LANE, Lane, store_lane};
 use points::Side;
 
 // The difference of point i from the one before. (That one is read once more, and not kept from turn to turn: so the compiler can take
@@ -69,8 +69,8 @@ fn pack_lane(source: &[u8], target: &mut [u8], i: usize)
 {
     let low = lane_at(source, i, Side::Low);
     let high = lane_at(source, i, Side::High);
-    low.store(target, i);
-    high.store(target, source.len() / 2 + i);
+    store_lane(target, i, low);
+    store_lane(target, source.len() / 2 + i, high);
 }
 
 // Packs points from the second on, lane by lane, as far as lanes go. Answers where they end: any end would do, as the rest is packed

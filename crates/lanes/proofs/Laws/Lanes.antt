@@ -3,8 +3,10 @@ use Prim.Native.Nat.{ℕ, zero, suc, ◌+◌, ◌≤◌, ◌<◌}
 use mathlib.Core.Path.{◌≡◌, refl, sym, ap, ap₂, ◌∙◌}
 use mathlib.Core.List.{List, [], ◌∷◌, ◌++◌}
 use native.Mathlib.Omega.{arith}
+use lib.Bits.{bit_xor}
 use lib.ListN.{length, get_or, set}
 use Rattle.blocks.specs.Block.{block_at, store}
+use Rattle.blocks.specs.Xor.{xor_b}
 use Rattle.blocks.proofs.Laws.Block.{store-append, store-one, block_at-cons, block_at-split}
 
 -- the n bytes from at + k on, read one by one
@@ -55,3 +57,6 @@ sets-four l at a b c d =
 -- a block of one byte
 pub block_one : (l : List ℕ) (at : ℕ) → at < length l → get_or l at 0 ∷ [] ≡ block_at l at 1
 block_one l at h = sym (block_at-cons l at 0 h)
+
+pub xor-one : (l : List ℕ) (x at : ℕ) → at < length l → xor_b (x ∷ []) (block_at l at 1) ≡ bit_xor x (get_or l at 0) ∷ []
+xor-one l x at h = ap (xor_b (x ∷ [])) (sym (block_one l at h))
