@@ -1,2 +1,3 @@
--- The bytes of a lane, and of four.
+-- The bytes of four, and what holds of them.
 pub mod Lanes
+pub mod Laws

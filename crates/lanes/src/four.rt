@@ -1,55 +1,55 @@
-// Four lanes, one after the other: loaded from a slice, xored and stored.
-ghost use Rattle.std.specs.Prelude.{◌≡◌, ◌+◌, ◌≤◌, length};
-ghost use Rattle.blocks.specs.Block.{block_at, store};
-ghost use Rattle.blocks.specs.Xor.{xor_b};
-ghost use Rattle.lanes.specs.Lanes.{quad_bytes};
+// Four of a width are a width.
+ghost use Rattle.std.specs.Prelude.{◌*◌};
+ghost use Rattle.std.proofs.Common.{lit≤};
+ghost use Rattle.lanes.specs.Lanes.{four_bytes};
+ghost use Rattle.lanes.specs.Laws.{four-positive, four-long};
 
-use crate::one::{load_lane, store_lane, xor_lanes};
-use crate::types::Quad;
+use crate::types::{Four, Lane};
+use crate::wide::{Quarter, Wide};
 
-// How many bytes they have.
-pub const QUAD: usize = 64;
+impl<T: Quarter> Wide for Four<T> {
+    const LEN: usize = 4 * T::LEN;
 
-// The four lanes from at on.
-pub fn load_quad(source: &[u8], at: usize) -> Quad
-    requires { at + 64 ≤ length source.now }
-    ensures bytes { quad_bytes result ≡ block_at source.now at 64 }
-{
-    let a = load_lane(source, at);
-    let b = load_lane(source, at + 16);
-    let c = load_lane(source, at + 32);
-    let d = load_lane(source, at + 48);
-    Quad {
-        a: a,
-        b: b,
-        c: c,
-        d: d,
+    ghost LEN = { 4 * T.LEN };
+
+    ghost bytes = { four_bytes T.bytes };
+
+    ghost positive = { four-positive T.positive };
+
+    ghost long = { four-long T.bytes T.long };
+
+    fn load(source: &[u8], at: usize) -> Four<T> {
+        let len = T::LEN;
+        Four {
+            a: T::load(source, at),
+            b: T::load(source, at + len),
+            c: T::load(source, at + 2 * len),
+            d: T::load(source, at + 3 * len),
+        }
+    }
+
+    fn xor(self, other: Four<T>) -> Four<T> {
+        Four {
+            a: self.a.xor(other.a),
+            b: self.b.xor(other.b),
+            c: self.c.xor(other.c),
+            d: self.d.xor(other.d),
+        }
+    }
+
+    fn store(self, target: &mut [u8], at: usize) {
+        let len = T::LEN;
+        self.a.store(target, at);
+        self.b.store(target, at + len);
+        self.c.store(target, at + 2 * len);
+        self.d.store(target, at + 3 * len);
     }
 }
 
-// The xor of four lanes with four.
-pub fn xor_quads(x: Quad, y: Quad) -> Quad
-    ensures bytes { quad_bytes result ≡ xor_b (quad_bytes x) (quad_bytes y) }
-{
-    let a = xor_lanes(x.a, y.a);
-    let b = xor_lanes(x.b, y.b);
-    let c = xor_lanes(x.c, y.c);
-    let d = xor_lanes(x.d, y.d);
-    Quad {
-        a: a,
-        b: b,
-        c: c,
-        d: d,
-    }
+impl Quarter for Four<u8> {
+    ghost small = { lit≤ tt };
 }
 
-// Stores four lanes from at on.
-pub fn store_quad(target: &mut [u8], at: usize, x: Quad)
-    requires { at + 64 ≤ length target.old }
-    ensures target { target.new ≡ store target.old at (quad_bytes x) }
-{
-    store_lane(target, at, x.a);
-    store_lane(target, at + 16, x.b);
-    store_lane(target, at + 32, x.c);
-    store_lane(target, at + 48, x.d);
+impl Quarter for Lane {
+    ghost small = { lit≤ tt };
 }

@@ -1,7 +1,6 @@
 // The way there, lane by lane: of a loop over single points the compiler makes vectors of eight, which had 0.7 of the speed of C by hand.
 ghost use Rattle.std.specs.Prelude.{◌≡◌, ◌+◌, ◌-◌, ◌*◌, ◌<◌, ◌≤◌, length, slice_index};
 ghost use Rattle.blocks.specs.Block.{block_at};
-ghost use Rattle.lanes.specs.Lanes.{lane_bytes};
 ghost use Rattle.packing.specs.Number.{number_of};
 ghost use Rattle.points.specs.Answer.{answer, filled};
 ghost use Rattle.points.specs.Part.{differences_of, sides, part_packed, EvenAndAlike};
@@ -9,8 +8,11 @@ ghost use Rattle.points.specs.Points.{half, packed};
 
 use crate::point::point_at;
 use crate::refusal::{BadPoints, check};
-use lanes::{LANE, Lane, store_lane};
+use blocks::store_bytes;
 use points::Side;
+
+// How many points are packed at once.
+const LANE: usize = 16;
 
 // The difference of point i from the one before. (That one is read once more, and not kept from turn to turn: so the compiler can take
 // many at once. Kept, it took six times as long in a trial.)
@@ -35,29 +37,17 @@ fn byte_at(source: &[u8], i: usize, s: Side) -> u8
     }
 }
 
-// One byte of each of sixteen differences, from the i-th on. (One function for both bytes costs nothing: it is inlined twice.)
-fn lane_at(source: &[u8], i: usize, s: Side) -> Lane
+// One byte of each of sixteen differences, from the i-th on, which the compiler takes together. (One function for both bytes costs
+// nothing: it is inlined twice.)
+fn lane_at(source: &[u8], i: usize, s: Side) -> [u8; LANE]
     requires { (1 ≤ i) × (2 * (i + 16) ≤ length source.now) }
-    ensures lane { lane_bytes result ≡ block_at (sides s source.now) i 16 }
+    ensures lane { result ≡ block_at (sides s source.now) i 16 }
 {
-    Lane {
-        b0: byte_at(source, i, s),
-        b1: byte_at(source, i + 1, s),
-        b2: byte_at(source, i + 2, s),
-        b3: byte_at(source, i + 3, s),
-        b4: byte_at(source, i + 4, s),
-        b5: byte_at(source, i + 5, s),
-        b6: byte_at(source, i + 6, s),
-        b7: byte_at(source, i + 7, s),
-        b8: byte_at(source, i + 8, s),
-        b9: byte_at(source, i + 9, s),
-        b10: byte_at(source, i + 10, s),
-        b11: byte_at(source, i + 11, s),
-        b12: byte_at(source, i + 12, s),
-        b13: byte_at(source, i + 13, s),
-        b14: byte_at(source, i + 14, s),
-        b15: byte_at(source, i + 15, s),
+    let mut lane = [0; LANE];
+    for k in 0..LANE {
+        lane[k] = byte_at(source, i + k, s);
     }
+    lane
 }
 
 // Packs sixteen points, from i on. Both lanes are there before either is stored, as the compiler cannot tell two lent slices apart.
@@ -69,8 +59,8 @@ fn pack_lane(source: &[u8], target: &mut [u8], i: usize)
 {
     let low = lane_at(source, i, Side::Low);
     let high = lane_at(source, i, Side::High);
-    store_lane(target, i, low);
-    store_lane(target, source.len() / 2 + i, high);
+    store_bytes(target, i, &low);
+    store_bytes(target, source.len() / 2 + i, &high);
 }
 
 // Packs points from the second on, lane by lane, as far as lanes go. Answers where they end: any end would do, as the rest is packed

@@ -5,40 +5,28 @@ ghost use Rattle.std.specs.Prelude.{◌≡◌, ◌+◌, ◌-◌, ◌≤◌, ◌<
 ghost use Rattle.blocks.specs.Block.{store, Disjoint};
 ghost use Rattle.parity.specs.Fold.{folded, part_modified, ModifyInside};
 
-use lanes::{LANE, load_lane, store_lane, xor_lanes};
+use lanes::{Lane, Wide};
 
-// Stores the new parity lane by lane, as far as lanes go. Answers where they end.
-fn modify_lanes(images: &mut [u8], parity: usize, at: usize, bytes: &[u8]) -> usize
-    requires { ModifyInside parity at (length bytes.now) (length images.old) }
-    ensures { (result ≤ length bytes.now) × (length bytes.now < result + 16)
-        × (images.new ≡ part_modified images.old parity at bytes.now 0 result) }
-{
-    let mut i = 0;
-    while LANE <= bytes.len() - i {
-        store_lane(
-            images,
-            parity + i,
-            xor_lanes(
-                xor_lanes(load_lane(images, parity + i), load_lane(images, at + i)),
-                load_lane(bytes, i),
-            ),
-        );
-        i += LANE;
-    }
-    i
-}
-
-// The same from `first` on, byte by byte, to the end.
-fn modify_bytes(images: &mut [u8], parity: usize, at: usize, bytes: &[u8], first: usize)
+// Stores the new parity from `first` on in parts of this width, as many as there are. Answers where they end. (Stays a while: it goes on
+// by a width, and a for over the parts has their number to count first, and their places to work out.)
+fn modify_as<W: Wide>(
+    images: &mut [u8],
+    parity: usize,
+    at: usize,
+    bytes: &[u8],
+    first: usize,
+) -> usize
     requires { ModifyInside parity at (length bytes.now) (length images.old) × (first ≤ length bytes.now) }
-    ensures { images.new ≡
-        part_modified images.old parity at bytes.now first (length bytes.now - first) }
+    ensures end { (first ≤ result) × (result ≤ length bytes.now) × (length bytes.now < result + W.LEN) }
+    ensures images { images.new ≡ part_modified images.old parity at bytes.now first (result - first) }
 {
     let mut i = first;
-    while i < bytes.len() {
-        images[parity + i] = images[parity + i] ^ images[at + i] ^ bytes[i];
-        i += 1;
+    while W::LEN <= bytes.len() - i {
+        let without = W::load(images, parity + i).xor(W::load(images, at + i));
+        without.xor(W::load(bytes, i)).store(images, parity + i);
+        i += W::LEN;
     }
+    i
 }
 
 // Folds a write of bytes at `at` into the parity, from `parity` on. The bytes themselves are not stored.
@@ -48,6 +36,6 @@ pub fn fold_parity(images: &mut [u8], parity: usize, at: usize, bytes: &[u8])
     ensures images { images.new ≡
         store images.old parity (folded images.old parity at bytes.now) }
 {
-    let i = modify_lanes(images, parity, at, bytes);
-    modify_bytes(images, parity, at, bytes, i);
+    let lanes = modify_as::<Lane>(images, parity, at, bytes, 0);
+    modify_as::<u8>(images, parity, at, bytes, lanes);
 }

@@ -1,132 +1,57 @@
 // A write whose disk is out, folded into the parity straight from the other disks (a reconstruct-write): the bytes xor the places of all
-// disks but two. No byte of a block is held but in registers, and each byte of the parity is stored once. A sum is called at one place
-// alone, so that the compiler puts it there and keeps its struct of bytes in registers: hence one for each width. Called at two places, it
-// would have all go through memory: so reads and rebuilds, which sum into a lent block, cannot share it. Four lanes spread the cost of the
-// loop over the disks. Eight were faster in cache, slower out of it with 32 disks, and one more copy of it all. That the loops over 64, 16
-// and single bytes follow each other, and are no choice in one loop, is for speed too.
-ghost use Rattle.std.specs.Prelude.{◌≡◌, [], ◌∷◌, ◌≢◌, ◌+◌, ◌-◌, ◌≤◌, ◌<◌, length};
+// disks but two. No byte of a block is held but in registers, and each byte of the parity is stored once. The sum of each width is called
+// at one place alone, so that the compiler puts it there and keeps its struct of bytes in registers. Called at two places, it would have
+// all go through memory: so reads and rebuilds, which sum into a lent block, cannot share it. Four lanes spread the cost of the loop over
+// the disks. Eight were faster in cache, slower out of it with 32 disks, and one more copy of it all. That the loops over 64, 16 and single
+// bytes follow each other, and are no choice in one loop, is for speed too.
+ghost use Rattle.std.specs.Prelude.{◌≡◌, ◌≢◌, ◌+◌, ◌-◌, ◌≤◌, ◌<◌, length};
 ghost use Rattle.blocks.specs.Block.{block_at};
 ghost use Rattle.blocks.specs.Xor.{xor_b};
 ghost use Rattle.blocks.specs.Stripe.{PlaceInside};
-ghost use Rattle.lanes.specs.Lanes.{lane_bytes, quad_bytes};
 ghost use Rattle.parity.specs.Fold.{folded_others, counted, gapped, GappedInside, FoldInside, part_folded};
 
 use crate::types::Gapped;
 use blocks::offset_of;
-use lanes::{
-    LANE, Lane, QUAD, Quad, load_lane, load_quad, store_lane, store_quad, xor_lanes, xor_quads,
-};
+use lanes::{Lane, Quad, Wide};
 
 // Whether disk d is neither of the two gaps.
+#[tactic(auto, unfolding(crate::specs::Fold::counted))]
 fn is_counted(g: Gapped, d: usize) -> bool
     ensures { result ≡ counted g d }
 {
     d != g.out && d != g.parity
 }
 
-// The xor of x and, from at on, four lanes of each place that is counted.
-fn sum_quad(images: &[u8], g: Gapped, at: usize, x: Quad) -> Quad
-    requires { GappedInside g (length images.now) × (at + 64 ≤ g.len) }
-    ensures { quad_bytes result ≡ xor_b (quad_bytes x) (block_at (gapped g images.now) at 64) }
+// The xor of x and, from at on, as many bytes of each place that is counted.
+fn sum_wide<W: Wide>(images: &[u8], g: Gapped, at: usize, x: W) -> W
+    requires { GappedInside g (length images.now) × (at + W.LEN ≤ g.len) }
+    ensures { W.bytes result ≡ xor_b (W.bytes x) (block_at (gapped g images.now) at W.LEN) }
 {
-    let disks = g.disks;
     let mut sum = x;
-    let mut d = 0;
-    while d < disks {
+    for d in 0..g.disks {
         if is_counted(g, d) {
             let from = offset_of(g.stripes, g.len, g.stripe, d) + at;
-            sum = xor_quads(sum, load_quad(images, from));
+            sum = sum.xor(W::load(images, from));
         }
-        d += 1;
     }
     sum
 }
 
-// The same with one lane.
-fn sum_lane(images: &[u8], g: Gapped, at: usize, x: Lane) -> Lane
-    requires { GappedInside g (length images.now) × (at + 16 ≤ g.len) }
-    ensures { lane_bytes result ≡ xor_b (lane_bytes x) (block_at (gapped g images.now) at 16) }
-{
-    let disks = g.disks;
-    let mut sum = x;
-    let mut d = 0;
-    while d < disks {
-        if is_counted(g, d) {
-            let from = offset_of(g.stripes, g.len, g.stripe, d) + at;
-            sum = xor_lanes(sum, load_lane(images, from));
-        }
-        d += 1;
-    }
-    sum
-}
-
-// The same with one byte.
-fn sum_byte(images: &[u8], g: Gapped, at: usize, x: u8) -> u8
-    requires { GappedInside g (length images.now) × (at + 1 ≤ g.len) }
-    ensures { result ∷ [] ≡ xor_b (x ∷ []) (block_at (gapped g images.now) at 1) }
-{
-    let disks = g.disks;
-    let mut sum = x;
-    let mut d = 0;
-    while d < disks {
-        if is_counted(g, d) {
-            let from = offset_of(g.stripes, g.len, g.stripe, d) + at;
-            sum = sum ^ images[from];
-        }
-        d += 1;
-    }
-    sum
-}
-
-// Stores the new parity from `first` on, four lanes at once, as far as they go. Answers where they end.
-fn fold_quads(images: &mut [u8], g: Gapped, bytes: &[u8], first: usize) -> usize
+// Stores the new parity from `first` on in parts of this width, as many as there are. Answers where they end. (Stays a while: it goes on
+// by a width, and a for over the parts has their number to count first, and their places to work out.)
+fn fold_as<W: Wide>(images: &mut [u8], g: Gapped, bytes: &[u8], first: usize) -> usize
     requires { FoldInside g (length images.old) (length bytes.now) × (first ≤ g.len) }
-    ensures { (first ≤ result) × (result ≤ g.len) × (g.len < result + 64)
-        × (images.new ≡ part_folded g images.old bytes.now first (result - first)) }
+    ensures end { (first ≤ result) × (result ≤ g.len) × (g.len < result + W.LEN) }
+    ensures images { images.new ≡ part_folded g images.old bytes.now first (result - first) }
 {
     let to = offset_of(g.stripes, g.len, g.stripe, g.parity);
     let mut at = first;
-    while QUAD <= g.len - at {
-        store_quad(
-            images,
-            to + at,
-            sum_quad(images, g, at, load_quad(bytes, at)),
-        );
-        at += QUAD;
+    while W::LEN <= g.len - at {
+        let sum = sum_wide(images, g, at, W::load(bytes, at));
+        sum.store(images, to + at);
+        at += W::LEN;
     }
     at
-}
-
-// The same, lane by lane.
-fn fold_lanes(images: &mut [u8], g: Gapped, bytes: &[u8], first: usize) -> usize
-    requires { FoldInside g (length images.old) (length bytes.now) × (first ≤ g.len) }
-    ensures { (first ≤ result) × (result ≤ g.len) × (g.len < result + 16)
-        × (images.new ≡ part_folded g images.old bytes.now first (result - first)) }
-{
-    let to = offset_of(g.stripes, g.len, g.stripe, g.parity);
-    let mut at = first;
-    while LANE <= g.len - at {
-        store_lane(
-            images,
-            to + at,
-            sum_lane(images, g, at, load_lane(bytes, at)),
-        );
-        at += LANE;
-    }
-    at
-}
-
-// The same, byte by byte, to the end.
-fn fold_bytes(images: &mut [u8], g: Gapped, bytes: &[u8], first: usize)
-    requires { FoldInside g (length images.old) (length bytes.now) × (first ≤ g.len) }
-    ensures { images.new ≡ part_folded g images.old bytes.now first (g.len - first) }
-{
-    let to = offset_of(g.stripes, g.len, g.stripe, g.parity);
-    let mut at = first;
-    while at < g.len {
-        images[to + at] = sum_byte(images, g, at, bytes[at]);
-        at += 1;
-    }
 }
 
 // Folds a write of bytes to the place of stripe s on disk `out` into the parity, the stripe's place on disk `parity`: the xor of the other
@@ -145,14 +70,14 @@ pub fn fold_others(
     ensures images { images.new ≡ folded_others stripes images.old s disks out parity bytes.now }
 {
     let g = Gapped {
-        disks: disks,
-        stripes: stripes,
+        disks,
+        stripes,
         len: bytes.len(),
         stripe: s,
-        out: out,
-        parity: parity,
+        out,
+        parity,
     };
-    let quads = fold_quads(images, g, bytes, 0);
-    let lanes = fold_lanes(images, g, bytes, quads);
-    fold_bytes(images, g, bytes, lanes);
+    let quads = fold_as::<Quad>(images, g, bytes, 0);
+    let lanes = fold_as::<Lane>(images, g, bytes, quads);
+    fold_as::<u8>(images, g, bytes, lanes);
 }

@@ -1,11 +1,10 @@
 -- A write folded into the parity straight from the places of all disks but two: a loop over the disks; that what is stored so far does not change what is still to be read; and that the old parity cancels. Assumes nothing.
 use Prim.Native.Nat.{ℕ, zero, suc, ◌+◌, ◌≤◌, ◌<◌, zero-le}
-use mathlib.Core.Path.{◌≡◌, refl, sym, ap, ap₂, ◌∙◌, subst}
+use mathlib.Core.Path.{◌≡◌, refl, sym, ap, ap₂, ◌∙◌}
 use mathlib.Core.Bool.{Bool, true, false, not, ◌&&◌}
 use mathlib.Core.Logic.{◌≢◌, inl, inr}
 use mathlib.Core.List.{List}
 use native.Mathlib.Decide.{ℕ_discrete}
-use native.Mathlib.Nat.{le_antisymm}
 use native.Mathlib.Numerals.{add-one}
 use native.Mathlib.Omega.{arith}
 use borrow.Author.Tests.{eq-eqb, ne_eqb}
@@ -15,15 +14,11 @@ use Rattle.parity.specs.declared.types.Gapped.{Gapped}
 use Rattle.blocks.specs.Block.{block_at, store, Disjoint}
 use Rattle.blocks.specs.Xor.{xor_b}
 use Rattle.blocks.specs.Stripe.{others}
-use Rattle.parity.specs.Fold.{counted, start_of, place_of, gapped_to, gapped, new_parity, GappedInside, FoldInside}
+use Rattle.parity.specs.Fold.{counted, start_of, place_of, gapped_to, gapped, new_parity, FoldInside}
 use Rattle.blocks.proofs.Laws.Block.{block_at-within, block_at-zeros, block_at-other, block_at-short}
 use Rattle.blocks.proofs.Laws.Xor.{xor_b-comm, xor_b-assoc, xor_b-zeros, xor_b-cancel, block_at-xor_b, length-xor_b, length-xor_b-short}
-use Rattle.blocks.proofs.Laws.Stripe.{place-in, places-apart, others-in, others-out, length-others}
+use Rattle.blocks.proofs.Laws.Stripe.{places-apart, others-in, others-out, length-others}
 use Rattle.parity.proofs.Laws.Replace.{Steady, Replaced, replaced-more, replaced-all}
-
--- the place of a disk, counted or not, lies within the images
-pub place_inside : {g : Gapped} {images d : ℕ} → GappedInside g images → d < g.disks → start_of g d + g.len ≤ images
-place_inside {g} {images} {d} w h = omega (arith, w.within, place-in g.len g.stripes g.stripe d g.disks w.stripe_lt h)
 
 -- ---- which disks are counted
 
@@ -87,9 +82,6 @@ module _ {g : Gapped} {l : List ℕ} {at n : ℕ} {x b b' : List ℕ} {d : ℕ} 
   pub gathered-over : counted g d ≡ false → Gathered g l at n x b d → b' ≡ b → Gathered g l at n x b' (d + 1)
   gathered-over e f q =
       record { is = q ∙ f.is ∙ ap (λ (r : List ℕ). xor_b x (block_at r at n)) (sym (gapped-over g l d e)) ∙ rw (add-one d); within = omega arith }
-
-pub gathered-all : {g : Gapped} {l : List ℕ} {at n : ℕ} {x b : List ℕ} {d : ℕ} → Gathered g l at n x b d → g.disks ≤ d → b ≡ xor_b x (block_at (gapped g l) at n)
-gathered-all {g} {l} {at} {n} {x} f h = f.is ∙ ap (λ (k : ℕ). xor_b x (block_at (gapped_to g l k) at n)) (le_antisymm f.within h)
 
 -- ---- the old parity cancels
 
@@ -186,11 +178,6 @@ gapped-kept g l at v (suc N) hs h = go (gapped-kept g l at v N hs h) (ℕ_discre
 -- from `first` to before at the new parity is stored in l, which was l₀
 abbrev pub Reconstructed : Gapped → List ℕ → List ℕ → ℕ → List ℕ → ℕ → Type 0
 Reconstructed g b = Replaced (λ (r : List ℕ). new_parity g r b) (start_of g g.parity) g.len
-
--- the places lie within l as they lay within l₀
-pub still-inside : {g : Gapped} {F : List ℕ → List ℕ} {to n : ℕ} {l₀ : List ℕ} {first : ℕ} {l : List ℕ} {at : ℕ}
-    → Replaced F to n l₀ first l at → GappedInside g (length l₀) → GappedInside g (length l)
-still-inside {g} f w = subst (GappedInside g) (sym f.size) w
 
 module _ {g : Gapped} (b : List ℕ) {images : ℕ} (w : FoldInside g images (length b)) where
   pub others-steady : (l : List ℕ) → Steady (λ (r : List ℕ). new_parity g r b) (start_of g g.parity) g.len l

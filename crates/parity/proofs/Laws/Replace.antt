@@ -2,7 +2,7 @@
 use Prim.Native.Nat.{ℕ, ◌+◌, ◌-◌, ◌≤◌}
 use mathlib.Core.Path.{◌≡◌, refl, sym, ap, ap₂, ◌∙◌}
 use mathlib.Core.List.{List}
-use native.Mathlib.Nat.{le_antisymm, add-zero}
+use native.Mathlib.Nat.{add-zero}
 use native.Mathlib.Omega.{arith}
 use lib.ListN.{length}
 use lib.Seq.{take_all}
@@ -32,11 +32,6 @@ module _ {F : List ℕ → List ℕ} {to n : ℕ} where
         behind = omega arith;
         within = h;
       }
-
-  -- to the end
-  pub replaced-end : {l₀ : List ℕ} {first : ℕ} {l : List ℕ} {at : ℕ} → Replaced F to n l₀ first l at → n ≤ at
-      → l ≡ copied_to l₀ (to + first) (F l₀) first (n - first)
-  replaced-end {l₀} {first} f h = f.is ∙ ap (λ (i : ℕ). copied_to l₀ (to + first) (F l₀) first (i - first)) (le_antisymm f.within h)
 
   module _ {l₀ : List ℕ} (w : Steady F to n l₀) where
     -- a part more, from at to before end

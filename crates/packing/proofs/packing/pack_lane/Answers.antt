@@ -9,6 +9,6 @@ returns c =
     record {
       target =
           let a = c.args in
-          c.store_lane-2.ensures.target
-          ∙ ap₂ (λ (x y : List ℕ). store x (half a.source.now + a.i) y) (c.store_lane.ensures.target ∙ ap (store a.target.now a.i) c.lane_at-low.ensures.lane) c.lane_at-high.ensures.lane;
+          c.store_bytes-2.ensures.target
+          ∙ ap₂ (λ (x y : List ℕ). store x (half a.source.now + a.i) y) (c.store_bytes.ensures.target ∙ ap (store a.target.now a.i) c.lane_at-low.ensures.lane) c.lane_at-high.ensures.lane;
     }

@@ -21,10 +21,11 @@ returns c =
     let b = c.args.bytes.now in
     let w = inside (goal.at.returns c).Start in
     let k = others-steady b w c.args.images.now in
-    let q = c.fold_quads-quads.ensures in
-    let l = c.fold_lanes-lanes.ensures in
-    let some = replaced-on k (replaced-none zero-le) c.fold_quads-quads.result q.0 q.1 q.3 in
-    let most = replaced-on k some c.fold_lanes-lanes.result l.0 l.1 l.3 in
+    let q = c.fold_as-quads.ensures in
+    let l = c.fold_as-lanes.ensures in
+    let r = c.fold_as.ensures in
+    let some = replaced-on k (replaced-none zero-le) c.fold_as-quads.result q.end.0 q.end.1 q.images in
+    let most = replaced-on k some c.fold_as-lanes.result l.end.0 l.end.1 l.images in
     record {
-      images = others-all b w c.requires.1 (replaced-on k most (length b) l.1 (omega arith) c.fold_bytes.ensures) (omega arith);
+      images = others-all b w c.requires.1 (replaced-on k most c.fold_as.result r.end.0 r.end.1 r.images) (omega arith);
     }
