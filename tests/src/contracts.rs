@@ -11,7 +11,7 @@ pub struct Function {
     pub returns: Option<String>,
     pub requires: Vec<Clause>,
     pub ensures: Vec<Clause>,
-    /// What stands between the braces.
+    /// What stands between the braces; nothing where a trait only declares it.
     pub body: String,
 }
 
@@ -66,9 +66,72 @@ fn is_mut(word: &str) -> bool {
 
 // ---- reading
 
-/// The functions of a source file.
+/// The functions of a source file, methods too. Those that a public trait declares are public.
 pub fn functions(source: &str) -> Vec<Function> {
-    let text = without_comments(source);
+    let (members, alone) = members(&without_comments(source));
+    let mut all = heads(&alone);
+    for m in members {
+        let public = m.of_public_trait.then_some(Visibility::Public);
+        all.extend(heads(&m.inside).into_iter().map(|f| Function {
+            visibility: public.unwrap_or(f.visibility),
+            ..f
+        }));
+    }
+    all
+}
+
+/// A block that begins with `impl` or `trait`.
+pub struct Members {
+    /// The type or the trait.
+    pub of: String,
+    of_public_trait: bool,
+    /// What stands between the braces.
+    pub inside: String,
+}
+
+/// The blocks of a text that begin with `impl` or `trait`, and the text without them.
+pub fn members(text: &str) -> (Vec<Members>, String) {
+    let mut blocks = Vec::new();
+    let mut alone = String::new();
+    let mut rest = text;
+    while let Some((before, head, behind)) = block(rest) {
+        let (inside, behind) = bracketed(behind, '{', '}');
+        blocks.push(Members {
+            of: owner(head),
+            of_public_trait: head.starts_with("pub trait "),
+            inside: inside.to_string(),
+        });
+        alone.push_str(before);
+        rest = behind;
+    }
+    (blocks, alone + rest)
+}
+
+/// The first block: what stands before it, its line up to the brace, and what follows that.
+fn block(text: &str) -> Option<(&str, &str, &str)> {
+    let starts = text.match_indices('\n').map(|(end, _)| end + 1);
+    let words = ["impl ", "impl<", "trait ", "pub trait "];
+    let is_block = |at: &usize| words.iter().any(|word| text[*at..].starts_with(word));
+    let at = [0].into_iter().chain(starts).find(is_block)?;
+    let (head, behind) = text[at..].split_once('{')?;
+    Some((&text[..at], head, behind))
+}
+
+/// `impl<T: Quarter> Wide for Four<T>`: Four<T>. `pub trait Wide: Copy`: Wide.
+fn owner(head: &str) -> String {
+    let head = head.trim().trim_start_matches("pub ");
+    let of = match (head.strip_prefix("trait "), head.rsplit_once(" for ")) {
+        (Some(of), _) => of.split([':', '<']).next().unwrap(),
+        (_, Some((_, of))) => of,
+        _ => match head.strip_prefix("impl<") {
+            Some(parameters) => bracketed(parameters, '<', '>').1,
+            None => head.trim_start_matches("impl "),
+        },
+    };
+    of.trim().to_string()
+}
+
+fn heads(text: &str) -> Vec<Function> {
     let mut all = Vec::new();
     for (at, _) in text.match_indices("fn ") {
         let line_start = text[..at].rfind('\n').map_or(0, |end| end + 1);
@@ -106,6 +169,7 @@ fn function(head: Option<&str>, text: &str) -> Function {
             "\n    requires",
             "\n    ensures",
             "{",
+            ";\n",
         ]
         .iter()
         .filter_map(|next| behind.find(next))
@@ -114,7 +178,7 @@ fn function(head: Option<&str>, text: &str) -> Function {
         f.returns = Some(behind[..end].trim().to_string());
         rest = behind[end..].trim_start();
     }
-    while !rest.starts_with('{') {
+    while !rest.starts_with(['{', ';']) {
         let (keyword, behind) = rest.split_once([' ', '\n']).expect("a clause");
         let (name, behind) = behind.split_once('{').expect("a clause");
         let (inside, behind) = bracketed(behind, '{', '}');
@@ -126,7 +190,9 @@ fn function(head: Option<&str>, text: &str) -> Function {
         }
         rest = behind.trim_start();
     }
-    f.body = bracketed(&rest[1..], '{', '}').0.to_string();
+    if let Some(body) = rest.strip_prefix('{') {
+        f.body = bracketed(body, '{', '}').0.to_string();
+    }
     f
 }
 
@@ -240,8 +306,8 @@ const ANSWER: &str = "result";
 /// Types that have values, so that what is said of all of them says something.
 const INHABITED: &[&str] = &["ℕ", "Record", "List ℕ"];
 
-/// What definitions make of an answer that is an enum, a struct of bytes or a `Result`; those of one type together leave nothing of
-/// it open.
+/// What definitions make of an answer that is an enum, a `Result`, or of a type of which a trait knows the bytes
+/// alone; those of one type together leave nothing of it open.
 const MADE: &[(&str, &[&str])] = &[
     ("Result<(), Refusal>", &["number_of"]),
     ("Result<u64, Refusal>", &["number_of", "count_of"]),
@@ -257,9 +323,8 @@ const MADE: &[(&str, &[&str])] = &[
     ("Result<Standing, Refusal>", &["located_answer"]),
     ("Result<Role, Refusal>", &["owned_answer"]),
     ("Result<Swept, Refusal>", &["swept_answer"]),
-    ("Lane", &["lane_bytes"]),
-    ("Quad", &["quad_bytes"]),
     ("Result<(), BadPoints>", &["number_of"]),
+    ("Self", &["bytes"]),
 ];
 
 type Words = Vec<String>;
@@ -436,7 +501,7 @@ impl Function {
 }
 
 /// Whether the sides have a value of this type: itself, the text that it prints as, all fields of a struct, all that the definitions
-/// make of it, for an enum or a struct of bytes, or of an `Option` whether it has a value and what that is.
+/// make of it, for an enum or what a trait knows the bytes of, or of an `Option` whether it has a value and what that is.
 fn says_all(given: &[String], value: &str, kind: &str, structs: &Structs) -> bool {
     if kind.starts_with('&') {
         return given.contains(&format!("{value}.now"));

@@ -1,8 +1,8 @@
 //! What a Rattle function reaches: what its text names, what the text of that names, and so on, through all crates. A name is that of
-//! its own file, or of the one that the file has it from by a `use`, or it stands after its crate (`access::write`). A method is taken to
-//! be every method of that name that our crates have, whatever type it is called on; one that none of them has is the library's.
+//! its own file, or of the one that the file has it from by a `use`, or it stands after its crate (`access::write`). Which type a method
+//! is called of is not looked for: all that have its name are reached, of each trait and each type.
 
-use crate::contracts::{bracketed, functions, without_comments};
+use crate::contracts::{bracketed, functions, members, without_comments};
 use std::collections::BTreeSet;
 
 /// A function, type or constant.
@@ -11,6 +11,8 @@ pub struct Item {
     pub in_crate: String,
     /// Its file, without the ending.
     module: String,
+    /// Of a method or a constant of a type or trait, which that is.
+    of: Option<String>,
     /// Types and body, without the contract.
     pub text: String,
 }
@@ -18,7 +20,9 @@ pub struct Item {
 impl Item {
     /// Below crates/.
     pub fn place(&self) -> String {
-        format!("{} in {}/src/{}.rt", self.name, self.in_crate, self.module)
+        let of = self.of.iter().map(|of| format!("{of}::"));
+        let name: String = of.chain([self.name.clone()]).collect();
+        format!("{name} in {}/src/{}.rt", self.in_crate, self.module)
     }
 }
 
@@ -26,8 +30,6 @@ struct File {
     in_crate: String,
     module: String,
     items: Vec<Item>,
-    /// Its functions may be methods.
-    has_methods: bool,
     /// The parts of each `use`, but for the ghost ones.
     uses: Vec<Vec<String>>,
 }
@@ -37,27 +39,31 @@ impl File {
     fn of(path: &str, text: &str) -> Option<File> {
         let (in_crate, rest) = path.split_once("/src/")?;
         let module = rest.strip_suffix(".rt")?;
-        let text = without_comments(text);
-        let is_block = |line: &str| {
-            ["impl", "trait", "pub trait"]
-                .iter()
-                .any(|w| line.starts_with(w))
-        };
-        let has_methods = text.lines().any(is_block);
-        let item = |(name, text)| Item {
+        let (members, text) = members(&without_comments(text));
+        let item = |of: Option<&str>, (name, text)| Item {
             name,
             in_crate: in_crate.to_string(),
             module: module.to_string(),
+            of: of.map(str::to_string),
             text,
         };
+        let of_types = members.iter().flat_map(|m| {
+            let all = items(&outdented(&m.inside)).into_iter();
+            all.map(|found| item(Some(&m.of), found))
+        });
+        let alone = items(&text).into_iter().map(|found| item(None, found));
         Some(File {
             in_crate: in_crate.to_string(),
             module: module.to_string(),
-            items: items(&text).into_iter().map(item).collect(),
-            has_methods,
+            items: alone.chain(of_types).collect(),
             uses: uses(&text),
         })
     }
+}
+
+fn outdented(inside: &str) -> String {
+    let line = |line: &str| format!("{}\n", line.strip_prefix("    ").unwrap_or(line));
+    inside.lines().map(line).collect()
 }
 
 /// The names that a file defines, each with its text.
@@ -72,16 +78,19 @@ fn items(text: &str) -> Vec<(String, String)> {
     functions.chain(others).collect()
 }
 
-/// What begins here, if that is a `struct`, `enum` or `const`.
+/// What begins here, if that is a `struct`, `enum`, `type` or `const`.
 fn type_or_constant(text: &str) -> Option<(String, String)> {
     let text = text.trim_start_matches("pub ");
     let (word, rest) = text.trim_start_matches("pub(crate) ").split_once(' ')?;
-    let (name, rest) = rest.split_at(rest.find([' ', ':', '('])?);
-    let rest = rest.trim_start();
+    let (name, rest) = rest.split_at(rest.find([' ', ':', '(', '<', ';'])?);
+    let rest = match rest.strip_prefix('<') {
+        Some(rest) => bracketed(rest, '<', '>').1.trim_start(),
+        None => rest.trim_start(),
+    };
     let inside = match (word, rest.chars().next()?) {
         ("struct" | "enum", '{') => bracketed(&rest[1..], '{', '}').0,
         ("struct", '(') => bracketed(&rest[1..], '(', ')').0,
-        ("const", ':') => rest.split(";\n").next()?,
+        ("const", ':') | ("type", '=') => rest.split(";\n").next()?,
         _ => return None,
     };
     Some((name.to_string(), inside.to_string()))
@@ -115,14 +124,24 @@ struct Path<'a> {
     parts: Vec<&'a str>,
     /// As a function: variants of an enum begin with a capital.
     is_called: bool,
-    /// After a dot.
-    is_method: bool,
 }
 
 /// What may stand before a bracket and is no function.
 const KEYWORDS: &[&str] = &["if", "while", "match", "return"];
 
-/// All but fields.
+/// The types of std whose functions stand after their names, as those that begin with a capital do.
+const NUMBERS_OF_STD: &[&str] = &["u8", "u16", "u32", "u64", "usize"];
+
+impl Path<'_> {
+    /// Of a type, trait or parameter: `Self::LEN`.
+    fn is_member(&self) -> bool {
+        let of = self.parts[self.parts.len().saturating_sub(2)];
+        let is_type = of.starts_with(char::is_uppercase) || NUMBERS_OF_STD.contains(&of);
+        self.parts.len() > 1 && is_type
+    }
+}
+
+/// All but fields and methods, which stand after a dot.
 fn paths(text: &str) -> Vec<Path<'_>> {
     let is_part = |c: char| c.is_alphanumeric() || c == '_' || c == ':';
     let mut all = Vec::new();
@@ -133,20 +152,31 @@ fn paths(text: &str) -> Vec<Path<'_>> {
         let (word, behind) = behind.split_at(end);
         let parts: Vec<&str> = word.trim_matches(':').split("::").collect();
         let last = parts[parts.len() - 1];
-        let is_method = before.ends_with('.') && !before.ends_with("..");
-        let is_called = (behind.starts_with('(') || behind.starts_with("::<"))
-            && last.starts_with(char::is_lowercase)
-            && !KEYWORDS.contains(&last);
-        if is_called || !is_method {
+        // `f::<u8>(x)`
+        let called = match behind.strip_prefix('<') {
+            Some(inside) if word.ends_with("::") => bracketed(inside, '<', '>').1,
+            _ => behind,
+        };
+        if !before.ends_with('.') || before.ends_with("..") {
             all.push(Path {
+                is_called: called.starts_with('(')
+                    && last.starts_with(char::is_lowercase)
+                    && !KEYWORDS.contains(&last),
                 parts,
-                is_called,
-                is_method,
             });
         }
         rest = behind;
     }
     all
+}
+
+/// The methods that are called: names after a dot, before a bracket.
+fn methods(text: &str) -> Vec<&str> {
+    let is_name = |c: char| c.is_alphanumeric() || c == '_';
+    let behind = text.split('.').skip(1);
+    let name = |behind: &'_ str| behind.find(|c| !is_name(c)).unwrap_or(behind.len());
+    let called = behind.filter(|b| b[name(b)..].starts_with('('));
+    called.map(|b| &b[..name(b)]).collect()
 }
 
 /// The sources of all crates.
@@ -174,37 +204,32 @@ impl Sources {
         all
     }
 
-    /// What the text of an item names. Every call must be found.
+    /// What the text of an item names. Every call must be found, but for those of a type: of a method of std there is nothing to find.
     fn named(&self, item: &Item) -> Vec<&Item> {
         let find = |path: Path| {
-            let last = path.parts[path.parts.len() - 1];
-            let found = if path.is_method {
-                return self.methods(last);
-            } else {
-                self.named_by(item, &path.parts)
-            };
-            // of a type, or of a type's parameter, as `Lane::load` or `W::load`
-            let methods = match (found, &path.parts[..]) {
-                (None, [_, name]) if path.is_called => self.methods(name),
-                _ => Vec::new(),
-            };
-            let is_library = NUMBERS.contains(&path.parts[0]);
+            let mut found: Vec<&Item> = self.named_by(item, &path.parts).into_iter().collect();
             let what = path.parts.join("::");
             assert!(
-                found.is_some() || !methods.is_empty() || is_library || !path.is_called,
+                !found.is_empty() || !path.is_called || path.is_member(),
                 "{what}, called by {}",
                 item.place()
             );
-            found.into_iter().chain(methods).collect()
+            if path.is_member() {
+                found.extend(self.members(path.parts[path.parts.len() - 1]));
+            }
+            found
         };
-        paths(&item.text).into_iter().flat_map(find).collect()
+        let methods = methods(&item.text).into_iter();
+        let methods = methods.flat_map(|name| self.members(name));
+        let paths = paths(&item.text).into_iter();
+        paths.flat_map(find).chain(methods).collect()
     }
 
-    /// All methods of this name.
-    fn methods(&self, name: &str) -> Vec<&Item> {
-        let files = self.0.iter().filter(|file| file.has_methods);
-        let items = files.flat_map(|file| &file.items);
-        items.filter(|item| item.name == name).collect()
+    /// All methods and constants of types and traits that have this name.
+    fn members(&self, name: &str) -> Vec<&Item> {
+        let all = self.0.iter().flat_map(|file| &file.items);
+        all.filter(|item| item.of.is_some() && item.name == name)
+            .collect()
     }
 
     fn named_by(&self, item: &Item, parts: &[&str]) -> Option<&Item> {
@@ -219,7 +244,7 @@ impl Sources {
     /// What a file calls by this name.
     fn item(&self, in_crate: &str, module: &str, name: &str) -> Option<&Item> {
         let file = self.file(in_crate, module)?;
-        let mut here = file.items.iter();
+        let mut here = file.items.iter().filter(|item| item.of.is_none());
         if let Some(item) = here.find(|item| item.name == name) {
             return Some(item);
         }

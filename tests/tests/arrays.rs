@@ -40,6 +40,9 @@ fn a_write_has_no_array() {
         for fold in ["fold_others", "fold_parity"] {
             assert!(has(&reached, "parity", fold), "{name} reaches {fold}");
         }
+        for part in ["load", "xor", "store", "Four"] {
+            assert!(has(&reached, "lanes", part), "{name} reaches {part}");
+        }
         assert!(has(&reached, "access", "put") && has(&reached, "state", "Record"));
         assert_eq!(arrays_of(&reached), [""; 0], "{name} of {in_crate}");
     }
@@ -208,18 +211,83 @@ fn an_array_in_a_tuple_struct() {
     );
 }
 
-/// Called on a value, by its type and by a type's parameter; one of the library is none of ours.
+const A_WIDE: &str = "\
+pub trait Wide: Copy {
+    const LEN: usize;
+
+    fn load(x: u64) -> Self
+        ensures bytes { bytes result ≡ x };
+
+    fn store(self, x: u64);
+}
+impl Wide for u8 {
+    const LEN: usize = ONE;
+
+    fn load(x: u64) -> u8 {
+        near(x)
+    }
+
+    fn store(self, x: u64) {
+        far::<u8>(x);
+    }
+}
+const ONE: usize = 1;
+pub fn go<W: Wide>(x: u64) -> W
+    ensures { store result ≡ far x }
+{
+    u16::from_le_bytes(x.b);
+    W::load(W::LEN)
+}
+pub fn then(x: u64)
+{
+    x.more.store(x);
+}
+fn near(x: u64) -> u8
+{
+    0
+}
+fn far<T>(x: u64) -> u8
+{
+    let one = [0u8; 1];
+    1
+}
+";
+
+/// Of all types, since the type is not looked for; by a path, and after a dot.
 #[test]
 fn methods_are_followed() {
-    let own = "impl Own {\n    pub fn fill(&self) -> u64\n    {\n        let x = [a, b];\n        0\n    }\n}\n";
-    for call in ["o.fill()", "Own::fill(o)", "W::fill(o).min(3)"] {
-        let lib = format!("use own::Own;\npub fn go(o: Own) -> u64\n{{\n    {call}\n}}\n");
-        let sources = made_up(&[("a/src/lib.rt", &lib), ("a/src/own.rt", own)]);
-        assert_eq!(
-            arrays_of(&sources.reached("a", "go")),
-            ["[a, b] of fill in a/src/own.rt"]
-        );
-    }
+    let sources = made_up(&[("a/src/lib.rt", A_WIDE)]);
+    let places = |name: &str| {
+        let reached = sources.reached("a", name);
+        let mut places: Vec<String> = reached.iter().map(|item| item.place()).collect();
+        places.sort_unstable();
+        places
+    };
+    assert_eq!(
+        places("go"),
+        [
+            "ONE in a/src/lib.rt",
+            "Wide::LEN in a/src/lib.rt",
+            "Wide::load in a/src/lib.rt",
+            "go in a/src/lib.rt",
+            "near in a/src/lib.rt",
+            "u8::LEN in a/src/lib.rt",
+            "u8::load in a/src/lib.rt",
+        ]
+    );
+    assert_eq!(
+        places("then"),
+        [
+            "Wide::store in a/src/lib.rt",
+            "far in a/src/lib.rt",
+            "then in a/src/lib.rt",
+            "u8::store in a/src/lib.rt",
+        ]
+    );
+    assert_eq!(
+        arrays_of(&sources.reached("a", "then")),
+        ["[0u8; 1] of far in a/src/lib.rt"]
+    );
 }
 
 /// `impl` in a type has no method.

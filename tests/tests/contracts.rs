@@ -305,11 +305,7 @@ fn an_answer_is_set_equal_to_something() {
             "Shown<'a>",
             "ensures { (result.part.now ≡ x) × (result.count ≡ y) }",
         ),
-        (
-            "Lane",
-            "ensures { lane_bytes result ≡ xor_b (lane_bytes x) y }",
-        ),
-        ("Quad", "ensures { quad_bytes result ≡ f x }"),
+        ("Self", "ensures { bytes result ≡ xor_b (bytes x) y }"),
         (
             "Option<Count>",
             "ensures { is_some result ≡ f x }\n    ensures { IfSome result (λ c. (c.number ≡ 0) × (c.made ≡ x)) }",
@@ -361,9 +357,9 @@ fn less_is_no_answer() {
             "Shown<'a>",
             "ensures { (result.part.ref_ptr ≡ x) × (result.count ≡ y) }",
         ),
-        ("Quad", "ensures { lane_bytes result ≡ x }"),
-        ("Lane", "ensures { f (lane_bytes result) ≡ x }"),
-        ("Lane", "ensures { result.b0 ≡ x }"),
+        ("Self", "ensures { length (bytes result) ≡ x }"),
+        ("Self", "ensures { f (bytes result) ≡ x }"),
+        ("Self", "ensures { result.a ≡ x }"),
         ("Option<Count>", "ensures { is_some result ≡ f x }"),
         (
             "Option<Count>",
