@@ -208,5 +208,6 @@ exact =
       printed = λ n m k ks. line-printed k (move_of n m k) (lines_of n m ks);
       no_more = λ n m. refl;
       columns = λ x stop. refl;
+      stored = λ out text at. refl;
       examples = computed;
     }
