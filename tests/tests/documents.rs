@@ -36,8 +36,15 @@ fn links_lead_to_what_is_there() {
     assert!(seen > 50, "the search finds the links: {seen}");
 }
 
-/// The title in CHANGES.md of what brought no request, but another Rattle. Its note begins with three commits.
-const PORT: &str = "Today's Rattle";
+/// The titles in CHANGES.md of what brought no request, each with its note. These begin with commits.
+const NO_REQUEST: &[(&str, &str, &str)] = &[
+    ("Today's Rattle", "PORT", "LANDED: "),
+    (
+        "The design pass",
+        "DESIGN-PASS",
+        "The design pass began at commit ",
+    ),
+];
 
 /// CHANGES.md has at most six lines for each landing, one of them with its note, which has the same title.
 #[test]
@@ -46,18 +53,16 @@ fn landings_have_their_notes() {
     let mut seen = 0;
     for landing in changes.split("\n## ").skip(1) {
         let (title, rest) = landing.split_once('\n').unwrap();
-        let name = match title.split_once("Request (") {
-            Some((_, letter)) => format!("landings/{}", &letter[..1]),
-            None if title == PORT => "PORT".to_string(),
-            None => format!("landings/base-{}", numbers(title)[0]),
+        let other = NO_REQUEST.iter().find(|(of, ..)| title == *of);
+        let name = match (title.split_once("Request ("), other) {
+            (Some((_, letter)), _) => format!("landings/{}", &letter[..1]),
+            (_, Some((_, name, _))) => name.to_string(),
+            _ => format!("landings/base-{}", numbers(title)[0]),
         };
         let note = format!("docs/{name}.md");
         assert!(rest.contains(&format!("({note})")), "{title}: {note}");
         let text = Document::read(&note).text;
-        let begin = match title == PORT {
-            true => "LANDED: ".to_string(),
-            false => format!("# {title}\n"),
-        };
+        let begin = other.map_or(format!("# {title}\n"), |(.., begin)| begin.to_string());
         assert!(text.starts_with(&begin), "{note}: {title}");
         let lines = rest.lines().filter(|line| !line.is_empty()).count();
         assert!(lines <= 6, "{title}: {lines} lines");

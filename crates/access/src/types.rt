@@ -1,7 +1,8 @@
 // What view answers.
 use refusals::Refusal;
 
-// Before the part is taken: it begins at this byte of the images, or it is the scratch.
+// Before the part is taken: it begins at this byte of the images, or it is the scratch. (No Option: neither is the lack of the other, and
+// `View` of crate `calls` names both.)
 #[derive(Clone, Copy)]
 pub(crate) enum Choice {
     Part(usize),
