@@ -53,7 +53,7 @@ fn a_write_has_no_array() {
 fn reads_and_rebuilds_have_arrays() {
     let sources = sources();
     for (call, array) in [
-        ("read", "[0u8; 128] of add_piece in blocks/src/sum.rt"),
+        ("read", "[0u8; N] of add_part in blocks/src/sum.rt"),
         (
             "continue",
             "[0u8; 4096] of fill_disk_alone in repair/src/rebuilding.rt",

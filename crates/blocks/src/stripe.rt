@@ -4,7 +4,6 @@ ghost use Rattle.std.specs.Prelude.{◌≡◌, length};
 ghost use Rattle.blocks.specs.Block.{store};
 ghost use Rattle.blocks.specs.Stripe.{offset, PlaceInside, others};
 
-use crate::copy::copy_in;
 use crate::place::offset_of;
 use crate::sum::xor_others;
 
@@ -25,5 +24,5 @@ pub fn rebuild_place(
     let len = block.len();
     let at = offset_of(stripes, len, s, out);
     xor_others(images, disks, stripes, s, out, block);
-    copy_in(images, at, block);
+    images[at..at + len].copy_from_slice(block);
 }

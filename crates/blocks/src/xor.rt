@@ -8,9 +8,7 @@ pub(crate) fn xor_out(images: &[u8], at: usize, block: &mut [u8])
     requires { at + length block.old ≤ length images.now }
     ensures { block.new ≡ xor_b block.old (block_at images.now at (length block.old)) }
 {
-    let mut i = 0;
-    while i < block.len() {
-        block[i] = block[i] ^ images[at + i];
-        i += 1;
+    for (i, b) in block.iter_mut().enumerate() {
+        *b ^= images[at + i];
     }
 }

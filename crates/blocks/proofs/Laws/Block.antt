@@ -2,12 +2,14 @@
 use Prim.Native.Nat.{ℕ, zero, suc, ◌+◌, ◌≤◌, ◌<◌}
 use mathlib.Core.Path.{◌≡◌, refl, sym, ap, ◌∙◌}
 use mathlib.Core.Logic.{◌⊎◌, inl, inr}
-use mathlib.Core.List.{List, [], ◌∷◌, ◌++◌}
+use mathlib.Core.List.{List, [], ◌∷◌, ◌++◌, append-nil}
 use native.Mathlib.Nat.{zero-add, suc-add}
 use native.Mathlib.Omega.{arith}
+use borrow.Rule.Slice.PartMut.{put_mid}
 use lib.ListN.{length, get_or, set, take, drop, length-drop, length-replicate, replicate-append-replicate}
 use lib.Seq.{length-take-le, get_or-take, get_or-drop, take_all, take-take, take-add, drop-drop}
-use Rattle.blocks.specs.Block.{block_at, store, zeros, Disjoint}
+use Rattle.std.proofs.lemmas.List.{drop_all}
+use Rattle.blocks.specs.Block.{block_at, store, copied_to, zeros, Disjoint}
 
 pub length-store : (l : List ℕ) (at : ℕ) (b : List ℕ) → length (store l at b) ≡ length l
 length-store [] at b = refl
@@ -19,6 +21,15 @@ pub store-nil : (l : List ℕ) (at : ℕ) → store l at [] ≡ l
 store-nil [] at = refl
 store-nil (x ∷ l) (suc at) = rw (store-nil l at)
 store-nil (x ∷ l) zero = refl
+
+-- where it fits: what stands before it, the run, and what stands after it
+store-parts : (l : List ℕ) (at : ℕ) (b : List ℕ) → at + length b ≤ length l → store l at b ≡ take at l ++ (b ++ drop (length b) (drop at l))
+store-parts [] zero [] h = refl
+store-parts [] (suc at) b h = absurd (omega arith)
+store-parts [] zero (y ∷ b) h = absurd (omega arith)
+store-parts (x ∷ l) (suc at) b h = ap (λ (r : List ℕ). x ∷ r) (store-parts l at b (omega arith))
+store-parts (x ∷ l) zero [] h = refl
+store-parts (x ∷ l) zero (y ∷ b) h = ap (λ (r : List ℕ). y ∷ r) (store-parts l zero b (omega arith))
 
 -- a store of two runs, one after the other
 pub store-append : (l : List ℕ) (at : ℕ) (b c : List ℕ) → store l at (b ++ c) ≡ store (store l at b) (at + length b) c
@@ -95,6 +106,30 @@ store-whole (x ∷ l) (y ∷ b) e = ap (λ (r : List ℕ). y ∷ r) (store-whole
 
 pub length-block_at : (l : List ℕ) (at n : ℕ) → at + n ≤ length l → length (block_at l at n) ≡ n
 length-block_at l at n h = length-take-le n (drop at l) (simp length-drop (omega arith))
+
+-- ---- what the library leaves is a store
+
+-- b written over `l[at..at + n]`
+pub put_mid-store : (l : List ℕ) (at n : ℕ) (b : List ℕ) → at + length b ≤ length l → n ≡ length b → put_mid at n l b ≡ store l at b
+put_mid-store l at n b h e = rw e (sym (store-parts l at b h))
+
+-- zeroes written over `l[at..at + n]`, whose length is k, up to index i, which is its end
+pub put_mid-zeros : (l : List ℕ) (at n k i : ℕ) (b : List ℕ) → at + n ≤ length l → k ≡ n → i ≡ length (block_at l at k) → b ≡ zeros i ++ drop i (block_at l at k)
+    → put_mid at k l b ≡ store l at (zeros n)
+put_mid-zeros l at n k i b h e f q =
+    let long : length (block_at l at k) ≡ n = rw e (length-block_at l at n h) in
+    let z : length (zeros n) ≡ n = length-replicate {A = ℕ} n 0 in
+    let all : b ≡ zeros n = q ∙ ap (λ (r : List ℕ). zeros i ++ r) (drop_all i (block_at l at k) (omega arith)) ∙ append-nil (zeros i) ∙ ap zeros (f ∙ long) in
+    ap (put_mid at k l) all ∙ put_mid-store l at k (zeros n) (omega arith) (omega arith)
+
+-- a copy of `m[from..from + n]` written over `l[at..at + n]`, whose lengths are i and k
+pub put_mid-copied : (l : List ℕ) (at : ℕ) (m : List ℕ) (from n i k : ℕ) (b : List ℕ) → from + n ≤ length m → at + n ≤ length l → i ≡ n → k ≡ n → b ≡ block_at m from i
+    → put_mid at k l b ≡ copied_to l at m from n
+put_mid-copied l at m from n i k b h h' e e' q =
+    let long : length (block_at m from n) ≡ n = length-block_at m from n h in
+    ap (put_mid at k l) (q ∙ ap (block_at m from) e) ∙ put_mid-store l at k (block_at m from n) (omega arith) (omega arith)
+
+-- ---- what is read
 
 pub get_or-block_at : (l : List ℕ) (at n i : ℕ) → i < n → get_or (block_at l at n) i 0 ≡ get_or l (at + i) 0
 get_or-block_at l at n i h = rw (get_or-take, get_or-drop)

@@ -50,12 +50,7 @@ pub filled-other : {l₀ : List ℕ} {at : ℕ} {b : List ℕ} {n : ℕ} {l : Li
 filled-other {l₀} {at} {b} {n} {l} {i} f j h =
     ap (λ (r : List ℕ). get_or r j 0) f.is ∙ get_or-store-other l₀ at (take i b) j 0 (subst (λ (k : ℕ). (j < at) ⊎ (at + k ≤ j)) (sym (length-take-le i b (omega arith))) h)
 
--- ---- a turn of each loop: the byte that it stores is the block's
-
--- a copy out of l into a whole slice
-pub copied-out-more : (l : List ℕ) (at : ℕ) {b₀ b : List ℕ} {i : ℕ} → i < length b₀ → Filled b₀ 0 (block_at l at (length b₀)) (length b₀) b i
-    → Filled b₀ 0 (block_at l at (length b₀)) (length b₀) (set b i (get_or l (at + i) 0)) (i + 1)
-copied-out-more l at {b₀} {b} {i} lt f = filled-more₀ f lt (sym (get_or-block_at l at (length b₀) i lt))
+-- ---- a turn whose byte is the block's
 
 -- an xor out of l into a whole slice
 pub xored-out-more : (l : List ℕ) (at : ℕ) {b₀ b : List ℕ} {i : ℕ} → i < length b₀ → Filled b₀ 0 (xor_b b₀ (block_at l at (length b₀))) (length b₀) b i
@@ -75,14 +70,14 @@ run-kept {l₀} {b} {k} {l} {i} f n =
     let m : length (take i b) ≡ i = length-take-le i b (omega arith) in
     ap (λ (r : List ℕ). block_at r i n) f.is ∙ block_at-other l₀ 0 (take i b) i n (inl (omega arith))
 
-pub run_more : {l₀ b : List ℕ} {k : ℕ} {l l' : List ℕ} {i : ℕ} → Filled l₀ 0 b k l i → (n : ℕ) → i + n ≤ k → l' ≡ store l i (block_at b i n) → Filled l₀ 0 b k l' (i + n)
-run_more {l₀} {b} {k} {l} {l'} {i} f n h e =
+pub run_more : {l₀ b : List ℕ} {k : ℕ} {l l' : List ℕ} {i : ℕ} → Filled l₀ 0 b k l i → (n j : ℕ) → j ≡ i + n → j ≤ k → l' ≡ store l i (block_at b i n) → Filled l₀ 0 b k l' j
+run_more {l₀} {b} {k} {l} {l'} {i} f n j q h e =
     let m : 0 + length (take i b) ≡ i = rw (zero-add (length (take i b))) (length-take-le i b (omega arith)) in
     record {
       is =
-          e ∙ ap₂ (λ (r : List ℕ) (j : ℕ). store r j (block_at b i n)) f.is (sym m)
+          e ∙ ap₂ (λ (r : List ℕ) (x : ℕ). store r x (block_at b i n)) f.is (sym m)
           ∙ sym (store-append l₀ 0 (take i b) (block_at b i n))
-          ∙ ap (store l₀ 0) (sym (take-add i n b));
+          ∙ ap (store l₀ 0) (sym (take-add i n b) ∙ ap (λ (x : ℕ). take x b) (sym q));
       size = ap length e ∙ length-store l i (block_at b i n) ∙ f.size;
       long = f.long;
       within = h;

@@ -1,39 +1,13 @@
--- Xor on numbers and, byte by byte, on blocks: associative, commutative, its length and its bytes; the xor of a list of blocks. Assumes nothing.
-use Prim.Native.Nat.{ℕ, zero, suc, ◌+◌, ◌*◌, ◌/◌, ◌%◌, ◌≤◌, ◌<◌}
+-- Xor of blocks, byte by byte: associative, commutative, its length and its bytes; the xor of a list of blocks. Assumes nothing.
+use Prim.Native.Nat.{ℕ, zero, suc, ◌≤◌}
 use mathlib.Core.Path.{◌≡◌, refl, sym, ap, ap₂, ◌∙◌}
 use mathlib.Core.List.{List, [], ◌∷◌, ◌++◌}
-use native.Mathlib.Nat.{mod-lt, zero-lt-suc}
 use native.Mathlib.Omega.{arith}
-use lib.Arith.{bin_ind}
-use lib.Bits.{bit_xor, differ, xor_step, xor_shr, xor_mod, xor_comm, xor_self, xor_zero_l, xor_zero_r}
+use lib.Bits.{bit_xor, xor_comm, xor_self, xor_zero_l, xor_zero_r}
 use lib.ListN.{length, get_or, take, drop}
+pub use Rattle.std.specs.Int.Bits.{xor_assoc}
 use Rattle.blocks.specs.Block.{block_at, zeros}
 use Rattle.blocks.specs.Xor.{xor_b, xor_all, without}
-
-digit_assoc : (x y z : ℕ) → x < 2 → y < 2 → z < 2 → differ (bit_xor x y) z ≡ differ x (bit_xor y z)
-digit_assoc zero zero z hx hy hz = refl
-digit_assoc zero (suc zero) zero hx hy hz = refl
-digit_assoc zero (suc zero) (suc zero) hx hy hz = refl
-digit_assoc zero (suc zero) (suc (suc z)) hx hy hz = absurd (omega arith)
-digit_assoc zero (suc (suc y)) z hx hy hz = absurd (omega arith)
-digit_assoc (suc zero) zero z hx hy hz = refl
-digit_assoc (suc zero) (suc zero) zero hx hy hz = refl
-digit_assoc (suc zero) (suc zero) (suc zero) hx hy hz = refl
-digit_assoc (suc zero) (suc zero) (suc (suc z)) hx hy hz = absurd (omega arith)
-digit_assoc (suc zero) (suc (suc y)) z hx hy hz = absurd (omega arith)
-digit_assoc (suc (suc x)) y z hx hy hz = absurd (omega arith)
-
-two_pos : zero < 2
-two_pos = zero-lt-suc 1
-
-pub xor_assoc : (a b c : ℕ) → bit_xor (bit_xor a b) c ≡ bit_xor a (bit_xor b c)
-xor_assoc =
-    bin_ind (λ (n : ℕ). (b c : ℕ) → bit_xor (bit_xor n b) c ≡ bit_xor n (bit_xor b c)) (λ b c. refl)
-    (λ n ih b c. xor_step (bit_xor n b) c
-    ∙ ap₂ (λ (q r : ℕ). bit_xor q (c / 2) * 2 + differ r (c % 2)) (xor_shr n b 1) (xor_mod n b 1)
-    ∙ ap₂ (λ (q r : ℕ). q * 2 + r) (ih (b / 2) (c / 2)) (digit_assoc (n % 2) (b % 2) (c % 2) (mod-lt n two_pos) (mod-lt b two_pos) (mod-lt c two_pos))
-    ∙ ap₂ (λ (q r : ℕ). bit_xor (n / 2) q * 2 + differ (n % 2) r) (sym (xor_shr b c 1)) (sym (xor_mod b c 1))
-    ∙ sym (xor_step n (bit_xor b c)))
 
 -- ---- two blocks
 

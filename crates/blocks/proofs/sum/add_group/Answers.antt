@@ -29,32 +29,32 @@ pieces x images l b at e =
 
 -- what a part asks, and what it gives
 module _ (x : Group) (images l : List ℕ) (r : GroupBegun x images l) {b : List ℕ} {at : ℕ} (f : Done x images l b at) (n : ℕ) (h : at + n ≤ length l) where
-  asked : n ≤ 64 → (n ≤ 64) × PartBegun x images b at n
-  asked k = (k, rw f.size (r.0, h, begun_kept x r.1 f n))
+  asked : n ≤ 64 → (n ≤ 64) × (64 ≤ 128) × PartBegun x images b at n
+  asked k = (k, omega arith, rw f.size (r.0, h, begun_kept x r.1 f n))
 
   given : {b' : List ℕ} → b' ≡ part_added x images b at n → Done x images l b' (at + n)
-  given e = run_more f n h (e ∙ ap (λ (m : ℕ). copied_to b at (sum x images m x.last) at n) f.size)
+  given e = run_more f n (at + n) refl h (e ∙ ap (λ (m : ℕ). copied_to b at (sum x images m x.last) at n) f.size)
 
-pub add_less-requires : goal.add_less-requires
-add_less-requires c =
+pub add_part-requires : goal.add_part-requires
+add_part-requires c =
     let a = c.args in
     asked _ _ _ c.requires (pieces a.x a.images.now a.block.now _ _ c.add_pieces-at.ensures) 64 (omega arith) (omega arith)
 
-pub add_less-requires-then-len-at-ge-HALF : goal.add_less-requires-then-len-at-ge-HALF
-add_less-requires-then-len-at-ge-HALF c =
+pub add_part-requires-then-len-at-ge-HALF : goal.add_part-requires-then-len-at-ge-HALF
+add_part-requires-then-len-at-ge-HALF c =
     let a = c.args in
     let f = pieces a.x a.images.now a.block.now _ _ c.add_pieces-at.ensures in
-    asked _ _ _ c.requires (given _ _ _ c.requires f 64 (omega arith) c.add_less.ensures) _ (omega arith) (omega arith)
+    asked _ _ _ c.requires (given _ _ _ c.requires f 64 (omega arith) c.add_part.ensures) _ (omega arith) (omega arith)
 
 pub returns-then-len-at-ge-HALF : goal.returns-then-len-at-ge-HALF
 returns-then-len-at-ge-HALF c =
     let a = c.args in
     let f = pieces a.x a.images.now a.block.now _ _ c.add_pieces-at.ensures in
-    let half = given _ _ _ c.requires f 64 (omega arith) c.add_less.ensures in
-    filled-all₀ (given _ _ _ c.requires half (length a.block.now - (c.add_pieces-at.result + 64)) (omega arith) c.add_less-then-len-at-ge-HALF.ensures) (omega arith) refl
+    let half = given _ _ _ c.requires f 64 (omega arith) c.add_part.ensures in
+    filled-all₀ (given _ _ _ c.requires half (length a.block.now - (c.add_pieces-at.result + 64)) (omega arith) c.add_part-then-len-at-ge-HALF.ensures) (omega arith) refl
 
-pub add_less-requires-2 : goal.add_less-requires-2
-add_less-requires-2 c =
+pub add_part-requires-2 : goal.add_part-requires-2
+add_part-requires-2 c =
     let a = c.args in
     asked _ _ _ c.requires (pieces a.x a.images.now a.block.now _ _ c.add_pieces-at.ensures) _ (omega arith) (omega arith)
 
@@ -62,4 +62,4 @@ pub returns : goal.returns
 returns c =
     let a = c.args in
     let f = pieces a.x a.images.now a.block.now _ _ c.add_pieces-at.ensures in
-    filled-all₀ (given _ _ _ c.requires f (length a.block.now - c.add_pieces-at.result) (omega arith) c.add_less-2.ensures) (omega arith) refl
+    filled-all₀ (given _ _ _ c.requires f (length a.block.now - c.add_pieces-at.result) (omega arith) c.add_part-2.ensures) (omega arith) refl

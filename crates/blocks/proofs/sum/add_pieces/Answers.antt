@@ -1,6 +1,6 @@
 -- `add_pieces` meets its contract. The loop has taken on the bytes before `at`. Assumes nothing.
 use Prim.Native.Nat.{ℕ}
-use mathlib.Core.Path.{◌≡◌, ap, ◌∙◌}
+use mathlib.Core.Path.{◌≡◌, refl, ap, ◌∙◌}
 use native.Mathlib.Omega.{arith}
 use lib.ListN.{length}
 use Rattle.blocks.specs.Block.{copied_to}
@@ -14,14 +14,14 @@ loop-at-init c =
     let a = c.args in
     filled_none (length-others (length a.block.now) a.x.stripes a.images.now a.x.stripe a.x.last a.x.out)
 
-pub add_piece-requires : goal.add_piece-requires
-add_piece-requires c =
+pub add_part-requires : goal.add_part-requires
+add_part-requires c =
     let l = c.loop-at in
     let size : length l.block ≡ length c.args.block.now = l.invariant.size in
-    rw size (c.requires.0, omega arith, begun_kept c.args.x c.requires.1 l.invariant 128)
+    (omega arith, omega arith, rw size (c.requires.0, omega arith, begun_kept c.args.x c.requires.1 l.invariant 128))
 
 pub loop-at-preserved : goal.loop-at-preserved
 loop-at-preserved c =
     let a = c.args in
     let l = c.loop-at in
-    run_more l.invariant 128 (omega arith) (c.add_piece.ensures ∙ ap (λ (n : ℕ). copied_to l.block l.at (sum_to n a.images.now a.x a.x.last) l.at 128) l.invariant.size)
+    run_more l.invariant 128 _ refl (omega arith) (c.add_part.ensures ∙ ap (λ (n : ℕ). copied_to l.block l.at (sum_to n a.images.now a.x a.x.last) l.at 128) l.invariant.size)

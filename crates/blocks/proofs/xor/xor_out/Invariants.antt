@@ -1,5 +1,4 @@
--- `xor_out` meets its contract. The loop writes the whole of `block`. Assumes nothing.
-use Prim.Native.Nat.{◌-◌}
+-- `xor_out` meets its contract. The loop has xored the first i bytes. Assumes nothing.
 use lib.ListN.{length}
 use Rattle.blocks.specs.Block.{block_at}
 use Rattle.blocks.specs.Xor.{xor_b}
@@ -8,6 +7,3 @@ use Rattle.blocks.proofs.xor.xor_out.Given as goal
 
 abbrev pub invariant-loop-i : goal.invariant-loop-i
 invariant-loop-i l = Filled l.initial.block 0 (xor_b l.initial.block (block_at l.images l.at (length l.initial.block))) (length l.initial.block) l.block l.i
-
-abbrev pub decreases-loop-i : goal.decreases-loop-i
-decreases-loop-i l = length l.initial.block - l.i

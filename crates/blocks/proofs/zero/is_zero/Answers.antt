@@ -1,10 +1,15 @@
--- `is_zero` meets its contract. The loop has ored the first i bytes. Assumes nothing.
+-- `is_zero` meets its contract. The loop has ored the first bytes. Assumes nothing.
+use Prim.Native.Nat.{◌+◌, ◌-◌}
+use mathlib.Core.Path.{ap, ◌∙◌}
 use native.Mathlib.Omega.{arith}
-use Rattle.blocks.proofs.Laws.Zero.{or-more}
+use lib.Bits.{bit_or}
+use lib.Seq.{take_all}
+use Rattle.std.specs.List.{fold}
+use Rattle.blocks.proofs.Laws.Zero.{ored-zeros}
 use Rattle.blocks.proofs.zero.is_zero.Goals as goal
 
-pub loop-i-preserved : goal.loop-i-preserved
-loop-i-preserved c =
+pub returns : goal.returns
+returns c =
     let a = c.args in
-    let l = c.loop-i in
-    (omega arith, or-more a.source.now a.at l.i l.any (omega arith) l.invariant.1)
+    let l = c.loop-b in
+    record { zero = ored-zeros a.source.now a.at a.len (a.at + a.len - a.at) l.any c.requires (omega arith) (l.invariant ∙ ap (fold bit_or 0) (take_all l.b-index _ c.loop-b-test.false)) }

@@ -1,12 +1,9 @@
--- `is_zero` meets its contract. The loop has ored the first i bytes. Assumes nothing.
-use Prim.Native.Nat.{◌-◌, ◌≤◌}
+-- `is_zero` meets its contract. The loop has ored the first bytes. Assumes nothing.
 use mathlib.Core.Path.{◌≡◌}
-use lib.Dec.{eqb}
-use Rattle.blocks.specs.Block.{block_at, is_zeros}
+use lib.Bits.{bit_or}
+use lib.ListN.{take}
+use Rattle.std.specs.List.{fold}
 use Rattle.blocks.proofs.zero.is_zero.Given as goal
 
-abbrev pub invariant-loop-i : goal.invariant-loop-i
-invariant-loop-i l = (l.i ≤ l.len) × (eqb l.any 0 ≡ is_zeros l.i (block_at l.source l.at l.i))
-
-abbrev pub decreases-loop-i : goal.decreases-loop-i
-decreases-loop-i l = l.len - l.i
+abbrev pub invariant-loop-b : goal.invariant-loop-b
+invariant-loop-b l = l.any ≡ fold bit_or 0 (take l.b-index l.b-items)

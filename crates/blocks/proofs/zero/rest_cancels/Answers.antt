@@ -1,5 +1,5 @@
 -- `rest_cancels` meets its contract: in one part or, if it is as long as half a piece, in two. Assumes nothing.
-use Prim.Native.Nat.{ℕ, ◌+◌, ◌-◌}
+use Prim.Native.Nat.{ℕ, ◌-◌}
 use mathlib.Core.Path.{◌≡◌, sym, ◌∙◌}
 use mathlib.Core.List.{List}
 use native.Mathlib.Omega.{arith}
@@ -17,15 +17,16 @@ sum c = sum_to (length c.args.block.now) c.args.images.now c.args.x c.args.x.las
 long : (c : Start) → length (sum c) ≡ length c.args.block.now
 long c = length-others (length c.args.block.now) c.args.x.stripes c.args.images.now c.args.x.stripe c.args.x.last c.args.x.out
 
-pub returns-then-not-less_cancels : goal.returns-then-not-less_cancels
-returns-then-not-less_cancels c =
-    let n = length c.args.block.now - c.args.at in
-    let half = c.less_cancels-2 in
-    sym (zeros-not (sum (goal.at.returns-then-not-less_cancels c).Start) c.args.at 64 (n - 64) n (omega arith) (omega (arith, long (goal.at.returns-then-not-less_cancels c).Start)) (sym half.ensures ∙ c.if-not-less_cancels.true))
-
-pub returns : goal.returns
-returns c =
+pub returns-then-part_cancels : goal.returns-then-part_cancels
+returns-then-part_cancels c =
     let n = length c.args.block.now in
-    let half = c.less_cancels-2 in
-    c.less_cancels-3.ensures
-    ∙ sym (zeros-then (sum (goal.at.returns c).Start) c.args.at 64 (n - (c.args.at + 64)) (n - c.args.at) (omega arith) (omega (arith, long (goal.at.returns c).Start)) (sym half.ensures ∙ c.if-not-less_cancels.false))
+    let half = c.part_cancels-2 in
+    c.part_cancels-then-part_cancels.ensures
+    ∙ sym (zeros-then (sum (goal.at.returns-then-part_cancels c).Start) c.args.at 64 (n - c.args.at - 64) (n - c.args.at) (omega arith) (omega (arith, long (goal.at.returns-then-part_cancels c).Start)) (sym half.ensures ∙ c.if-part_cancels.true))
+
+pub returns-else-part_cancels : goal.returns-else-part_cancels
+returns-else-part_cancels c =
+    let n = length c.args.block.now in
+    let half = c.part_cancels-2 in
+    c.if-part_cancels.false
+    ∙ sym (zeros-not (sum (goal.at.returns-else-part_cancels c).Start) c.args.at 64 (n - c.args.at - 64) (n - c.args.at) (omega arith) (omega (arith, long (goal.at.returns-else-part_cancels c).Start)) (sym half.ensures ∙ c.if-part_cancels.false))
