@@ -1,4 +1,4 @@
-// Bytes as a number, least byte first.
+// Bytes as a number, least byte first. (Not by `from_le_bytes`, which takes an array: a write, which reads a record's numbers, has none.)
 ghost use Rattle.std.specs.Prelude.{◌≡◌};
 ghost use Rattle.blocks.specs.Number.{two, four};
 

@@ -98,14 +98,18 @@ pub fn xor_others(
     requires { (1 ≤ length block.old) × (1 ≤ disks) × (s < stripes) × (disks * (stripes * length block.old) ≤ length images.now) }
     ensures block { block.new ≡ others (length block.old) stripes images.now s disks out }
 {
-    for first in (0..disks).step_by(GROUP) {
+    let mut first = 0;
+    // (Stays a while: with `step_by` a rebuild of blocks of 64 bytes took 4 % more instructions.)
+    while first < disks {
+        let last = first + GROUP.min(disks - first);
         let x = Group {
             stripes,
             stripe: s,
             out,
             first,
-            last: first + GROUP.min(disks - first),
+            last,
         };
         add_group(images, x, block);
+        first = last;
     }
 }

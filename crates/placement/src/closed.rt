@@ -37,9 +37,9 @@ impl Row {
         }
     }
 
-    // The only disk whose content can have come to stand on disk e.
+    // The only disk, an old one, whose content can have come to stand on disk e.
     pub(crate) fn source_of(self, e: u32) -> u32
-        ensures { result ≡ source self.array.old self.array.new self.stripe.number e }
+        ensures { (result ≡ source self.array.old self.array.new self.stripe.number e) × (result < self.array.old) }
     {
         let n = self.array.old;
         let i = e.saturating_sub(self.stripe.within);

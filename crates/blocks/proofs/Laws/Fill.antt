@@ -70,14 +70,14 @@ run-kept {l₀} {b} {k} {l} {i} f n =
     let m : length (take i b) ≡ i = length-take-le i b (omega arith) in
     ap (λ (r : List ℕ). block_at r i n) f.is ∙ block_at-other l₀ 0 (take i b) i n (inl (omega arith))
 
-pub run_more : {l₀ b : List ℕ} {k : ℕ} {l l' : List ℕ} {i : ℕ} → Filled l₀ 0 b k l i → (n j : ℕ) → j ≡ i + n → j ≤ k → l' ≡ store l i (block_at b i n) → Filled l₀ 0 b k l' j
-run_more {l₀} {b} {k} {l} {l'} {i} f n j q h e =
+pub run_more : {l₀ b : List ℕ} {k : ℕ} {l l' : List ℕ} {i : ℕ} → Filled l₀ 0 b k l i → (n : ℕ) → i + n ≤ k → l' ≡ store l i (block_at b i n) → Filled l₀ 0 b k l' (i + n)
+run_more {l₀} {b} {k} {l} {l'} {i} f n h e =
     let m : 0 + length (take i b) ≡ i = rw (zero-add (length (take i b))) (length-take-le i b (omega arith)) in
     record {
       is =
-          e ∙ ap₂ (λ (r : List ℕ) (x : ℕ). store r x (block_at b i n)) f.is (sym m)
+          e ∙ ap₂ (λ (r : List ℕ) (j : ℕ). store r j (block_at b i n)) f.is (sym m)
           ∙ sym (store-append l₀ 0 (take i b) (block_at b i n))
-          ∙ ap (store l₀ 0) (sym (take-add i n b) ∙ ap (λ (x : ℕ). take x b) (sym q));
+          ∙ ap (store l₀ 0) (sym (take-add i n b));
       size = ap length e ∙ length-store l i (block_at b i n) ∙ f.size;
       long = f.long;
       within = h;

@@ -13,7 +13,11 @@ use Rattle.blocks.specs.declared.types.Group.{Group}
 use Rattle.blocks.specs.Sum.{sum_to, PartBegun}
 use Rattle.blocks.proofs.Laws.Block.{length-block_at, block_at-within, block_at-zeros}
 use Rattle.blocks.proofs.Laws.Xor.{xor_b-comm, xor_b-zeros, block_at-xor_b}
-use Rattle.blocks.proofs.Laws.Stripe.{others-in, others-out}
+use Rattle.blocks.proofs.Laws.Stripe.{others-in, others-out, length-others}
+
+-- the sum is as long as a block
+pub length-sum : (B : ℕ) (l : List ℕ) (x : Group) (k : ℕ) → length (sum_to B l x k) ≡ B
+length-sum B l x k = length-others B x.stripes l x.stripe k x.out
 
 -- a part of a block begins with zeroes, into which what is left of the groups before, if there are any, is xored
 module _ (x : Group) (l b : List ℕ) (at n : ℕ) (h : PartBegun x l b at n) where

@@ -8,7 +8,7 @@ use Rattle.blocks.specs.Block.{copied_to}
 use Rattle.blocks.specs.declared.types.Group.{Group}
 use Rattle.blocks.specs.Sum.{sum_to, GroupBegun, PartBegun, part_added}
 use Rattle.blocks.proofs.Laws.Block.{length-store}
-use Rattle.blocks.proofs.Laws.Stripe.{length-others}
+use Rattle.blocks.proofs.Laws.Summed.{length-sum}
 use Rattle.blocks.proofs.Laws.Fill.{Filled, filled-all₀, run_more, begun_kept}
 use Rattle.blocks.proofs.sum.add_group.Goals as goal
 
@@ -25,7 +25,7 @@ pieces : (x : Group) (images l b : List ℕ) (at : ℕ)
     → (at ≤ length l) × (length l < at + 128) × (b ≡ part_added x images l 0 at) → Done x images l b at
 pieces x images l b at e =
     let o = sum x images (length l) x.last in
-    record { is = e.2; size = ap length e.2 ∙ length-store l 0 (take at o); long = length-others (length l) x.stripes images x.stripe x.last x.out; within = e.0 }
+    record { is = e.2; size = ap length e.2 ∙ length-store l 0 (take at o); long = length-sum (length l) images x x.last; within = e.0 }
 
 -- what a part asks, and what it gives
 module _ (x : Group) (images l : List ℕ) (r : GroupBegun x images l) {b : List ℕ} {at : ℕ} (f : Done x images l b at) (n : ℕ) (h : at + n ≤ length l) where
@@ -33,7 +33,7 @@ module _ (x : Group) (images l : List ℕ) (r : GroupBegun x images l) {b : List
   asked k = (k, omega arith, rw f.size (r.0, h, begun_kept x r.1 f n))
 
   given : {b' : List ℕ} → b' ≡ part_added x images b at n → Done x images l b' (at + n)
-  given e = run_more f n (at + n) refl h (e ∙ ap (λ (m : ℕ). copied_to b at (sum x images m x.last) at n) f.size)
+  given e = run_more f n h (e ∙ ap (λ (m : ℕ). copied_to b at (sum x images m x.last) at n) f.size)
 
 pub add_part-requires : goal.add_part-requires
 add_part-requires c =

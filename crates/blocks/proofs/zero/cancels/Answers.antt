@@ -2,14 +2,14 @@
 use mathlib.Core.Path.{sym, ◌∙◌}
 use native.Mathlib.Omega.{arith}
 use lib.ListN.{length}
-use Rattle.blocks.proofs.Laws.Stripe.{length-others}
+use Rattle.blocks.proofs.Laws.Summed.{length-sum}
 use Rattle.blocks.proofs.Laws.Zero.{zeros-none, zeros-more, zeros-rest, zeros-stop}
 use Rattle.blocks.proofs.zero.cancels.Goals as goal
 
 pub loop-i-init : goal.loop-i-init
 loop-i-init c =
     let a = c.args in
-    zeros-none (length-others (length a.block.now) a.x.stripes a.images.now a.x.stripe a.x.last a.x.out)
+    zeros-none (length-sum (length a.block.now) a.images.now a.x a.x.last)
 
 pub returns-then-not-part_cancels : goal.returns-then-not-part_cancels
 returns-then-not-part_cancels c =

@@ -1,32 +1,27 @@
 -- `rest_cancels` meets its contract: in one part or, if it is as long as half a piece, in two. Assumes nothing.
 use Prim.Native.Nat.{ℕ, ◌-◌}
-use mathlib.Core.Path.{◌≡◌, sym, ◌∙◌}
-use mathlib.Core.List.{List}
+use mathlib.Core.Path.{sym, ◌∙◌}
 use native.Mathlib.Omega.{arith}
 use lib.ListN.{length}
 use Rattle.blocks.specs.Sum.{sum_to}
-use Rattle.blocks.proofs.Laws.Stripe.{length-others}
+use Rattle.blocks.proofs.Laws.Summed.{length-sum}
 use Rattle.blocks.proofs.Laws.Zero.{zeros-then, zeros-not}
 use Rattle.blocks.proofs.zero.rest_cancels.Goals as goal
-use Rattle.blocks.proofs.zero.rest_cancels.Goals.{Start}
-
--- the sum after the group, which is as long as the block
-abbrev sum : Start → List ℕ
-sum c = sum_to (length c.args.block.now) c.args.images.now c.args.x c.args.x.last
-
-long : (c : Start) → length (sum c) ≡ length c.args.block.now
-long c = length-others (length c.args.block.now) c.args.x.stripes c.args.images.now c.args.x.stripe c.args.x.last c.args.x.out
 
 pub returns-then-part_cancels : goal.returns-then-part_cancels
 returns-then-part_cancels c =
-    let n = length c.args.block.now in
-    let half = c.part_cancels-2 in
+    let a = c.args in
+    let n : ℕ = length a.block.now in
+    let left : ℕ = n - a.at in
+    let long = length-sum n a.images.now a.x a.x.last in
     c.part_cancels-then-part_cancels.ensures
-    ∙ sym (zeros-then (sum (goal.at.returns-then-part_cancels c).Start) c.args.at 64 (n - c.args.at - 64) (n - c.args.at) (omega arith) (omega (arith, long (goal.at.returns-then-part_cancels c).Start)) (sym half.ensures ∙ c.if-part_cancels.true))
+    ∙ sym (zeros-then (sum_to n a.images.now a.x a.x.last) a.at 64 (left - 64) left (omega arith) (omega arith) (sym c.part_cancels-2.ensures ∙ c.if-part_cancels.true))
 
 pub returns-else-part_cancels : goal.returns-else-part_cancels
 returns-else-part_cancels c =
-    let n = length c.args.block.now in
-    let half = c.part_cancels-2 in
+    let a = c.args in
+    let n : ℕ = length a.block.now in
+    let left : ℕ = n - a.at in
+    let long = length-sum n a.images.now a.x a.x.last in
     c.if-part_cancels.false
-    ∙ sym (zeros-not (sum (goal.at.returns-else-part_cancels c).Start) c.args.at 64 (n - c.args.at - 64) (n - c.args.at) (omega arith) (omega (arith, long (goal.at.returns-else-part_cancels c).Start)) (sym half.ensures ∙ c.if-part_cancels.false))
+    ∙ sym (zeros-not (sum_to n a.images.now a.x a.x.last) a.at 64 (left - 64) left (omega arith) (omega arith) (sym c.part_cancels-2.ensures ∙ c.if-part_cancels.false))

@@ -10,6 +10,6 @@ returns-then-b-old c =
 pub overflow_mul-result : goal.overflow_mul-result
 overflow_mul-result c = rw c.open_stripes.ensures (omega (arith, open-room _ c.requires))
 
-pub returns : goal.returns
-returns c =
+pub returns-else-b-old : goal.returns-else-b-old
+returns-else-b-old c =
     has_new _ c.requires _ _ c.old_blocks-old.ensures _ c.open_stripes.ensures c.if-b-old.false
