@@ -3,6 +3,7 @@
 -- is `plain` of Bytes. Document 02, (a): "The divisor condition leaves .. the good record", so T is any number in its limits. Document 02,
 -- (d): of a rebuild the disk is "below N", and the count of stripes "below T".)
 use Rattle.std.specs.Prelude.{ℕ, ◌+◌, ◌≤◌, ◌<◌, Bool, true, ◌&&◌, ◌||◌, leb, ltb, eqb}
+use Rattle.std.specs.Coded.{×_prop, Unit-prop, le_prop}
 use Rattle.layout.specs.declared.Geometry.{Geometry}
 use Rattle.layout.specs.Layout.{total_of}
 use Rattle.layout.specs.Limits.{GoodArray}
@@ -62,6 +63,13 @@ HealthWithin N T Whole = Unit
 HealthWithin N T (Out d) = d < N
 HealthWithin N T Lost = Unit
 HealthWithin N T (Rebuilding d c) = (d < N) × (c < T)
+
+-- there is one proof of it at most, so that `Array` may keep one
+pub HealthWithin-prop : (N T : ℕ) (h : Health) → IsProp (HealthWithin N T h)
+HealthWithin-prop N T Whole = Unit-prop
+HealthWithin-prop N T (Out d) = le_prop
+HealthWithin-prop N T Lost = Unit-prop
+HealthWithin-prop N T (Rebuilding d c) = ×_prop le_prop le_prop
 
 pub record GoodRecord (r : Record) : Type 0 where
   pub array : GoodArray (geometry r)
