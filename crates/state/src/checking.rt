@@ -8,17 +8,17 @@ use crate::types::Record;
 
 #[derive(Clone, Copy, PartialEq, Eq, Debug)]
 pub struct Array {
-    pub record: Record,
-    pub ghost good: { GoodRecord «record» } by { Prim.hlevel (HealthWithin-prop, le_prop) },
+    pub rec: Record,
+    pub ghost good: { GoodRecord rec } by { Prim.hlevel (HealthWithin-prop, le_prop) },
 }
 
 // The array, if the record is good.
 pub fn checked(r: Record) -> Option<Array>
     ensures answer { is_some result ≡ good r }
-    ensures same { IfSome result (λ a. a.record ≡ r) }
+    ensures same { IfSome result (λ a. a.rec ≡ r) }
 {
     if is_good(r) {
-        Some(Array { record: r })
+        Some(Array { rec: r })
     } else {
         None
     }
