@@ -10,21 +10,21 @@ ghost use Rattle.refusals.specs.Answers.{number_of};
 use crate::types::{Choice, Viewed};
 use placement::{place_of, slot_of};
 use refusals::{Refusal, is_absent, of_lent, of_reach, place_at, sum_others};
-use state::{Record, geometry_of};
+use state::{Array, Record, geometry_of};
 
 // Which it is, with the scratch filled if it is that one, on a call that the table lets through.
-fn choose(r: Record, images: &[u8], b: u64, scratch: &mut [u8]) -> Choice
-    requires { refusal_of r (feed (view b) (length images.now) (length scratch.old)) ≡ 0 }
-    ensures choice { result ≡ choice_of (view_of r b) }
-    ensures scratch { scratch.new ≡ scratch_left r images.now b scratch.old }
+fn choose(a: Array, images: &[u8], b: u64, scratch: &mut [u8]) -> Choice
+    requires { refusal_of a.rec (feed (view b) (length images.now) (length scratch.old)) ≡ 0 }
+    ensures choice { result ≡ choice_of (view_of a.rec b) }
+    ensures scratch { scratch.new ≡ scratch_left a.rec images.now b scratch.old }
 {
-    let g = geometry_of(r);
+    let g = geometry_of(a.rec);
     let q = place_of(g, b, slot_of(g, b)).block;
-    if is_absent(r.health, q.stripe, q.disk) {
-        sum_others(r, images, q.stripe, q.disk, scratch);
+    if is_absent(a.rec.health, q.stripe, q.disk) {
+        sum_others(a, images, q.stripe, q.disk, scratch);
         return Choice::Scratch;
     }
-    Choice::Part(place_at(r, q.stripe, q.disk))
+    Choice::Part(place_at(a, q.stripe, q.disk))
 }
 
 // The view before its part is taken.
@@ -34,8 +34,8 @@ fn view_choice(r: Record, images: &[u8], b: u64, scratch: &mut [u8]) -> Result<C
     ensures scratch { scratch.new ≡ (called (on (view b) images.now scratch.old) r).room }
 {
     let begun = of_lent(r, images.len());
-    of_reach(begun, r, images.len(), b, scratch.len())?;
-    Ok(choose(r, images, b, scratch))
+    let a = of_reach(begun, r, images.len(), b, scratch.len())?;
+    Ok(choose(a, images, b, scratch))
 }
 
 // What a choice names: a part of the images, or the scratch, which is lent here only to be read.

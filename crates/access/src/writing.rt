@@ -11,14 +11,15 @@ use blocks::store_bytes;
 use parity::{fold_others, fold_parity};
 use placement::{place_of, slot_of};
 use refusals::{Refusal, disks_of, is_absent, of_lent, of_reach, place_at};
-use state::{Record, geometry_of};
+use state::{Array, Record, geometry_of};
 
 // The parity, then the data, on a call that the table lets through.
-fn put(r: Record, images: &mut [u8], b: u64, bytes: &[u8])
-    requires { refusal_of r (feed (write b bytes.now) (length images.old) 0) ≡ 0 }
+fn put(a: Array, images: &mut [u8], b: u64, bytes: &[u8])
+    requires { refusal_of a.rec (feed (write b bytes.now) (length images.old) 0) ≡ 0 }
     ensures images { images.new ≡
-        stored_in r (write_stores r images.old b bytes.now) images.old }
+        stored_in a.rec (write_stores a.rec images.old b bytes.now) images.old }
 {
+    let r = a.rec;
     let g = geometry_of(r);
     let x = place_of(g, b, slot_of(g, b));
     let q = x.block;
@@ -35,9 +36,9 @@ fn put(r: Record, images: &mut [u8], b: u64, bytes: &[u8])
         );
         return;
     }
-    let at = place_at(r, q.stripe, q.disk);
+    let at = place_at(a, q.stripe, q.disk);
     if !is_absent(r.health, q.stripe, p) {
-        fold_parity(images, place_at(r, q.stripe, p), at, bytes);
+        fold_parity(images, place_at(a, q.stripe, p), at, bytes);
     }
     store_bytes(images, at, bytes);
 }
@@ -47,7 +48,7 @@ pub fn write(r: Record, images: &mut [u8], b: u64, bytes: &[u8]) -> Result<(), R
     ensures images { images.new ≡ (called (on (write b bytes.now) images.old []) r).images }
 {
     let begun = of_lent(r, images.len());
-    of_reach(begun, r, images.len(), b, bytes.len())?;
-    put(r, images, b, bytes);
+    let a = of_reach(begun, r, images.len(), b, bytes.len())?;
+    put(a, images, b, bytes);
     Ok(())
 }

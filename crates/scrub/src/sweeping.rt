@@ -17,7 +17,7 @@ ghost use Rattle.calls.specs.Effect.{swept_to, act, called};
 use blocks::{GROUP, Group, cancels, is_zero, xor_others};
 use placement::{Row, open_stripes};
 use refusals::{Refusal, Swept, disks_of, of_sweep, place_at};
-use state::{Record, geometry_of};
+use state::{Array, Record, geometry_of};
 
 // Do the places of stripe s on the first k disks xor to zero? If they are many, the first are summed in block ahead of the others: side by
 // side, so many would be read more slowly.
@@ -51,7 +51,7 @@ fn blanks_are_zero(r: Record, images: &[u8], s: u32) -> bool
     let x = Row::of(g, s);
     for d in 0..g.old + g.new {
         if !x.is_taken(d) {
-            if !is_zero(images, place_at(r, s, d), r.block as usize) {
+            if !is_zero(images, place_at(Array { rec: r }, s, d), r.block as usize) {
                 return false;
             }
         }
@@ -67,7 +67,7 @@ fn new_are_zero(r: Record, images: &[u8], s: u32) -> bool
 {
     let old = r.old as u32;
     for d in old..old + r.new as u32 {
-        if !is_zero(images, place_at(r, s, d), r.block as usize) {
+        if !is_zero(images, place_at(Array { rec: r }, s, d), r.block as usize) {
             return false;
         }
     }

@@ -24,7 +24,7 @@ use Rattle.calls.specs.Health.{is_lost, absent}
 use Rattle.calls.specs.Images.{disks_of, size, others_in, seen}
 use Rattle.calls.specs.Table.{refusal_of}
 use Rattle.calls.specs.Effect.{standing, block_of, view_of, scratch_left}
-use Rattle.calls.proofs.Laws.Passed.{passed, in-limits, Reaches, reads}
+use Rattle.calls.proofs.Laws.Passed.{passed, Reaches, reads}
 use Rattle.calls.proofs.Laws.Write.{lS, ld, lp, parity-apart}
 
 -- block b stands as y says, inside the images, and its parity on another disk
@@ -39,15 +39,12 @@ pub record Reached (r : Record) (len b room : ℕ) (y : Standing) : Type 0 where
   pub parity_lt : y.parity.disk < disks_of r
   pub apart : y.parity.disk ≢ y.block.disk
 
-module _ (r : Record) (len b room : ℕ) (z : refusal_of r (feed (read b) len room) ≡ 0) (g : Geometry) (e : g ≡ geometry r) where
+module _ (r : Record) (good : GoodRecord r) (len b room : ℕ) (z : refusal_of r (feed (read b) len room) ≡ 0) (g : Geometry) (e : g ≡ geometry r) where
   lets : Reaches r (capacity (geometry r)) len b room
   lets = reads r (capacity (geometry r)) len room b (passed r (capacity (geometry r)) (feed (read b) len room) z)
 
-  bounds : GoodRecord r
-  bounds = in-limits r (capacity (geometry r)) (feed (read b) len room) refl z
-
   pub asked : GoodArray g × (b < capacity g)
-  asked = subst (λ (x : Geometry). GoodArray x × (b < capacity x)) (sym e) (bounds.array, lets.block-lt)
+  asked = subst (λ (x : Geometry). GoodArray x × (b < capacity x)) (sym e) (good.array, lets.block-lt)
 
   -- for place_of, which has the block's slot from slot_of
   pub asked-slot : (s : Slot) → s ≡ slot_of g b → GoodArray g × (b < capacity g) × (s ≡ slot_of g b)
@@ -56,10 +53,10 @@ module _ (r : Record) (len b room : ℕ) (z : refusal_of r (feed (read b) len ro
   pub reached : (y : Standing) → y ≡ (layout g).place b → Reached r len b room y
   reached y f =
       let is : y ≡ standing r b = f ∙ ap (λ (x : Geometry). (layout x).place b) e in
-      let a = bounds.array in
+      let a = good.array in
       let lb = lets.block-lt in
       record {
-        limits = bounds;
+        limits = good;
         here = lets.here;
         long = lets.long;
         whole = lets.whole;

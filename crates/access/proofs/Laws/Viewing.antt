@@ -9,10 +9,10 @@ use Rattle.std.specs.Prelude.{Result, Ok, Err, IfOk}
 use Rattle.layout.specs.Layout.{capacity}
 use Rattle.blocks.specs.Stripe.{offset}
 use Rattle.state.specs.declared.types.Record.{Record}
-use Rattle.state.specs.Good.{geometry}
+use Rattle.state.specs.Good.{geometry, GoodRecord}
 use Rattle.access.specs.declared.types.Choice.{Choice}
 use Rattle.access.specs.Viewing.{begins, choice_of, chosen_bytes, chosen_start, ends}
-use Rattle.calls.specs.Call.{view, Event, on, fed, Answer, bytes, number, shown}
+use Rattle.calls.specs.Call.{read, view, Event, feed, on, fed, Answer, bytes, number, shown}
 use Rattle.calls.specs.Health.{absent}
 use Rattle.calls.specs.Table.{refusal_of}
 use Rattle.calls.specs.Effect.{standing, place_of, View, part, scratch, view_of, scratch_left, viewed, effect, called}
@@ -21,6 +21,7 @@ use Rattle.refusals.specs.Answers.{number_of}
 use Rattle.refusals.proofs.Laws.Called.{called-refused, called-done}
 use Rattle.refusals.proofs.Laws.Ready.{above-0}
 use Rattle.calls.proofs.Laws.Table.{view-rows}
+use Rattle.calls.proofs.Laws.Passed.{in-limits}
 use Rattle.access.proofs.Laws.Reaching.{Reached, reached, inside}
 
 module _ (r : Record) (img room : List ℕ) (b : ℕ) where
@@ -44,7 +45,10 @@ module _ (r : Record) (img room : List ℕ) (b : ℕ) where
       → IfOk x (λ y. y ≡ choice_of (view_of r b)) → Shows (view_of r b) x (called e r).answer (called e r).room
   unfolding effect view_of
   by_number zero z (Ok y) n q =
-      let t : Reached r (length img) b (length room) (standing r b) = reached r (length img) b (length room) (sym (view-rows r (capacity (geometry r)) (length img) (length room) b) ∙ z) (geometry r) refl (standing r b) refl in
+      let c : ℕ = capacity (geometry r) in
+      let z' : refusal_of r (feed (read b) (length img) (length room)) ≡ 0 = sym (view-rows r c (length img) (length room) b) ∙ z in
+      let good : GoodRecord r = in-limits r c (feed (read b) (length img) (length room)) refl z' in
+      let t : Reached r (length img) b (length room) (standing r b) = reached r good (length img) b (length room) z' (geometry r) refl (standing r b) refl in
       let l : start + length room ≤ length img = inside t refl in
       rw (called-done e r z, q) (let_through (absent r.health (place_of r b).stripe (place_of r b).disk) (scratch_left r img b room) (rw t.whole at l))
   by_number zero z (Err f) n q = absurd (above-0 f (rw (called-done e r z) at n))

@@ -27,7 +27,7 @@ use Rattle.calls.specs.Table.{idle, refusal_of}
 use Rattle.calls.specs.Effect.{move_stores, advance_stores, effect, act}
 use Rattle.calls.proofs.Laws.Stores.{length-stored, stored-append}
 use Rattle.calls.proofs.Laws.Table.{some-new, some_left, none_left, over}
-use Rattle.calls.proofs.Laws.Passed.{passed, in-limits, Moves, moves}
+use Rattle.calls.proofs.Laws.Passed.{passed, Moves, moves}
 use Rattle.calls.proofs.Laws.Advance.{advanced, carried, idle-none, advance-split}
 
 -- ---- one move
@@ -139,19 +139,22 @@ module _ (r : Record) (img : List ℕ) (count : ℕ) (l : GoodRecord r) (busy : 
   still : idle (geometry now) ≡ false
   still = busy-of (geometry now) nz (let e : r.moves + done < total_of (geometry r) = omega arith in e)
 
-  -- what the next move asks for
-  pub made-next : (x : Record) → x ≡ now → GoodRecord x × (idle (geometry x) ≡ false) × (at ≡ cursor_at x.old x.new x.moves) × (length J ≡ size x)
-  made-next x e =
+  -- the record is good still
+  pub made-good : (x : Record) → x ≡ now → GoodRecord x
+  made-good x e =
       let a = l.array in
       let left : r.moves + done ≤ total_of (geometry r) = omega arith in
-      let lim : GoodRecord now = record {
+      rw e (record {
         array = record { disks = a.disks; stripes_low = a.stripes_low; stripes_high = a.stripes_high; moves = left };
         block_low = l.block_low;
         block_high = l.block_high;
         health = l.health;
-      } in
-      subst (λ (y : Record). GoodRecord y × (idle (geometry y) ≡ false) × (at ≡ cursor_at y.old y.new y.moves) × (length J ≡ size y)) (sym e)
-      (lim, still, f.next, f.long ∙ lent)
+      })
+
+  -- what the next move asks for
+  pub made-next : (x : Record) → x ≡ now → (idle (geometry x) ≡ false) × (at ≡ cursor_at x.old x.new x.moves) × (length J ≡ size x)
+  made-next x e =
+      subst (λ (y : Record). (idle (geometry y) ≡ false) × (at ≡ cursor_at y.old y.new y.moves) × (length J ≡ size y)) (sym e) (still, f.next, f.long ∙ lent)
 
   -- what counting on asks for
   pub made-index : Disks r.old r.new × (0 < r.new) × (at.index < 16777216) × (at ≡ cursor_at r.old r.new at.index)
@@ -183,17 +186,14 @@ module _ (r : Record) (img : List ℕ) (count : ℕ) (l : GoodRecord r) (busy : 
 
 -- ---- the call
 
-module _ (img : List ℕ) (r : Record) (k : ℕ) (z : refusal_of r (feed (advance k) (length img) 0) ≡ 0) where
+module _ (img : List ℕ) (r : Record) (l : GoodRecord r) (k : ℕ) (z : refusal_of r (feed (advance k) (length img) 0) ≡ 0) where
   lets : Moves r (length img)
   lets = moves r (capacity (geometry r)) (length img) 0 k (passed r (capacity (geometry r)) (feed (advance k) (length img) 0) z)
 
-  pub advance-limits : GoodRecord r
-  advance-limits = in-limits r (capacity (geometry r)) (feed (advance k) (length img) 0) refl z
-
   -- what making moves asks for, of which there are so many
   pub advance-passed : (count : ℕ) → r.moves + count ≤ total_of (geometry r)
-      → GoodRecord r × (idle (geometry r) ≡ false) × (r.moves + count ≤ total_of (geometry r)) × (length img ≡ size r)
-  advance-passed count some = (advance-limits, lets.busy, some, lets.long)
+      → (idle (geometry r) ≡ false) × (r.moves + count ≤ total_of (geometry r)) × (length img ≡ size r)
+  advance-passed count some = (lets.busy, some, lets.long)
 
   pub advance-done : (count : ℕ) → count ≡ min k (total_of (geometry r) - r.moves)
       → let x = act (on (advance k) img []) r in
@@ -202,8 +202,8 @@ module _ (img : List ℕ) (r : Record) (k : ℕ) (z : refusal_of r (feed (advanc
   advance-done count e =
       let nz : r.new ≢ 0 = some-new (geometry r) lets.busy in
       let x : Record = with_moves r (r.moves + count) in
-      let same : advance_stores k r img ≡ advance_stores count r img = as_many r advance-limits nz img k ∙ ap (λ (n : ℕ). advance_stores n r img) (sym e) in
-      let state : recorded (advance_stores k r img) r ≡ x = state-of k r img advance-limits.array nz ∙ ap {B = Record} (λ (n : ℕ). with_moves r (r.moves + n)) (sym e) in
+      let same : advance_stores k r img ≡ advance_stores count r img = as_many r l nz img k ∙ ap (λ (n : ℕ). advance_stores n r img) (sym e) in
+      let state : recorded (advance_stores k r img) r ≡ x = state-of k r img l.array nz ∙ ap {B = Record} (λ (n : ℕ). with_moves r (r.moves + n)) (sym e) in
       let rise : count ≡ r.moves + count - r.moves = omega arith in (
         ap made (rise ∙ ap (λ (y : Record). y.moves - r.moves) (sym state)),
         sym state,

@@ -1,4 +1,4 @@
--- The rows with which many calls begin: where they are passed the record is good. Assumes nothing.
+-- An answer's number, and the rows with which begin and continue start. Assumes nothing.
 use Prim.Native.Nat.{ℕ}
 use mathlib.Core.Path.{◌≡◌, refl, sym, ◌∙◌}
 use mathlib.Core.Bool.{Bool, true, false, not}
@@ -7,16 +7,13 @@ use mathlib.Core.Logic.{◌≢◌}
 use mathlib.Core.List.{List, [], ◌∷◌, ◌++◌}
 use native.Mathlib.Omega.{arith}
 use Rattle.std.specs.Prelude.{Result, Ok, Err, IsErr}
-use borrow.Author.Tests.{not-false}
 use Rattle.state.specs.declared.types.Record.{Record}
-use Rattle.state.specs.Good.{good, GoodRecord}
-use Rattle.state.proofs.Laws.Good.{limits}
 use Rattle.calls.specs.Images.{size}
-use Rattle.calls.specs.Table.{Row, bad_record, lost, degraded, images, disk, word, kept, kept_whole, kept_lent}
+use Rattle.calls.specs.Table.{Row, disk, word, kept_lent}
 use Rattle.refusals.specs.declared.types.Refusal.{Refusal}
 use Rattle.refusals.specs.Answers.{refusal_number, number_of}
 use Rattle.refusals.proofs.Theorem.{one-number}
-use Rattle.calls.proofs.Laws.Table.{passes, stops, given, skipped, lent-on}
+use Rattle.calls.proofs.Laws.Table.{stops, given, skipped, lent-on}
 
 -- the number of an answer
 pub ok-number : {T : Type 0} {x : Result T Refusal} {y : T} → x ≡ Ok y → number_of x ≡ 0
@@ -28,20 +25,6 @@ above-0 e z = omega (arith, one-number e, z)
 pub err-number : {T : Type 0} (x : Result T Refusal) → IsErr x → number_of x ≢ 0
 err-number (Err e) l z = above-0 e z
 err-number (Ok y) l z = absurd (false≢true l)
-
--- k is the number of these rows
-module _ (r : Record) {k : ℕ} where
-  ready : (rows : List Row) → k ≡ word (bad_record (not (good r)) ∷ rows) → k ≡ 0 → GoodRecord r
-  ready rows e z = limits r (not-false _ (passes (not (good r)) 0 (word rows) (sym e ∙ z)).0)
-
-  pub ready-kept : k ≡ word (kept r) → k ≡ 0 → GoodRecord r
-  ready-kept e z = ready (lost r ∷ []) e z
-
-  pub ready-whole : k ≡ word (kept_whole r) → k ≡ 0 → GoodRecord r
-  ready-whole e z = ready (lost r ∷ degraded r ∷ []) e z
-
-  pub ready-lent : (len : ℕ) → k ≡ word (kept_lent r len) → k ≡ 0 → GoodRecord r
-  ready-lent len e z = ready (lost r ∷ images (size r) len ∷ []) e z
 
 -- 1, 2 and 7, and then 10 if the disk is wrong
 module _ (r : Record) (len : ℕ) (wrong : Bool) {k : ℕ} (e : k ≡ word (kept_lent r len)) where

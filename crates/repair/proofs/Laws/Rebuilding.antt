@@ -90,17 +90,14 @@ module _ (img : List ℕ) (r : Record) (k : ℕ) (z : refusal_of r (feed (contin
   abbrev pub first : ℕ
   first = stripes_done r.health
 
-  within : GoodRecord r
-  within = in-limits r (capacity (geometry r)) (feed (continue k) (length img) 0) refl z
-
   -- what it goes on with, and what filling a disk asks for
-  pub continue-passed : GoodRecord r × (disk < disks_of r) × (first < r.stripes) × (first + min k (r.stripes - first) ≤ r.stripes) × (length img ≡ size r)
-  continue-passed =
+  pub continue-passed : GoodRecord r → (disk < disks_of r) × (first < r.stripes) × (first + min k (r.stripes - first) ≤ r.stripes) × (length img ≡ size r)
+  continue-passed within =
       let q = at_once in
       let (ld, lc) = rebuilding-lt r q.disk q.done within q.health in
       let ld' : disk < disks_of r = rw q.health ld in
       let lc' : first < r.stripes = rw q.health lc in
-      (within, ld', lc', omega (arith, lc'), q.long)
+      (ld', lc', omega (arith, lc'), q.long)
 
   pub continue-done : (count : ℕ) → count ≡ min k (r.stripes - first)
       → let x = act (on (continue k) img []) r in

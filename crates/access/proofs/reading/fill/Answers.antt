@@ -7,20 +7,20 @@ use Rattle.access.proofs.reading.fill.Goals as goal
 use Rattle.access.proofs.reading.fill.Goals.{After-q-1}
 
 -- where the block stands
-stands : (c : After-q-1) → let a = c.args in Reached a.r (length a.images.now) a.b (length a.block.now) c.place_of.result
-stands c = reached _ _ _ _ c.requires _ c.geometry_of-g.ensures _ c.place_of.ensures
+stands : (c : After-q-1) → let a = c.args in Reached a.a.rec (length a.images.now) a.b (length a.block.now) c.place_of.result
+stands c = reached _ c.args.a.good _ _ _ c.requires _ c.geometry_of-g.ensures _ c.place_of.ensures
 
 pub slot_of-requires : goal.slot_of-requires
-slot_of-requires c = asked _ _ _ _ c.requires _ c.geometry_of-g.ensures
+slot_of-requires c = asked _ c.args.a.good _ _ _ c.requires _ c.geometry_of-g.ensures
 
 pub place_of-requires : goal.place_of-requires
-place_of-requires c = asked-slot _ _ _ _ c.requires _ c.geometry_of-g.ensures _ c.slot_of.ensures
+place_of-requires c = asked-slot _ c.args.a.good _ _ _ c.requires _ c.geometry_of-g.ensures _ c.slot_of.ensures
 
 pub sum_others-requires : goal.sum_others-requires
-sum_others-requires c = let x = stands (goal.at.sum_others-requires c).After-q-1 in (x.limits, x.stripe_lt, x.long, x.whole)
+sum_others-requires c = let x = stands (goal.at.sum_others-requires c).After-q-1 in (x.stripe_lt, x.long, x.whole)
 
 pub place_at-requires : goal.place_at-requires
-place_at-requires c = let x = stands (goal.at.place_at-requires c).After-q-1 in (x.limits, x.stripe_lt, x.disk_lt)
+place_at-requires c = let x = stands (goal.at.place_at-requires c).After-q-1 in (x.stripe_lt, x.disk_lt)
 
 pub copy_out-requires : goal.copy_out-requires
 copy_out-requires c = let x = stands (goal.at.copy_out-requires c).After-q-1 in (short x, inside x c.place_at.ensures.start)

@@ -16,14 +16,14 @@ use Rattle.access.proofs.writing.put.Goals.{After-q-1, Joined-not-is_absent, the
 -- where the block stands, and its parity
 stands : (c : After-q-1) →
     let a = c.args in
-    Aimed a.r (length a.images.now) a.b a.bytes.now c.place_of-x.result
-stands c = record { reach = reached _ _ _ _ (sym (write-rows _ _ _ _ _ _) ∙ c.requires) _ c.geometry_of-g.ensures _ c.place_of-x.ensures }
+    Aimed a.a.rec (length a.images.now) a.b a.bytes.now c.place_of-x.result
+stands c = record { reach = reached _ c.args.a.good _ _ _ (sym (write-rows _ _ _ _ _ _) ∙ c.requires) _ c.geometry_of-g.ensures _ c.place_of-x.ensures }
 
 -- the data stored over what the fold has left
-lays : (c : Joined-not-is_absent) → (q : Aimed c.args.r (length c.args.images.now) c.args.b c.args.bytes.now c.place_of-x.result) →
+lays : (c : Joined-not-is_absent) → (q : Aimed c.args.a.rec (length c.args.images.now) c.args.b c.args.bytes.now c.place_of-x.result) →
     let a = c.args in
     (length c.if-not-is_absent.images ≡ length a.images.now)
-    × (store c.if-not-is_absent.images c.place_at-at.result a.bytes.now ≡ stored a.r.block a.r.stripes (write_stores a.r a.images.now a.b a.bytes.now) a.images.now)
+    × (store c.if-not-is_absent.images c.place_at-at.result a.bytes.now ≡ stored a.a.rec.block a.a.rec.stripes (write_stores a.a.rec a.images.now a.b a.bytes.now) a.images.now)
 lays c q =
     let u = told c.is_absent.ensures.answer c.if-is_absent.false in
     let i = c.is_absent-2.ensures.answer in
@@ -33,11 +33,11 @@ lays c q =
     ]
 
 pub slot_of-requires : goal.slot_of-requires
-slot_of-requires c = asked _ _ _ _ (sym (write-rows _ _ _ _ _ _) ∙ c.requires) _ c.geometry_of-g.ensures
+slot_of-requires c = asked _ c.args.a.good _ _ _ (sym (write-rows _ _ _ _ _ _) ∙ c.requires) _ c.geometry_of-g.ensures
 
 pub place_of-x-requires : goal.place_of-x-requires
 place_of-x-requires c =
-    asked-slot _ _ _ _ (sym (write-rows _ _ _ _ _ _) ∙ c.requires) _ c.geometry_of-g.ensures _ c.slot_of.ensures
+    asked-slot _ c.args.a.good _ _ _ (sym (write-rows _ _ _ _ _ _) ∙ c.requires) _ c.geometry_of-g.ensures _ c.slot_of.ensures
 
 pub fold_others-requires : goal.fold_others-requires
 fold_others-requires c = sums (stands (goal.at.fold_others-requires c).After-q-1) c.disks_of.ensures.count
@@ -50,10 +50,10 @@ returns-then-is_absent c =
     }
 
 pub place_at-at-requires : goal.place_at-at-requires
-place_at-at-requires c = let x = (stands (goal.at.place_at-at-requires c).After-q-1).reach in (x.limits, x.stripe_lt, x.disk_lt)
+place_at-at-requires c = let x = (stands (goal.at.place_at-at-requires c).After-q-1).reach in (x.stripe_lt, x.disk_lt)
 
 pub place_at-requires : goal.place_at-requires
-place_at-requires c = let x = (stands (goal.at.place_at-requires c).After-q-1).reach in (x.limits, x.stripe_lt, x.parity_lt)
+place_at-requires c = let x = (stands (goal.at.place_at-requires c).After-q-1).reach in (x.stripe_lt, x.parity_lt)
 
 pub fold_parity-requires : goal.fold_parity-requires
 fold_parity-requires c =

@@ -24,19 +24,19 @@ numbered c =
     let n : number_of c.of_reach.result ≡ refusal_of a.r (feed (read a.b) (length a.images.now) (length a.bytes.now)) = c.of_reach.ensures.number in
     n ∙ sym (write-rows a.r (capacity (geometry a.r)) (length a.images.now) 0 a.b a.bytes.now)
 
-pub returns-in_err-of_reach : goal.returns-in_err-of_reach
-returns-in_err-of_reach c =
+pub returns-in_err-a : goal.returns-in_err-a
+returns-in_err-a c =
     let a = c.args in
     let x = c.from_residual.result in
     let n : number_of x ≡ number_of c.of_reach.result = search rules in
-    let p = (goal.at.returns-in_err-of_reach c).After-of_reach in
+    let p = (goal.at.returns-in_err-a c).After-of_reach in
     rw (called-stopped (on (write a.b a.bytes.now) a.images.now []) a.r x c.from_residual.ensures.0 (n ∙ numbered p)) (record { answer = refl; images = refl })
 
 pub put-requires : goal.put-requires
-put-requires c = sym (numbered (goal.at.put-requires c).After-of_reach) ∙ ok-number c.in_ok-of_reach.was
+put-requires c = rw c.in_ok-a.ensures.same (sym (numbered (goal.at.put-requires c).After-of_reach) ∙ ok-number c.in_ok-a.was)
 
 pub returns : goal.returns
 unfolding effect
 returns c =
     let a = c.args in
-    rw (called-done (on (write a.b a.bytes.now) a.images.now []) a.r (sym (numbered (goal.at.returns c).After-of_reach) ∙ ok-number c.in_ok-of_reach.was)) (record { answer = refl; images = c.put.ensures.images })
+    rw (called-done (on (write a.b a.bytes.now) a.images.now []) a.r (sym (numbered (goal.at.returns c).After-of_reach) ∙ ok-number c.in_ok-a.was)) (record { answer = refl; images = rw c.in_ok-a.ensures.same at c.put.ensures.images })

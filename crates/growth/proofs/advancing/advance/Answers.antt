@@ -7,15 +7,19 @@ use Rattle.calls.specs.Effect.{effect}
 use Rattle.refusals.proofs.Laws.Called.{called-stopped, called-done, err-counted, err-uncounted}
 use Rattle.growth.proofs.advancing.advance.Goals as goal
 
-pub returns-in_err-of_advance : goal.returns-in_err-of_advance
-returns-in_err-of_advance c =
+pub returns-in_err-a : goal.returns-in_err-a
+returns-in_err-a c =
     let a = c.args in
     let x = c.from_residual.result in
     let l = c.from_residual.ensures.0 in
     rw (called-stopped (on (advance a.k) a.images.now []) a.r x l (search rules)) (record { answer = err-counted x l; state = err-uncounted a.r x l; images = refl })
 
+pub make_due-requires : goal.make_due-requires
+make_due-requires c = rw c.in_ok-a.ensures.same (sym c.in_ok-a.ensures.number)
+
 pub returns : goal.returns
 unfolding effect
 returns c =
     let a = c.args in
-    rw (called-done (on (advance a.k) a.images.now []) a.r (sym c.in_ok-of_advance.ensures.number)) (record { answer = c.make_due.ensures.answer; state = c.make_due.ensures.state; images = c.make_due.ensures.images })
+    let made = rw c.in_ok-a.ensures.same at c.make_due.ensures in
+    rw (called-done (on (advance a.k) a.images.now []) a.r (sym c.in_ok-a.ensures.number)) (record { answer = made.answer; state = made.state; images = made.images })

@@ -7,15 +7,19 @@ use Rattle.calls.specs.Effect.{effect}
 use Rattle.refusals.proofs.Laws.Called.{called-stopped, called-done, err-counted, err-uncounted}
 use Rattle.repair.proofs.rebuilding.continue_rebuild.Goals as goal
 
-pub returns-in_err-of_continue : goal.returns-in_err-of_continue
-returns-in_err-of_continue c =
+pub returns-in_err-a : goal.returns-in_err-a
+returns-in_err-a c =
     let a = c.args in
     let x = c.from_residual.result in
     let l = c.from_residual.ensures.0 in
     rw (called-stopped (on (continue a.k) a.images.now []) a.r x l (search rules)) (record { answer = err-counted x l; state = err-uncounted a.r x l; images = refl })
 
+pub rebuild_due-requires : goal.rebuild_due-requires
+rebuild_due-requires c = rw c.in_ok-a.ensures.same (sym c.in_ok-a.ensures.number)
+
 pub returns : goal.returns
 unfolding effect
 returns c =
     let a = c.args in
-    rw (called-done (on (continue a.k) a.images.now []) a.r (sym c.in_ok-of_continue.ensures.number)) (record { answer = c.rebuild_due.ensures.answer; state = c.rebuild_due.ensures.state; images = c.rebuild_due.ensures.images })
+    let made = rw c.in_ok-a.ensures.same at c.rebuild_due.ensures in
+    rw (called-done (on (continue a.k) a.images.now []) a.r (sym c.in_ok-a.ensures.number)) (record { answer = made.answer; state = made.state; images = made.images })

@@ -9,4 +9,4 @@ loop-made-init c = filled_none _ _ _ _ _ _ _ _ refl
 pub loop-made-preserved : goal.loop-made-preserved
 loop-made-preserved c =
     let p = c.requires in
-    filled_more _ _ _ _ _ _ p.2 c.loop-made-test.true c.loop-made.invariant c.rebuild_place.ensures.images c.rebuild_place.ensures.block
+    filled_more _ _ _ _ _ _ p.1 c.loop-made-test.true c.loop-made.invariant c.rebuild_place.ensures.images c.rebuild_place.ensures.block

@@ -13,25 +13,25 @@ use Rattle.repair.proofs.rebuilding.rebuild_due.Goals.{After-due-count}
 -- how many are made
 count-is : (c : After-due-count) →
     let a = c.args in
-    c.due-count.result ≡ min a.k (a.r.stripes - stripes_done a.r.health)
+    c.due-count.result ≡ min a.k (a.a.rec.stripes - stripes_done a.a.rec.health)
 count-is c =
     let a = c.args in
-    c.due-count.ensures.count ∙ ap (λ (x : ℕ). min a.k (a.r.stripes - x)) c.stripes_done-done.ensures
+    c.due-count.ensures.count ∙ ap (λ (x : ℕ). min a.k (a.a.rec.stripes - x)) c.stripes_done-done.ensures
 
 pub overflow_sub-r : goal.overflow_sub-r
 overflow_sub-r c =
     let a = c.args in
-    omega (arith, c.stripes_done-done.ensures, (continue-passed a.images.now a.r a.k c.requires).2)
+    omega (arith, c.stripes_done-done.ensures, (continue-passed a.images.now a.a.rec a.k c.requires a.a.good).1)
 
 pub fill_disk_alone-requires : goal.fill_disk_alone-requires
 fill_disk_alone-requires c =
     let a = c.args in
-    let p = continue-passed a.images.now a.r a.k c.requires in
-    (p.0, rw c.disk_byte-disk.ensures p.1, rw (c.stripes_done-done.ensures, count-is (goal.at.fill_disk_alone-requires c).After-due-count) p.3, p.4)
+    let p = continue-passed a.images.now a.a.rec a.k c.requires a.a.good in
+    (rw c.disk_byte-disk.ensures p.0, rw (c.stripes_done-done.ensures, count-is (goal.at.fill_disk_alone-requires c).After-due-count) p.2, p.3)
 
 pub returns : goal.returns
 returns c =
     let a = c.args in
-    let q = continue-done a.images.now a.r a.k c.requires _ (count-is (goal.at.returns c).After-due-count) in
+    let q = continue-done a.images.now a.a.rec a.k c.requires _ (count-is (goal.at.returns c).After-due-count) in
     let q' = rw (← c.stripes_done-done.ensures, ← c.disk_byte-disk.ensures) at q in
-    record { answer = q'.0; state = c.with_health.ensures ∙ ap {B = Record} (λ (x : Health). with_health a.r x) c.rebuilt_to.ensures.health ∙ q'.1; images = c.fill_disk_alone.ensures.images ∙ q'.2 }
+    record { answer = q'.0; state = c.with_health.ensures ∙ ap {B = Record} (λ (x : Health). with_health a.a.rec x) c.rebuilt_to.ensures.health ∙ q'.1; images = c.fill_disk_alone.ensures.images ∙ q'.2 }
