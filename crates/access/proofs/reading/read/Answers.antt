@@ -13,9 +13,6 @@ returns-in_err-a c =
     let l = c.from_residual.ensures.0 in
     rw (called-stopped (on (read a.b) a.images.now a.block.now) a.r x l (search rules)) (record { answer = refl; block = refl })
 
-pub fill-requires : goal.fill-requires
-fill-requires c = rw c.in_ok-a.ensures.same (sym c.in_ok-a.ensures.number)
-
 pub returns : goal.returns
 unfolding effect
 returns c =

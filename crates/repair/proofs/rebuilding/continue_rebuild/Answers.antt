@@ -14,9 +14,6 @@ returns-in_err-a c =
     let l = c.from_residual.ensures.0 in
     rw (called-stopped (on (continue a.k) a.images.now []) a.r x l (search rules)) (record { answer = err-counted x l; state = err-uncounted a.r x l; images = refl })
 
-pub rebuild_due-requires : goal.rebuild_due-requires
-rebuild_due-requires c = rw c.in_ok-a.ensures.same (sym c.in_ok-a.ensures.number)
-
 pub returns : goal.returns
 unfolding effect
 returns c =
