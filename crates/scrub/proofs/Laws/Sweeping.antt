@@ -1,6 +1,6 @@
 -- What the sweep asks of a stripe, and what that shows of it: its places as they stand, its blanks one by one, and the sum of the old disks
 -- where the new ones are the blanks. Assumes nothing.
-use Prim.Native.Nat.{ℕ, zero, suc, ◌+◌, ◌-◌, ◌*◌, ◌≤◌, ◌<◌}
+use Prim.Native.Nat.{ℕ, zero, suc, ◌+◌, ◌*◌, ◌≤◌, ◌<◌}
 use mathlib.Core.Path.{◌≡◌, refl, sym, ap, ◌∙◌, subst}
 use mathlib.Core.Bool.{Bool, true, false, cond, not, ◌&&◌, ◌||◌}
 use mathlib.Core.Logic.{◌⊎◌, inl, inr}
@@ -9,6 +9,8 @@ use native.Mathlib.Nat.{le_refl, mul-le-mul}
 use native.Mathlib.Omega.{arith}
 use lib.Dec.{ltb}
 use lib.ListN.{length}
+use Rattle.std.specs.List.{list_all, range_with_len}
+use Rattle.std.proofs.Math.Bool.{and_assoc}
 use borrow.Author.Tests.{lt-ltb, le-ltb}
 use Rattle.layout.specs.declared.Geometry.{Geometry}
 use Rattle.layout.specs.declared.Stripe.{Stripe}
@@ -16,10 +18,10 @@ use Rattle.layout.specs.Closed.{taken, stripe_of}
 use Rattle.layout.specs.Layout.{open_stripes, is_blank, layout}
 use Rattle.layout.proofs.Laws.Basics.{le-or-lt}
 use Rattle.layout.proofs.Laws.Vacant.{open_full, closed-blank, far-taken}
-use Rattle.blocks.specs.Block.{block_at, zeros, is_zeros}
+use Rattle.blocks.specs.Block.{zeros, is_zeros}
 use Rattle.blocks.specs.Xor.{xor_b, xor_all}
 use Rattle.blocks.specs.declared.types.Group.{Group}
-use Rattle.blocks.specs.Stripe.{offset, others}
+use Rattle.blocks.specs.Stripe.{others}
 use Rattle.blocks.specs.Sum.{sum_to, GroupBegun}
 use Rattle.blocks.proofs.Laws.Xor.{xor_b-zeros, xor_all-snoc}
 use Rattle.blocks.proofs.Laws.Stripe.{length-others}
@@ -32,6 +34,7 @@ use Rattle.calls.specs.Images.{disks_of, size, place_in, seen}
 use Rattle.calls.specs.Call.{all_sound, unsound_at}
 use Rattle.calls.specs.Sound.{seen_stripe, blanks_zero, is_sound, unsound_below, unsound_stripes}
 use Rattle.calls.specs.Effect.{swept_to}
+use Rattle.scrub.specs.declared.sweeping.Stripes.{Stripes}
 use Rattle.calls.proofs.Laws.Unsound.{seen-whole, summed-whole, length-summed, more-sound, first_below}
 
 module _ (r : Record) (img : List ℕ) (S : ℕ) where
@@ -51,80 +54,51 @@ module _ (r : Record) (img : List ℕ) (S : ℕ) where
 
   -- ---- the blanks, disk by disk
 
-  blanks-on : (d : ℕ) → blanks_zero r img S d ≡ true → free d ≡ true → blanks_zero r img S (suc d) ≡ true
+  -- n disks from d on, each asked if it passes, after those before them
+  asked : (f : ℕ → Bool) (n d : ℕ) → ((e : ℕ) → d ≤ e → f e ≡ free e)
+      → (blanks_zero r img S d && list_all f (range_with_len d n)) ≡ blanks_zero r img S (n + d)
   unfolding blanks_zero
-  blanks-on d p q = rw (p, q) refl
+  asked f zero d q = and_yes (blanks_zero r img S d) ∙ ap (blanks_zero r img S) (let e : d ≡ 0 + d = omega arith in e)
+  asked f (suc n) d q =
+      let more : (blanks_zero r img S (d + 1) && list_all f (range_with_len (d + 1) n)) ≡ blanks_zero r img S (n + (d + 1)) =
+      asked f n (d + 1) (λ e l. q e (omega (arith, l))) in
+      let next : blanks_zero r img S (d + 1) ≡ (blanks_zero r img S d && free d) = ap (blanks_zero r img S) (let e : d + 1 ≡ suc d = omega arith in e) in
+      sym (and_assoc (blanks_zero r img S d) (f d) (list_all f (range_with_len (d + 1) n)))
+      ∙ ap (λ (b : Bool). (blanks_zero r img S d && b) && list_all f (range_with_len (d + 1) n)) (q d (le_refl d))
+      ∙ ap (λ (b : Bool). b && list_all f (range_with_len (d + 1) n)) (sym next)
+      ∙ more
+      ∙ ap (blanks_zero r img S) (let e : n + (d + 1) ≡ suc n + d = omega arith in e)
 
-  blanks-stop : (d : ℕ) → free d ≡ false → blanks_zero r img S (suc d) ≡ false
-  unfolding blanks_zero
-  blanks-stop d q = rw q (and_no (blanks_zero r img S d))
+  module _ (whole : r.health ≡ Whole) (closed : open_stripes (geometry r) ≤ S) where
+    abbrev is-zero : ℕ → Bool
+    is-zero d = is_zeros B (place_in r img S d)
 
-  -- what is not zero stays so, whatever disks come after it
-  never-again : (d k : ℕ) → blanks_zero r img S d ≡ false → blanks_zero r img S (k + d) ≡ false
-  unfolding blanks_zero
-  never-again d zero q = rw (let e : 0 + d ≡ d = omega arith in e) q
-  never-again d (suc k) q = rw (let e : suc k + d ≡ suc (k + d) = omega arith in e) (rw (never-again d k q) refl)
+    abbrev there : ℕ → Bool
+    there d = taken r.old r.new r.moves S d
 
-  module _ (whole : r.health ≡ Whole) where
-    module _ (closed : open_stripes (geometry r) ≤ S) (d : ℕ) where
-      abbrev there : Bool
-      there = taken r.old r.new r.moves S d
+    -- a disk passes if something stands there, or the place is zero
+    asks : (d : ℕ) → free d ≡ (there d || is-zero d)
+    asks d = (λ i. not (closed-blank (geometry r) S d closed i) || is_zeros B (seen-whole r img S whole d i)) ∙ go (there d) (is-zero d)
+      where
+        go : (t z : Bool) → (not (not t) || z) ≡ (t || z)
+        go true z = refl
+        go false z = refl
 
-      asks : free d ≡ (not (not there) || is_zeros B (place_in r img S d))
-      asks = λ i. not (closed-blank (geometry r) S d closed i) || is_zeros B (seen-whole r img S whole d i)
+    asks-taken : (d : ℕ) → there d ≡ true → free d ≡ true
+    asks-taken d t = asks d ∙ rw t refl
 
-      -- a place where something stands need not be zero ..
-      taken-on : there ≡ true → blanks_zero r img S d ≡ true → blanks_zero r img S (suc d) ≡ true
-      taken-on t p = blanks-on d p (asks ∙ rw t refl)
+    asks-blank : (d : ℕ) → there d ≡ false → free d ≡ is-zero d
+    asks-blank d t = asks d ∙ rw t refl
 
-      -- .. nor one that is ..
-      zero-on : is_zeros B (place_in r img S d) ≡ true → blanks_zero r img S d ≡ true → blanks_zero r img S (suc d) ≡ true
-      zero-on z p = blanks-on d p (asks ∙ rw z (go (not (not there))))
-        where
-          go : (b : Bool) → (b || true) ≡ true
-          go true = refl
-          go false = refl
-
-      -- .. and another shows that the stripe's blanks are not
-      stops : there ≡ false → is_zeros B (place_in r img S d) ≡ false → d < N → blanks_zero r img S N ≡ false
-      stops t z l =
-          rw (let e : N ≡ N - suc d + suc d = omega arith in e) (never-again (suc d) (N - suc d) (blanks-stop d (asks ∙ rw (t, z) refl)))
-
--- ---- a loop over the disks of a stripe: the blanks on the first d of them are zero
+    pub all-asked : (f : ℕ → Bool) → ((d : ℕ) → f d ≡ (there d || is-zero d)) → list_all f (range_with_len 0 N) ≡ blanks_zero r img S N
+    unfolding blanks_zero
+    all-asked f q = asked f N 0 (λ d l. q d ∙ sym (asks d)) ∙ ap (blanks_zero r img S) (let e : N + 0 ≡ N = omega arith in e)
 
 -- what the code asks of a stripe that it has taken apart is asked of the stripe
-pub taken-there : (r : Record) (S d : ℕ) {t : Bool} (g h : Geometry) (x : Stripe) → g ≡ geometry r → (h ≡ g) × (x ≡ stripe_of g.old g.new S)
-    → t ≡ taken h.old h.new h.moves x.number d → t ≡ taken r.old r.new r.moves S d
-taken-there r S d g h x eg e q =
-    q ∙ ap (λ (y : Stripe). taken h.old h.new h.moves y.number d) e.1 ∙ ap (λ (h : Geometry). taken h.old h.new h.moves S d) (e.0 ∙ eg)
-
-pub record Looked (r : Record) (img : List ℕ) (S d : ℕ) : Type 0 where
-  pub are : blanks_zero r img S d ≡ true
-  pub within : d ≤ disks_of r
-
-pub looked-none : (r : Record) (img : List ℕ) (S : ℕ) → Looked r img S 0
-unfolding blanks_zero
-looked-none r img S = record { are = refl; within = omega arith }
-
-pub looked-all : {r : Record} {img : List ℕ} {S d : ℕ} → Looked r img S d → disks_of r ≤ d → true ≡ blanks_zero r img S (disks_of r)
-looked-all {r} {img} {S} {d} h l = sym h.are ∙ ap (blanks_zero r img S) (let e : d ≡ disks_of r = omega (arith, h.within, l) in e)
-
-module _ {r : Record} {img : List ℕ} {S d : ℕ} (whole : r.health ≡ Whole) (closed : open_stripes (geometry r) ≤ S) (h : Looked r img S d) (l : d < disks_of r) where
-  one_more : blanks_zero r img S (suc d) ≡ true → Looked r img S (d + 1)
-  one_more q = record { are = ap (blanks_zero r img S) (let e : d + 1 ≡ suc d = omega arith in e) ∙ q; within = omega arith }
-
-  pub looked-taken : {t : Bool} → t ≡ taken r.old r.new r.moves S d → t ≡ true → Looked r img S (d + 1)
-  looked-taken q u = one_more (taken-on r img S whole closed d (went_on q u) h.are)
-
-  module _ {z : Bool} {at : ℕ} (is : at ≡ offset r.block r.stripes S d) (q : z ≡ is_zeros r.block (block_at img at r.block)) where
-    of-place : z ≡ is_zeros r.block (place_in r img S d)
-    of-place = q ∙ ap (λ (a : ℕ). is_zeros r.block (block_at img a r.block)) is
-
-    pub looked-zero : z ≡ true → Looked r img S (d + 1)
-    looked-zero u = one_more (zero-on r img S whole closed d (went_on of-place u) h.are)
-
-    pub looked-stop : {t : Bool} → t ≡ taken r.old r.new r.moves S d → t ≡ false → z ≡ false → false ≡ blanks_zero r img S (disks_of r)
-    looked-stop e v u = sym (stops r img S whole closed d (returned e v) (returned of-place u) l)
+pub taken-there : (r : Record) (S d : ℕ) (g h : Geometry) (x : Stripe) → g ≡ geometry r → (h ≡ g) × (x ≡ stripe_of g.old g.new S)
+    → taken h.old h.new h.moves x.number d ≡ taken r.old r.new r.moves S d
+taken-there r S d g h x eg e =
+    ap (λ (y : Stripe). taken h.old h.new h.moves y.number d) e.1 ∙ ap (λ (h : Geometry). taken h.old h.new h.moves S d) (e.0 ∙ eg)
 
 -- ---- a zone further on, where the blanks are the new disks
 
@@ -132,16 +106,23 @@ module _ (r : Record) (img : List ℕ) (S : ℕ) (limits : GoodRecord r) (whole 
   closed : open_stripes (geometry r) ≤ S
   closed = omega arith
 
-  pub new-free : (d : ℕ) → r.old ≤ d → false ≡ taken r.old r.new r.moves S d
-  new-free d l = sym (far-taken (geometry r) limits.array S far inside d ∙ le-ltb d r.old l)
+  new-free : (d : ℕ) → r.old ≤ d → taken r.old r.new r.moves S d ≡ false
+  new-free d l = far-taken (geometry r) limits.array S far inside d ∙ le-ltb d r.old l
 
-  old-looked : (d : ℕ) → d ≤ r.old → blanks_zero r img S d ≡ true
-  old-looked zero l = (looked-none r img S).are
-  old-looked (suc d) l =
-      taken-on r img S whole closed d (far-taken (geometry r) limits.array S far inside d ∙ lt-ltb d r.old (omega arith)) (old-looked d (omega arith))
+  old-zero : (d : ℕ) → d ≤ r.old → blanks_zero r img S d ≡ true
+  unfolding blanks_zero
+  old-zero zero l = refl
+  old-zero (suc d) l =
+      rw (old-zero d (omega arith), asks-taken r img S whole closed d (far-taken (geometry r) limits.array S far inside d ∙ lt-ltb d r.old (omega arith))) refl
 
-  pub looked-old : Looked r img S r.old
-  looked-old = record { are = old-looked r.old (omega arith); within = omega arith }
+  pub new-asked : list_all (λ d. is_zeros r.block (place_in r img S d)) (range_with_len r.old r.new) ≡ blanks_zero r img S (disks_of r)
+  new-asked =
+      let f : ℕ → Bool = λ d. is_zeros r.block (place_in r img S d) in
+      let new : (blanks_zero r img S r.old && list_all f (range_with_len r.old r.new)) ≡ blanks_zero r img S (r.new + r.old) =
+      asked r img S f r.new r.old (λ d l. sym (asks-blank r img S whole closed d (new-free d l))) in
+      sym (and-true (blanks_zero r img S r.old) (list_all f (range_with_len r.old r.new)) (old-zero r.old (le_refl r.old)))
+      ∙ new
+      ∙ ap (blanks_zero r img S) (let e : r.new + r.old ≡ disks_of r = omega arith in e)
 
   -- zeroes there add nothing to the sum of the old ones
   new-adds-none : (k : ℕ) → blanks_zero r img S (k + r.old) ≡ true → summed r img S (k + r.old) ≡ summed r img S r.old
@@ -152,8 +133,7 @@ module _ (r : Record) (img : List ℕ) (S : ℕ) (limits : GoodRecord r) (whole 
       let e : suc k + r.old ≡ suc (k + r.old) = omega arith in
       let q' : (blanks_zero r img S d && free r img S d) ≡ true = rw e at q in
       let (p, z) = both (blanks_zero r img S d) (free r img S d) q' in
-      let free-is : free r img S d ≡ is_zeros r.block (place_in r img S d) =
-      asks r img S whole closed d ∙ ap (λ (t : Bool). not (not t) || is_zeros r.block (place_in r img S d)) (sym (new-free d (omega arith))) in
+      let free-is : free r img S d ≡ is_zeros r.block (place_in r img S d) = asks-blank r img S whole closed d (new-free d (omega arith)) in
       let zero-there : place_in r img S d ≡ zeros r.block = is-zeros r.block (place_in r img S d) (sym free-is ∙ z) in
       ap (summed r img S) e
       ∙ xor_all-snoc r.block (seen_stripe r img S d) (seen r img S d)
@@ -214,35 +194,36 @@ module _ {r : Record} {img : List ℕ} {S k first : ℕ} {block : List ℕ} (lim
   pub last-shows : {z : Bool} → z ≡ is_zeros (length block) (sum_to (length block) img (rest_of r S k first) k) → z ≡ is_zeros r.block (summed r img S k)
   last-shows q = q ∙ ap (λ (n : ℕ). is_zeros n (others n r.stripes img S k k)) h.long ∙ ap (is_zeros r.block) (summed-whole r img S whole k)
 
--- no more are summed than there are
-pub summed-le : (r : Record) {k : ℕ} (S full : ℕ) → k ≡ cond (ltb S full) (disks_of r) r.old → k ≤ disks_of r
-summed-le r S full q = elim (le-or-lt full S) [
-  | inl l ↦ omega (arith, (rw (le-ltb S full l) at q))
-  | inr l ↦ omega (arith, (rw (lt-ltb S full l) at q))
-]
+-- ---- a stripe, by what its sum is and where it stands: k is how many disks are summed, all of them up to a zone past the open stripes
 
--- ---- a stripe, by what its sum is and where it stands: k is how many disks are summed, N of them up to a zone past the open stripes
+module _ (x : Stripes) (S : ℕ) {k disks : ℕ} {z : Bool} (inside : S < x.array.rec.stripes) (all : disks ≡ disks_of x.array.rec)
+    (is : k ≡ cond (ltb S (x.full + disks)) (disks_of x.array.rec) x.array.rec.old) (q : z ≡ is_zeros x.array.rec.block (summed x.array.rec x.images.now S k)) where
+  abbrev r : Record
+  r = x.array.rec
 
-module _ (r : Record) (img : List ℕ) (S : ℕ) {k : ℕ} {z : Bool} (limits : GoodRecord r) (whole : r.health ≡ Whole) (inside : S < r.stripes)
-    (is : k ≡ cond (ltb S (open_stripes (geometry r) + disks_of r)) (disks_of r) r.old) (q : z ≡ is_zeros r.block (summed r img S k)) where
+  abbrev img : List ℕ
+  img = x.images.now
+
   near : S < open_stripes (geometry r) + disks_of r → z ≡ is_zeros r.block (summed r img S (disks_of r))
-  near l = q ∙ ap (λ (n : ℕ). is_zeros r.block (summed r img S n)) (is ∙ rw (lt-ltb _ _ l) refl)
+  near l = q ∙ ap (λ (n : ℕ). is_zeros r.block (summed r img S n)) (is ∙ rw (lt-ltb S (x.full + disks) (omega (arith, x.counted, all, l))) refl)
 
   beyond : open_stripes (geometry r) + disks_of r ≤ S → z ≡ is_zeros r.block (summed r img S r.old)
-  beyond l = q ∙ ap (λ (n : ℕ). is_zeros r.block (summed r img S n)) (is ∙ rw (le-ltb _ _ l) refl)
+  beyond l = q ∙ ap (λ (n : ℕ). is_zeros r.block (summed r img S n)) (is ∙ rw (le-ltb S (x.full + disks) (omega (arith, x.counted, all, l))) refl)
 
   by_both : is_sound r img S ≡ (z && blanks_zero r img S (disks_of r))
   unfolding is_sound
   by_both = elim (le-or-lt (open_stripes (geometry r) + disks_of r) S) [
     | inr l ↦ ap (λ (b : Bool). b && blanks_zero r img S (disks_of r)) (sym (near l))
-    | inl l ↦ far-sound r img S limits whole l inside ∙ ap (λ (b : Bool). b && blanks_zero r img S (disks_of r)) (sym (beyond l))
+    | inl l ↦ far-sound r img S x.array.good x.whole l inside ∙ ap (λ (b : Bool). b && blanks_zero r img S (disks_of r)) (sym (beyond l))
   ]
 
-  pub odd : z ≡ false → false ≡ is_sound r img S
-  odd u = sym (by_both ∙ and-false z (blanks_zero r img S (disks_of r)) u)
+  pub odd : z ≡ false → z ≡ is_sound r img S
+  odd u = u ∙ sym (by_both ∙ and-false z (blanks_zero r img S (disks_of r)) u)
 
-  pub even-full : z ≡ true → S < open_stripes (geometry r) → true ≡ is_sound r img S
-  even-full u l = sym (full-sound r img S l ∙ sym (near (omega arith)) ∙ u)
+  pub even-full : z ≡ true → S < x.full → ltb S x.full ≡ is_sound r img S
+  even-full u l =
+      let l' : S < open_stripes (geometry r) = omega (arith, x.counted, l) in
+      lt-ltb S x.full l ∙ sym (full-sound r img S l' ∙ sym (near (omega arith)) ∙ u)
 
   pub even : z ≡ true → {b : Bool} → b ≡ blanks_zero r img S (disks_of r) → b ≡ is_sound r img S
   even u e = e ∙ sym (by_both ∙ and-true z (blanks_zero r img S (disks_of r)) u)

@@ -21,5 +21,5 @@ returns-in-Err c =
 pub returns-in-Ok : goal.returns-in-Ok
 returns-in-Ok c =
     rw (answered (event (goal.at.returns-in-Ok c).Start) c.args.rec.now c.in-Some.ensures.record c.in-Ok.ensures.answer) (
-        let q = found_numbers c.in-Ok.x.unsound c.in-Ok.x.read in
-        record { answer = q.0; beside = rw (c.from-in-Ok.ensures, c.is_some.ensures, c.unwrap_or.ensures) q.1 })
+    let q = found_numbers c.in-Ok.x.unsound c.in-Ok.x.read in
+    record { answer = q.0; beside = rw (c.from-in-Ok.ensures, c.is_some.ensures, c.unwrap_or.ensures) q.1 })
