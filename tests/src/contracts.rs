@@ -381,7 +381,7 @@ fn promised(formula: &[String]) -> Vec<[String; 2]> {
     }
     match &parts(conclusion, "≡")[..] {
         [left, right] => vec![[left.join(" "), right.join(" ")]],
-        _ => of_some(conclusion).unwrap_or_default(),
+        _ => of_value(conclusion).unwrap_or_default(),
     }
 }
 
@@ -399,8 +399,8 @@ fn is_binder(premise: &[String]) -> bool {
     })
 }
 
-/// The equations of `IfSome result (λ x. formula)`, with the answer for x: what is said of its value, if it has one.
-fn of_some(formula: &[String]) -> Option<Vec<[String; 2]>> {
+/// The equations of `IfSome result (λ x. formula)`, or of `IfOk`, with the answer for x: what is said of its value, if it has one.
+fn of_value(formula: &[String]) -> Option<Vec<[String; 2]>> {
     let [word, value, function] = &arguments(formula)[..] else {
         return None;
     };
@@ -410,7 +410,8 @@ fn of_some(formula: &[String]) -> Option<Vec<[String; 2]>> {
         _ => word,
     };
     let inside: Words = words(inside).into_iter().map(named).collect();
-    (word == "IfSome" && value == ANSWER).then(|| promised(&bare(&inside)))
+    (["IfSome", "IfOk"].contains(&word.as_str()) && value == ANSWER)
+        .then(|| promised(&bare(&inside)))
 }
 
 /// The arguments of an application: words, or what stands in brackets.
@@ -501,7 +502,8 @@ impl Function {
 }
 
 /// Whether the sides have a value of this type: itself, the text that it prints as, all fields of a struct, all that the definitions
-/// make of it, for an enum or what a trait knows the bytes of, or of an `Option` whether it has a value and what that is.
+/// make of it, for an enum or what a trait knows the bytes of, or of an `Option` or
+/// `Result` whether it has a value and what that is.
 fn says_all(given: &[String], value: &str, kind: &str, structs: &Structs) -> bool {
     if kind.starts_with('&') {
         return given.contains(&format!("{value}.now"));
@@ -513,6 +515,11 @@ fn says_all(given: &[String], value: &str, kind: &str, structs: &Structs) -> boo
     if let Some((_, definitions)) = MADE.iter().find(|(name, _)| *name == kind) {
         let says = |name: &&str| given.iter().any(|side| is_made(side, name, value));
         return definitions.iter().all(says);
+    }
+    let kept = kind.strip_prefix("Result<");
+    if let Some(kind) = kept.and_then(|kind| kind.strip_suffix(", Refusal>")) {
+        let is_told = given.iter().any(|side| is_made(side, "number_of", value));
+        return is_told && says_all(given, value, kind, structs);
     }
     let optional = kind.strip_prefix("Option<");
     if let Some(kind) = optional.and_then(|kind| kind.strip_suffix('>')) {

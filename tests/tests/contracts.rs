@@ -305,6 +305,10 @@ fn an_answer_is_set_equal_to_something() {
             "Shown<'a>",
             "ensures { (result.part.now ≡ x) × (result.count ≡ y) }",
         ),
+        (
+            "Result<Count, Refusal>",
+            "ensures { number_of result ≡ f x }\n    ensures { IfOk result (λ c. (c.number ≡ 0) × (c.made ≡ x)) }",
+        ),
         ("Self", "ensures { bytes result ≡ xor_b (bytes x) y }"),
         (
             "Option<Count>",
@@ -353,6 +357,10 @@ fn less_is_no_answer() {
             "ensures { changed_answer result ≡ a }",
         ),
         ("Shown<'a>", "ensures { result.part.now ≡ x }"),
+        (
+            "Result<Count, Refusal>",
+            "ensures { number_of result ≡ f x }\n    ensures { IfOk result (λ c. c.number ≡ 0) }",
+        ),
         (
             "Shown<'a>",
             "ensures { (result.part.ref_ptr ≡ x) × (result.count ≡ y) }",
