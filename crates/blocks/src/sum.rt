@@ -1,5 +1,6 @@
 // The xor of all places of a stripe but one disk's: the disks in groups, the block in parts. A part stays in registers from disk to disk,
 // where a sum disk by disk would be loaded and stored again for each. The first group begins from zeroes: the block is not cleared before.
+// (GroupBegun and PartBegun stay clauses: they tie group, images and block, and a struct of the three would have to be made for each part.)
 ghost use Rattle.std.specs.Prelude.{◌≡◌, ◌+◌, ◌*◌, ◌≤◌, ◌<◌, length};
 ghost use Rattle.blocks.specs.Block.{block_at, zeros};
 ghost use Rattle.blocks.specs.Stripe.{others};
@@ -86,7 +87,7 @@ fn add_group(images: &[u8], x: Group, block: &mut [u8])
     add_part::<HALF>(images, x, at, len - at, block);
 }
 
-// Sets block to the xor of the places of stripe s on all disks but `out`.
+// Sets block to the xor of the places of stripe s on all disks but `out`. (The numbers stay apart, as those who call have them.)
 pub fn xor_others(
     images: &[u8],
     disks: usize,

@@ -98,6 +98,7 @@ pub extern "C" fn pbm_owner(rec: &[u8], s: u64, d: u64, role: &mut u64, block: &
     }
 }
 
+// (Numbers for kinds, as C has them.)
 fn role_number(o: Role) -> u64
     ensures number { result ≡ role_number o }
 {

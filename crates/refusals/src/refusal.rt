@@ -1,5 +1,5 @@
 // The table of refusals, call by call: the first row whose condition holds. Nothing is looked at but the record, the numbers given and the
-// lengths lent.
+// lengths lent. (That a call is let through stays a clause of its act, `refusal_of .. ≡ 0`: no two acts ask the same.)
 ghost use Rattle.std.specs.Prelude.{◌≡◌, ◌≤◌, ltb, IfOk};
 ghost use Rattle.layout.specs.Layout.{capacity};
 ghost use Rattle.state.specs.Good.{geometry};

@@ -1,5 +1,6 @@
 // The record's bytes, in and out. Reading tests nothing: `is_plain` and `is_good` are apart, so that no caller tests twice. Offsets are
-// bare numbers, as in `RoundTrip.offsets`: a named one would ask for a proof of each sum, and save no edit.
+// bare numbers, as in `RoundTrip.offsets`: a named one would ask for a proof of each sum, and save no edit. (The bytes stay a slice, whose
+// length contracts ask for: `[u8; 20]` would ask more of those who are lent a slice.)
 ghost use Rattle.std.specs.Prelude.{◌≡◌, length};
 ghost use Rattle.state.specs.Bytes.{record_length, done_from, health_of, decode, health_plain, plain};
 ghost use Rattle.state.specs.Bytes.{health_byte, disk_byte, stripes_done, encode};
@@ -67,7 +68,7 @@ pub fn decode(bytes: &[u8]) -> Record
     }
 }
 
-// Byte 2.
+// Byte 2. (A number for each kind, as document 01 has the record's bytes.)
 pub fn health_byte(health: Health) -> u8
     ensures { result ≡ health_byte health }
 {
