@@ -157,10 +157,10 @@ const BY_LAW: &[(&str, &str, &[&str])] = &[
         "`of-grow`",
         &["calls/limit_before_grown"],
     ),
-    // where a view begins is said in bare numbers
+    // where a view begins, of what is chosen; then `view-begins` has it in bare numbers
     (
-        "proofs/Theorem.antt:",
-        "`view-begins`",
+        "proofs/Laws/Viewing.antt:",
+        "`let_through`",
         &["access/view_elsewhere"],
     ),
     // the version is a bare number
