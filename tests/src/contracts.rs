@@ -306,6 +306,10 @@ const ANSWER: &str = "result";
 /// Types that have values, so that what is said of all of them says something.
 const INHABITED: &[&str] = &["ℕ", "Record", "List ℕ"];
 
+/// Records of equations that contracts cite: name, and the argument that each equation is about. `Stored out at text after next`
+/// says what `after` and `next` are.
+pub const RECORDS: &[(&str, &[usize])] = &[("Stored", &[3, 4])];
+
 /// What definitions make of an answer that is an enum, a `Result`, or of a type of which a trait knows the bytes
 /// alone; those of one type together leave nothing of it open.
 const MADE: &[(&str, &[&str])] = &[
@@ -381,7 +385,7 @@ fn promised(formula: &[String]) -> Vec<[String; 2]> {
     }
     match &parts(conclusion, "≡")[..] {
         [left, right] => vec![[left.join(" "), right.join(" ")]],
-        _ => of_value(conclusion).unwrap_or_default(),
+        _ => cited(conclusion),
     }
 }
 
@@ -412,6 +416,23 @@ fn of_value(formula: &[String]) -> Option<Vec<[String; 2]>> {
     let inside: Words = words(inside).into_iter().map(named).collect();
     (["IfSome", "IfOk"].contains(&word.as_str()) && value == ANSWER)
         .then(|| promised(&bare(&inside)))
+}
+
+/// The equations of a record that the formula cites, or of `IfSome` or `IfOk`.
+fn cited(formula: &[String]) -> Vec<[String; 2]> {
+    if let Some(equations) = of_value(formula) {
+        return equations;
+    }
+    let is_cited = |name: &str| formula.first().is_some_and(|first| first == name);
+    let known = RECORDS.iter().find(|(name, _)| is_cited(name));
+    let Some((name, about)) = known else {
+        return Vec::new();
+    };
+    let arguments = arguments(&formula[1..]);
+    about
+        .iter()
+        .map(|&at| [arguments[at].clone(), format!("what {name} says")])
+        .collect()
 }
 
 /// The arguments of an application: words, or what stands in brackets.
@@ -501,15 +522,13 @@ impl Function {
     }
 }
 
-/// Whether the sides have a value of this type: itself, the text that it prints as, all fields of a struct, all that the definitions
-/// make of it, for an enum or what a trait knows the bytes of, or of an `Option` or
-/// `Result` whether it has a value and what that is.
+/// Whether the sides have a value of this type: itself, all fields of a struct, all that the definitions make of it, for an enum or
+/// what a trait knows the bytes of, or of an `Option` or `Result` whether it has a value and what that is.
 fn says_all(given: &[String], value: &str, kind: &str, structs: &Structs) -> bool {
     if kind.starts_with('&') {
         return given.contains(&format!("{value}.now"));
     }
-    let text = format!("⟦<{kind} as fmt::Display>⟧.output {value}");
-    if given.iter().any(|side| side == value || *side == text) {
+    if given.iter().any(|side| side == value) {
         return true;
     }
     if let Some((_, definitions)) = MADE.iter().find(|(name, _)| *name == kind) {
@@ -524,23 +543,12 @@ fn says_all(given: &[String], value: &str, kind: &str, structs: &Structs) -> boo
     let optional = kind.strip_prefix("Option<");
     if let Some(kind) = optional.and_then(|kind| kind.strip_suffix('>')) {
         let is_told = given.iter().any(|side| is_made(side, "is_some", value));
-        let fields = structs.get(kind).map_or(&[][..], |fields| fields);
-        return given.iter().any(|side| maps_fields(side, value, fields))
-            || is_told && says_all(given, value, kind, structs);
+        return is_told && says_all(given, value, kind, structs);
     }
     structs.get(head(kind)).is_some_and(|fields| {
         let says =
             |f: &Parameter| says_all(given, &format!("{value}.{}", f.name), &f.kind, structs);
         !fields.is_empty() && fields.iter().all(says)
-    })
-}
-
-/// Whether a side makes an Option of a struct one of all its fields: `option_map (λ x. (x.a, x.b)) value`.
-fn maps_fields(side: &str, value: &str, fields: &[Parameter]) -> bool {
-    let rest = side.strip_prefix("option_map ( λ ").unwrap_or_default();
-    rest.split_once(". ").is_some_and(|(x, _)| {
-        let all: Vec<String> = fields.iter().map(|f| format!("{x}.{}", f.name)).collect();
-        side == format!("option_map ( λ {x}. ( {} ) ) {value}", all.join(", "))
     })
 }
 

@@ -379,7 +379,7 @@ fn every_name_is_pinned() {
     let statements = rows(&document);
     let names = names_to_pin(&statements);
     let has = |name: &str| names.iter().any(|n| n.name == name);
-    for name in ["total_of", "view_of", "GoodRecord", "lines_of"] {
+    for name in ["total_of", "view_of", "GoodRecord", "written"] {
         assert!(has(name), "the search finds {name}");
     }
     assert!(!has("Answer") && !has("refused") && !has("Record"));

@@ -1,25 +1,162 @@
 -- The theorem of `specs/Exact.antt`. Assumes nothing.
-use Prim.Native.Nat.{ℕ, ◌+◌, ◌-◌, ◌≤◌, ◌<◌}
-use mathlib.Core.Path.{◌≡◌, refl, sym, ap, subst, ◌∙◌}
-use mathlib.Core.Bool.{Bool, true, false, cond}
+use Prim.Native.Nat.{ℕ, ◌+◌, ◌≤◌, ◌<◌}
+use mathlib.Core.Path.{◌≡◌, refl, sym, ap, ◌∙◌}
+use mathlib.Core.Bool.{and-false}
 use mathlib.Core.List.{List, [], ◌∷◌, ◌++◌, append_assoc}
 use mathlib.Core.Logic.{inl, inr, ◌↔◌, ◌≢◌}
 use native.Mathlib.Omega.{arith}
-use lib.ListN.{length, get_or, take, drop, length-append, get_or-append, take-append-drop}
-use lib.Seq.{drop-append_seam, take-append-add, get_or-append_right}
-use Rattle.std.specs.Prelude.{Some, None, Option, unwrap_or, decimal}
-use Rattle.std.specs.Fmt.{digits}
-use Rattle.std.proofs.lemmas.Bool.Decides.{leb_tells}
-use Rattle.std.proofs.lemmas.Fmt.{length-decimal-le}
-use Rattle.layout.specs.declared.Move.{Move}
-use Rattle.layout.specs.Moves.{move_of, move_zone, move_within, move_from, move_to, move_lag}
-use Rattle.zone_moves.specs.Request.{Limited, in_limits, field, ask_zone, ask_new, ask_old, request_of}
-use Rattle.zone_moves.specs.Listing.{column, line_of, lines_of, zone_moves, refusal, answered, answer}
+use lib.ListN.{length, get_or, take, drop}
+use lib.Seq.{drop-append_seam, get_or-take}
+use Rattle.layout.specs.Moves.{move_zone, move_within, move_from, move_to, move_lag}
+use Rattle.zone_moves.specs.declared.parse.Field.TheVariants.{Bad}
+use Rattle.zone_moves.specs.declared.parse.Field.{Field}
+use Rattle.zone_moves.specs.declared.parse.Request.TheVariants.{Zone, Refused}
+use Rattle.zone_moves.specs.declared.parse.Request.{Request}
+use Rattle.zone_moves.specs.Decimal.{spell, decimal}
+use Rattle.zone_moves.specs.Request.{Limited, is_digit, in_limits, field_of, field_at, ask_zone, ask_new, ask_old, request_of}
+use Rattle.zone_moves.specs.Listing.{column, move_line, lines_of, indices, zone_moves, refusal, answered, answer, written}
 use Rattle.zone_moves.specs.Exact.{line, ZoneMoves, text, Examples, Exact}
-use Rattle.zone_moves.proofs.Laws.Reading.{field-text, field-reads}
+use Rattle.zone_moves.proofs.Laws.Fields.{limited, limits-pass, zone-asked, Seen, one, two, none, look, Ends, ends, nowhere, field-ends, Line, asks, other, look-line}
+use Rattle.zone_moves.proofs.Laws.Reading.{field-text, field-reads, drop_more}
 use Rattle.zone_moves.proofs.Laws.Indices.{zone-moves}
 use Rattle.zone_moves.proofs.Laws.Decimals.{spelled}
 use Rattle.layout.proofs.Laws.Basics.{le-or-lt}
+
+-- ---- what is meant is read
+
+line_reads : (n m z : ℕ) (rest : List ℕ) → Limited n m z → request_of (line n m z ++ rest) ≡ Zone n m z
+unfolding line
+line_reads n m z rest l =
+    let s : List ℕ = column n 32 ++ column m 32 ++ column z 10 ++ rest in
+    let e : drop 0 s ≡ column n 32 ++ (column m 32 ++ (column z 10 ++ rest)) = simp append_assoc in
+    let f = drop_more s 0 (column n 32) (column m 32 ++ (column z 10 ++ rest)) e in
+    let g = drop_more s (0 + length (column n 32)) (column m 32) (column z 10 ++ rest) f in
+    zone-asked s
+    (field-reads s 0 n 32 _ (omega arith) (omega arith) e)
+    (field-reads s (0 + length (column n 32)) m 32 _ (omega arith) (omega arith) f)
+    (field-reads s (0 + length (column n 32) + length (column m 32)) z 10 rest (omega arith) (omega arith) g)
+    (limits-pass l)
+
+-- and answered by the lines of its zone's moves
+line-zone : (n m z : ℕ) (rest : List ℕ) → Limited n m z → (ks : List ℕ) × ZoneMoves n m z ks × (answer (line n m z ++ rest) ≡ lines_of n m ks)
+unfolding answer answered
+line-zone n m z rest l =
+    (zone_moves n m z, zone-moves n m z (omega (arith, l.disks.n_low)) l.new, ap answered (line_reads n m z rest l))
+
+-- ---- what is read is meant
+
+-- a text and a rest are the text and what stands after it
+behind : (s t rest : List ℕ) → s ≡ t ++ rest → s ≡ t ++ drop (length t) s
+behind s t rest e = e ∙ ap (λ (l : List ℕ). t ++ l) (sym (ap (drop (length t)) e ∙ drop-append_seam t rest))
+
+line-only : {s : List ℕ} {n m z : ℕ} {r : Request} → Line s r → r ≡ Zone n m z → Limited n m z × (s ≡ line n m z ++ drop (length (line n m z)) s)
+unfolding line
+line-only {s} {n} {m} {z} (asks n' a m' b z' c e h k l) q =
+    let x : n ≡ n' = cc in
+    let y : m ≡ m' = cc in
+    let w : z ≡ z' = cc in
+    let t : List ℕ = column n' 32 ++ column m' 32 ++ column z' 10 in
+    let f : s ≡ t ++ drop c s =
+    field-text s 0 32 (omega arith) e
+    ∙ ap (λ (i : List ℕ). column n' 32 ++ i) (field-text s a 32 (omega arith) h ∙ ap (λ (i : List ℕ). column m' 32 ++ i) (field-text s b 10 (omega arith) k))
+    ∙ simp append_assoc in
+    rw (x, y, w) (limited n' m' z' l, behind s t (drop c s) f)
+line-only other q = let i : ◌≡◌ {A = ℕ} 0 1 = cc in absurd (omega arith)
+
+-- and all else is refused
+line_refused : (s : List ℕ) → ((n m z : ℕ) (rest : List ℕ) → Limited n m z → s ≢ line n m z ++ rest) → answer s ≡ refusal
+unfolding answer answered
+line_refused s h = go (request_of s) refl
+  where
+    go : (r : Request) → request_of s ≡ r → answered r ≡ refusal
+    go Refused e = refl
+    go (Zone n m z) e = let p = line-only (look-line s) e in absurd (h n m z (drop (length (line n m z)) s) p.0 p.1)
+
+-- ---- what is not read does not matter
+
+-- t has the same fields as s up to k, and the first two end at j and at k or before them
+module _ (t s : List ℕ) (j k : ℕ) (low : j ≤ k) (same : (at stop : ℕ) → at ≤ k → field_at t at stop ≡ field_at s at stop) (second : (at : ℕ) → at ≤ j → Ends k (field_at s at 32)) where
+  new-same : (n : ℕ) {f : Field} → Ends k f → ask_new t n f ≡ ask_new s n f
+  unfolding ask_new
+  new-same n (ends {v = m} next h) = ap (ask_zone n m) (same next 10 h)
+  new-same n nowhere = refl
+
+  old-same : {f : Field} → Ends j f → ask_old t f ≡ ask_old s f
+  unfolding ask_old
+  old-same (ends {v = n} next h) = ap (ask_new t n) (same next 32 (omega arith)) ∙ new-same n (second next h)
+  old-same nowhere = refl
+
+  request-same : Ends j (field_at s 0 32) → request_of t ≡ request_of s
+  unfolding request_of
+  request-same e = ap (ask_old t) (same 0 32 (omega arith)) ∙ old-same e
+
+answer-of : (t s : List ℕ) → request_of t ≡ request_of s → answer t ≡ answer s
+unfolding answer
+answer-of t s e = ap answered e
+
+-- a field that ends within the first k bytes is in them
+take-field : (s : List ℕ) (k at stop : ℕ) → at + 2 < k → field_at (take k s) at stop ≡ field_at s at stop
+unfolding field_at
+take-field s k at stop h = rw (get_or-take k s at 0 (omega arith), get_or-take k s (at + 1) 0 (omega arith), get_or-take k s (at + 2) 0 (omega arith))
+
+-- nine bytes are enough
+nine : (s : List ℕ) → request_of (take 9 s) ≡ request_of s
+nine s =
+    request-same (take 9 s) s 3 6 (omega arith) (λ at stop h. take-field s 9 at stop (omega arith)) (λ at h. field-ends s at 32 6 (omega arith))
+    (field-ends s 0 32 3 (omega arith))
+
+-- no field goes past a line feed: it is no digit, and ends a field only as the byte that it is to end with
+at-feed : (b c at stop : ℕ) → field_of 10 b c at stop ≡ Bad
+unfolding field_of is_digit
+at-feed b c at stop = refl
+
+before-feed : (a c c' at stop : ℕ) → field_of a 10 c at stop ≡ field_of a 10 c' at stop
+unfolding field_of is_digit
+before-feed a c c' at stop = simp and-false
+
+module _ (s : List ℕ) (k : ℕ) (feed : get_or s k 0 ≡ 10) where
+  there : (i : ℕ) → i ≡ k → get_or s i 0 ≡ 10
+  there i e = ap (λ (x : ℕ). get_or s x 0) e ∙ feed
+
+  kept : (i : ℕ) → i ≤ k → get_or (take (k + 1) s) i 0 ≡ get_or s i 0
+  kept i h = get_or-take (k + 1) s i 0 (omega arith)
+
+  feed-field : (at stop : ℕ) → at ≤ k → field_at (take (k + 1) s) at stop ≡ field_at s at stop
+  unfolding field_at
+  feed-field at stop h =
+      elim (le-or-lt (at + 2) k) [
+        | inl g ↦ take-field s (k + 1) at stop (omega arith)
+        | inr g ↦
+            elim (le-or-lt (at + 1) k) [
+              | inl f ↦
+                  rw (kept at h, kept (at + 1) f, there (at + 1) (omega arith))
+                  (before-feed (get_or s at 0) (get_or (take (k + 1) s) (at + 2) 0) (get_or s (at + 2) 0) at stop)
+              | inr f ↦ rw (kept at h, there at (omega arith)) (at-feed _ _ at stop ∙ sym (at-feed _ _ at stop))
+            ]
+      ]
+
+  short : (i : ℕ) → i ≤ k → (get_or s i 0 ≡ 10 → ⊥) → i < k
+  short i h n = elim (le-or-lt k i) [ inl g ↦ absurd (n (there i (omega arith))) | inr g ↦ g ]
+
+  -- a field that ends with a space ends before the line feed
+  seen-before : {at : ℕ} {f : Field} → at ≤ k → Seen (get_or s at 0) (get_or s (at + 1) 0) (get_or s (at + 2) 0) at 32 f → Ends k f
+  seen-before {at} h (one d e) =
+      let x : at < k = short at h (λ i. omega arith) in
+      let y : at + 1 < k = short (at + 1) (omega arith) (λ i. omega arith) in
+      ends (at + 2) (omega arith)
+  seen-before {at} h (two d nz d' e) =
+      let x : at < k = short at h (λ i. omega arith) in
+      let y : at + 1 < k = short (at + 1) (omega arith) (λ i. omega arith) in
+      let z : at + 2 < k = short (at + 2) (omega arith) (λ i. omega arith) in
+      ends (at + 3) (omega arith)
+  seen-before h none = nowhere
+
+  feed-ends : (at : ℕ) → at ≤ k → Ends k (field_at s at 32)
+  unfolding field_at
+  feed-ends at h = seen-before h (look (get_or s at 0) (get_or s (at + 1) 0) (get_or s (at + 2) 0) at 32)
+
+  line-enough : request_of (take (k + 1) s) ≡ request_of s
+  line-enough = request-same (take (k + 1) s) s k k (omega arith) feed-field feed-ends (feed-ends 0 (omega arith))
 
 -- ---- the limits
 
@@ -29,152 +166,29 @@ limits-are n m z = (
   λ (a, b, c, d, e). record { disks = record { n_low = a; n_high = b; m_high = d }; new = c; zone = e },
 )
 
-limited : (n m z : ℕ) → in_limits n m z ≡ true → Limited n m z
-limited n m z e = (limits-are n m z).1 (grind (arith, leb_tells))
-
-limits-pass : {n m z : ℕ} → Limited n m z → in_limits n m z ≡ true
-limits-pass {n} {m} {z} l = let a = (limits-are n m z).0 l in grind (arith, leb_tells)
-
--- ---- what is meant is read
-
-line_reads : (n m z : ℕ) (rest : List ℕ) → Limited n m z → request_of (line n m z ++ rest) ≡ Some (n, m, z)
-unfolding line
-line_reads n m z rest l =
-    let s : line n m z ++ rest ≡ column n 32 ++ (column m 32 ++ (column z 10 ++ rest)) = simp append_assoc in
-    ap request_of s ∙ ap ask_old (field-reads n 32 _ (omega arith) (omega arith)) ∙ ap (ask_new n) (field-reads m 32 _ (omega arith) (omega arith))
-    ∙ ap (ask_zone n m) (field-reads z 10 rest (omega arith) (omega arith))
-    ∙ rw (limits-pass l) refl
-
--- and answered by the lines of its zone's moves
-line-zone : (n m z : ℕ) (rest : List ℕ) → Limited n m z → (ks : List ℕ) × ZoneMoves n m z ks × (answer (line n m z ++ rest) ≡ lines_of n m ks)
-line-zone n m z rest l = (zone_moves n m z, zone-moves n m z (omega (arith, l.disks.n_low)) l.new, ap answered (line_reads n m z rest l))
-
--- ---- what is read is meant
-
--- s is a line that asks for zone z, and a rest
-record Asks (s : List ℕ) (n m z : ℕ) : Type 0 where
-  limits : Limited n m z
-  rest : List ℕ
-  is : s ≡ line n m z ++ rest
-
-three-fields : {s t u : List ℕ} (n m z : ℕ) (rest : List ℕ) → s ≡ column n 32 ++ t → t ≡ column m 32 ++ u → u ≡ column z 10 ++ rest → s ≡ line n m z ++ rest
-unfolding line
-three-fields n m z rest e f g = e ∙ ap (λ (l : List ℕ). column n 32 ++ l) (f ∙ ap (λ (l : List ℕ). column m 32 ++ l) g) ∙ simp append_assoc
-
-asks : (s : List ℕ) {n m z : ℕ} → request_of s ≡ Some (n, m, z) → Asks s n m z
-asks s {n} {m} {z} = old (field s 32) refl
-  where
-    limits : (a b c : ℕ) {t u : List ℕ} (rest : List ℕ) (test : Bool) → in_limits a b c ≡ test → s ≡ column a 32 ++ t → t ≡ column b 32 ++ u → u ≡ column c 10 ++ rest
-        → cond {A = Option (ℕ × ℕ × ℕ)} test (Some (a, b, c)) None ≡ Some (n, m, z) → Asks s n m z
-    limits a b c rest true l e f g q =
-        subst (λ (p : ℕ × ℕ × ℕ). Asks s p.0 p.1 p.2) (ap (λ (r : Option (ℕ × ℕ × ℕ)). unwrap_or r (0, 0, 0)) q)
-        (record { limits = limited a b c l; rest = rest; is = three-fields a b c rest e f g })
-    limits a b c rest false l e f g q = cc
-
-    zone : (a b : ℕ) {t : List ℕ} (u : List ℕ) (r : Option (ℕ × List ℕ)) → field u 10 ≡ r → s ≡ column a 32 ++ t → t ≡ column b 32 ++ u → ask_zone a b r ≡ Some (n, m, z) → Asks s n m z
-    zone a b u None h e f q = cc
-    zone a b u (Some (c, rest)) h e f q = limits a b c rest (in_limits a b c) refl e f (field-text u 10 h).1 q
-
-    new : (a : ℕ) (t : List ℕ) (r : Option (ℕ × List ℕ)) → field t 32 ≡ r → s ≡ column a 32 ++ t → ask_new a r ≡ Some (n, m, z) → Asks s n m z
-    new a t None h e q = cc
-    new a t (Some (b, u)) h e q = zone a b u (field u 10) refl e (field-text t 32 h).1 q
-
-    old : (r : Option (ℕ × List ℕ)) → field s 32 ≡ r → ask_old r ≡ Some (n, m, z) → Asks s n m z
-    old None h q = cc
-    old (Some (a, t)) h q = new a t (field t 32) refl (field-text s 32 h).1 q
-
-line-only : (s : List ℕ) (n m z : ℕ) → request_of s ≡ Some (n, m, z) → Limited n m z × (s ≡ line n m z ++ drop (length (line n m z)) s)
-line-only s n m z e =
-    let a = asks s e in
-    (a.limits, a.is ∙ ap (λ (l : List ℕ). line n m z ++ l) (sym (ap (drop (length (line n m z))) a.is ∙ drop-append_seam (line n m z) a.rest)))
-
--- and all else is refused
-line_refused : (s : List ℕ) → ((n m z : ℕ) (rest : List ℕ) → Limited n m z → s ≢ line n m z ++ rest) → answer s ≡ refusal
-line_refused s h = go (request_of s) refl
-  where
-    go : (r : Option (ℕ × ℕ × ℕ)) → request_of s ≡ r → answered r ≡ refusal
-    go None e = refl
-    go (Some (n, m, z)) e = let a = asks s e in absurd (h n m z a.rest a.limits a.is)
-
--- ---- what is not read does not matter
-
-answer-none : (s : List ℕ) → request_of s ≡ None → answer s ≡ refusal
-answer-none s e = ap answered e
-
--- the first k bytes are answered as all are, if any line that stands there is among them
-take-answer : (s : List ℕ) (k : ℕ) → ((n m z : ℕ) (rest : List ℕ) → Limited n m z → s ≡ line n m z ++ rest → length (line n m z) ≤ k) → answer (take k s) ≡ answer s
-take-answer s k h = go (request_of s) refl
-  where
-    go : (r : Option (ℕ × ℕ × ℕ)) → request_of s ≡ r → answer (take k s) ≡ answer s
-    go None e = line_refused (take k s) (λ n m z rest l f.
-        let g : s ≡ line n m z ++ (rest ++ drop k s) = sym (take-append-drop k s) ∙ ap (λ (t : List ℕ). t ++ drop k s) f ∙ append_assoc (line n m z) rest (drop k s) in
-        let q : ◌≡◌ {A = Option (ℕ × ℕ × ℕ)} None (Some (n, m, z)) = sym e ∙ ap request_of g ∙ line_reads n m z (rest ++ drop k s) l in
-        cc) ∙ sym (answer-none s e)
-    go (Some (n, m, z)) e =
-        let a = asks s e in
-        let t : List ℕ = line n m z in
-        let w : length t ≤ k = h n m z a.rest a.limits a.is in
-        let i : k ≡ length t + (k - length t) = omega arith in
-        let f : take k s ≡ t ++ take (k - length t) a.rest = ap (take k) a.is ∙ ap (λ (j : ℕ). take j (t ++ a.rest)) i ∙ take-append-add t a.rest (k - length t) in
-        ap answered (ap request_of f ∙ line_reads n m z _ a.limits ∙ sym e)
-
--- ---- how long a line is, and where its line feed stands
-
-short : (x stop : ℕ) → x < 100 → length (column x stop) ≤ 3
-short x stop h = omega (arith, length-append (decimal x) (stop ∷ []), length-decimal-le 2 x (omega arith) (omega arith) (omega arith))
-
-nine : (n m z : ℕ) → Limited n m z → length (line n m z) ≤ 9
-unfolding line
-nine n m z l = omega (arith, length-append (column n 32 ++ column m 32) (column z 10), length-append (column n 32) (column m 32), short n 32 (omega arith), short m 32 (omega arith), short z 10 (omega arith))
-
--- no byte of a text is a line feed
-abbrev NoFeed : List ℕ → Type 0
-NoFeed t = (j : ℕ) → j < length t → get_or t j 0 ≢ 10
-
-no-feed-append : (s t : List ℕ) → NoFeed s → NoFeed t → NoFeed (s ++ t)
-no-feed-append s t a b j h e =
-    elim (le-or-lt (length s) j) [
-      | inl l ↦ b (j - length s) (omega (arith, length-append s t)) (sym (get_or-append_right s t j 0 l) ∙ e)
-      | inr l ↦ a j l (sym (get_or-append s t 0 j l) ∙ e)
-    ]
-
-no-feed-decimal : (x : ℕ) → x < 100 → NoFeed (decimal x)
-no-feed-decimal x h j k e = let b = (spelled x (omega arith)).bytes j k in absurd (omega arith)
-
-no-feed-column : (x : ℕ) → x < 100 → NoFeed (column x 32)
-no-feed-column x h = no-feed-append (decimal x) (32 ∷ []) (no-feed-decimal x h) (λ j k e. let i : j ≡ 0 = omega arith in absurd (let f : 32 ≡ 10 = rw i at e in omega arith))
-
--- a line feed at k is that of the line, or stands after it
-feed : (n m z : ℕ) (s rest : List ℕ) (k : ℕ) → Limited n m z → s ≡ line n m z ++ rest → get_or s k 0 ≡ 10 → length (line n m z) ≤ k + 1
-unfolding line
-feed n m z s rest k l e f =
-    let t : List ℕ = column n 32 ++ column m 32 ++ decimal z in
-    let free : NoFeed t = no-feed-append (column n 32 ++ column m 32) (decimal z)
-    (no-feed-append (column n 32) (column m 32) (no-feed-column n (omega arith)) (no-feed-column m (omega arith)))
-    (no-feed-decimal z (omega arith)) in
-    let whole : s ≡ t ++ (10 ∷ rest) = e ∙ simp append_assoc in
-    elim (le-or-lt (length t) k) [
-      | inl h ↦ omega (arith, length-append (column n 32 ++ column m 32) (column z 10), length-append (column n 32 ++ column m 32) (decimal z), length-append (decimal z) (10 ∷ []))
-      | inr h ↦ absurd (free k h (sym (get_or-append t (10 ∷ rest) 0 k h) ∙ ap (λ (i : List ℕ). get_or i k 0) (sym whole) ∙ f))
-    ]
-
 -- ---- the text of a line
-
-asked_is : (n m z : ℕ) → line n m z ≡ decimal n ++ (32 ∷ decimal m) ++ (32 ∷ decimal z) ++ (10 ∷ [])
-unfolding line
-asked_is n m z = simp append_assoc
 
 cons-append : (x : ℕ) (xs ys : List ℕ) → (x ∷ xs) ++ ys ≡ x ∷ (xs ++ ys)
 cons-append x xs ys = refl
 
-line-printed : (k : ℕ) (r : Move) (rest : List ℕ) → line_of k r ++ rest
-    ≡ decimal k ++ (32 ∷ decimal r.zone) ++ (32 ∷ decimal r.within) ++ (32 ∷ decimal r.from) ++ (32 ∷ decimal r.to) ++ (10 ∷ rest)
-line-printed k r rest = simp (append_assoc, cons-append)
+asked_is : (n m z : ℕ) → line n m z ≡ decimal n ++ (32 ∷ decimal m) ++ (32 ∷ decimal z) ++ (10 ∷ [])
+unfolding line column
+asked_is n m z = simp append_assoc
+
+printed-is : (n m k : ℕ) (ks : List ℕ) → lines_of n m (k ∷ ks)
+    ≡ decimal k ++ (32 ∷ decimal (move_zone n m k)) ++ (32 ∷ decimal (move_within n m k)) ++ (32 ∷ decimal (move_from n m k))
+    ++ (32 ∷ decimal (move_to n m k)) ++ (10 ∷ lines_of n m ks)
+unfolding lines_of move_line column
+printed-is n m k ks = simp (append_assoc, cons-append)
+
+no-more-is : (n m : ℕ) → lines_of n m [] ≡ []
+unfolding lines_of
+no-more-is n m = refl
 
 -- ---- the examples
 
 pub computed : Examples
-unfolding digits move_zone move_within move_from move_to move_lag text
+unfolding answer answered request_of ask_old ask_new ask_zone field_at field_of is_digit in_limits zone_moves indices lines_of move_line column decimal spell move_zone move_within move_from move_to move_lag text
 computed =
     record {
       numbers = (refl, refl, refl, refl, refl, refl, refl, refl);
@@ -194,19 +208,20 @@ computed =
 -- ---- the theorem
 
 pub exact : Exact
+unfolding column written
 exact =
     record {
       reads = line_reads;
       zone = line-zone;
-      only = line-only;
+      only = λ s n m z e. line-only (look-line s) e;
       refused = line_refused;
-      first_nine = λ s. take-answer s 9 (λ n m z rest l e. nine n m z l);
-      first_line = λ s k f. take-answer s (k + 1) (λ n m z rest l e. feed n m z s rest k l e f);
+      first_nine = λ s. answer-of (take 9 s) s (nine s);
+      first_line = λ s k e. answer-of (take (k + 1) s) s (line-enough s k e);
       limits = limits-are;
       decimals = spelled;
       asked = asked_is;
-      printed = λ n m k ks. line-printed k (move_of n m k) (lines_of n m ks);
-      no_more = λ n m. refl;
+      printed = printed-is;
+      no_more = no-more-is;
       columns = λ x stop. refl;
       stored = λ out text at. refl;
       examples = computed;

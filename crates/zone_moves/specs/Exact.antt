@@ -1,7 +1,8 @@
 -- What the program's theorem says: just the lines that are meant are answered, by the moves of the zone that they name.
 use Rattle.std.specs.Prelude.{ℕ, ◌+◌, ◌-◌, ◌*◌, ◌≤◌, ◌<◌, ◌≡◌, cond, List, [], ◌∷◌, ◌++◌, ◌↔◌, ◌≢◌, ltb, length, get_or, take, drop}
-use Rattle.std.specs.Prelude.{Some, decimal}
 use Rattle.layout.specs.Moves.{move_zone, move_within, move_from, move_to}
+use Rattle.zone_moves.specs.declared.parse.Request.TheVariants.{Zone}
+use Rattle.zone_moves.specs.Decimal.{decimal}
 use Rattle.zone_moves.specs.Request.{Limited, request_of}
 use Rattle.zone_moves.specs.Listing.{column, lines_of, zone_moves, refusal, answer, written}
 
@@ -93,12 +94,12 @@ pub record Examples : Type 0 where
 
 pub record Exact : Type 0 where
   -- a line with numbers in the limits asks for their zone, whatever stands after it
-  pub reads : (n m z : ℕ) (rest : List ℕ) → Limited n m z → request_of (line n m z ++ rest) ≡ Some (n, m, z)
+  pub reads : (n m z : ℕ) (rest : List ℕ) → Limited n m z → request_of (line n m z ++ rest) ≡ Zone n m z
   -- and is answered by the lines of that zone's moves
   pub zone : (n m z : ℕ) (rest : List ℕ) → Limited n m z
       → (ks : List ℕ) × ZoneMoves n m z ks × (answer (line n m z ++ rest) ≡ lines_of n m ks)
   -- nothing else asks for a zone
-  pub only : (s : List ℕ) (n m z : ℕ) → request_of s ≡ Some (n, m, z) → Limited n m z × (s ≡ line n m z ++ drop (length (line n m z)) s)
+  pub only : (s : List ℕ) (n m z : ℕ) → request_of s ≡ Zone n m z → Limited n m z × (s ≡ line n m z ++ drop (length (line n m z)) s)
   -- and what is no such line is refused
   pub refused : (s : List ℕ) → ((n m z : ℕ) (rest : List ℕ) → Limited n m z → s ≢ line n m z ++ rest) → answer s ≡ refusal
   -- nine bytes of the input are enough
@@ -116,7 +117,7 @@ pub record Exact : Type 0 where
       ++ (sp ∷ decimal (move_to n m k)) ++ (lf ∷ lines_of n m ks)
   pub no_more : (n m : ℕ) → lines_of n m [] ≡ []
   pub columns : (x stop : ℕ) → column x stop ≡ decimal x ++ (stop ∷ [])
-  -- a text takes the bytes from `at` on of a buffer, and leaves the others
+  -- a text takes the bytes from `at` on of what the function is lent, and leaves the others
   pub stored : (out text : List ℕ) (at : ℕ) → written out at text ≡ take at out ++ text ++ drop (at + length text) out
   -- the examples, computed
   pub examples : Examples

@@ -1,3 +1,4 @@
+pub mod Decimal
 pub mod Request
 pub mod Listing
 pub mod Exact

@@ -1,68 +1,50 @@
 // The answer to a line.
-ghost use Rattle.std.specs.Prelude.{◌≡◌, Some, option_map};
-ghost use Rattle.zone_moves.specs.Listing.{line_of, lines_of, zone_moves, answered, answer};
+ghost use Rattle.std.specs.Prelude.{◌+◌, ◌*◌, ◌≤◌, ◌<◌, ◌≡◌, length};
+ghost use Rattle.layout.specs.Limits.{Disks};
+ghost use Rattle.zone_moves.specs.Listing.{Listed, move_line, lines_of, indices, answer, written, Stored};
 
-use crate::parse::{Zone, request_of};
-use layout::Move;
-use std::fmt;
+use crate::parse::{Request, request_of};
+use crate::print::{put_column, put_text};
 
-// A move with its index.
-#[derive(Clone, Copy)]
-struct Line {
-    index: u32,
-    moved: Move,
-}
-
-impl fmt::Display for Line {
-    ghost output = { λ line. Some (line_of line.index line.moved) };
-
-    fn fmt<W: fmt::Write>(&self, f: &mut fmt::Formatter<W>) -> fmt::Result {
-        let Line { index, moved } = *self;
-        writeln!(
-            f,
-            "{index} {} {} {} {}",
-            moved.zone, moved.within, moved.from, moved.to
-        )
-    }
-}
-
-// A zone prints as the lines of its moves.
-impl fmt::Display for Zone {
-    ghost output = { λ zone. Some (lines_of zone.n zone.m (zone_moves zone.n zone.m zone.z)) };
-
-    fn fmt<W: fmt::Write>(&self, f: &mut fmt::Formatter<W>) -> fmt::Result {
-        let Zone { n, m, z } = *self;
-        let first = z * m * n;
-        for index in first..first + m * n {
-            let moved = placement::move_of(n, m, index);
-            write!(f, "{}", Line { index, moved })?;
-        }
-        Ok(())
-    }
-}
-
-// What is answered: the moves of a zone, or the refusal.
-#[derive(Clone, Copy)]
-pub struct Answer {
-    zone: Option<Zone>,
-}
-
-impl fmt::Display for Answer {
-    ghost output = { λ a. Some (answered (option_map (λ zone. (zone.n, zone.m, zone.z)) a.zone)) };
-
-    fn fmt<W: fmt::Write>(&self, f: &mut fmt::Formatter<W>) -> fmt::Result {
-        match self.zone {
-            Some(zone) => write!(f, "{zone}"),
-            None => writeln!(f, "refused 6"),
-        }
-    }
-}
-
-// The answer to an input: `{}` prints it, with the line feed of its last line.
-pub fn answer_to(input: &[u8]) -> Answer
-    ensures text { ⟦<Answer as fmt::Display>⟧.output result ≡ Some (answer input.now) }
+// The line of move k: at most 17 bytes.
+fn put_line(out: &mut [u8], at: usize, n: u32, m: u32, k: u32) -> usize
+    requires { Listed n m k × (at + 17 ≤ length out.old) }
+    ensures { Stored out.old at (move_line n m k) out.new result }
 {
-    Answer {
-        zone: request_of(input),
+    let moved = placement::move_of(n, m, k);
+    let zone = moved.zone;
+    let within = moved.within;
+    let from = moved.from;
+    let to = moved.to;
+    let a = put_column(out, at, k, b' ');
+    let b = put_column(out, a, zone, b' ');
+    let c = put_column(out, b, within, b' ');
+    let d = put_column(out, c, from, b' ');
+    put_column(out, d, to, b'\n')
+}
+
+// The lines of count moves from first on, at the start of out.
+fn put_lines(out: &mut [u8], n: u32, m: u32, first: u32, count: u32) -> usize
+    requires { Disks n m × (0 < m) × (first + count ≤ n * m * n) × (17 * count ≤ length out.old) }
+    ensures { Stored out.old 0 (lines_of n m (indices first count)) out.new result }
+{
+    let mut at = 0;
+    let mut i = 0;
+    while i < count {
+        at = put_line(out, at, n, m, first + i);
+        i += 1;
+    }
+    at
+}
+
+// Stores the answer to an input at the start of out, and answers its length. A zone has at most 256 lines of at most 17 bytes: the type of
+// out gives that room, and no `requires` is left for a caller to see to.
+pub fn answer_to(input: &[u8], out: &mut [u8; 4352]) -> usize
+    ensures value { result ≡ length (answer input.now) }
+    ensures out_after { out.new ≡ written out.old 0 (answer input.now) }
+{
+    match request_of(input) {
+        Request::Zone { n, m, z } => put_lines(out, n, m, z * m * n, m * n),
+        Request::Refused => put_text(out, 0, b"refused 6\n"),
     }
 }

@@ -3,29 +3,61 @@
 
 mod listing;
 mod parse;
+mod print;
+
+ghost use Rattle.std.specs.Prelude.{◌≡◌, ◌≤◌, length, take};
 
 use std::io;
-use std::io::Read;
+use std::io::{Read, Write};
 
 // Room for the longest line that asks for a zone: `16 16 15` and a line feed.
-const ROOM: usize = 9;
+fn line_buffer() -> [u8; 9]
+    ensures { 9 ≡ length result }
+{
+    [0; 9]
+}
 
-// The line that the input begins with, with its line feed. Reads no further, so that a line typed at a terminal is answered at once. None
-// for a line that has not ended when the room is full or the input is at its end: it asks for no zone. A read that fails counts as the end.
-// Which bytes they are is left open, as no contract knows the input. That is run.
-fn read_line(input: impl Read + Drop, room: &mut [u8; ROOM]) -> Option<&[u8]> {
-    for (i, byte) in input.bytes().take(ROOM).enumerate() {
-        let b = byte.ok()?;
-        room[i] = b;
+// Room for the longest answer.
+fn answer_buffer() -> [u8; 4352]
+    ensures { 4352 ≡ length result }
+{
+    [0; 4352]
+}
+
+// A byte, if there is one: answers how many were read. A read that fails counts as the end.
+fn read_one(input: &mut impl Read, one: &mut [u8; 1]) -> usize {
+    match input.read(one) {
+        Ok(k) => k,
+        Err(_) => 0,
+    }
+}
+
+// Reads up to and with a line feed, and no further, so that a line typed at a terminal is answered at once: to the end of the input or of
+// `line` where none comes. Answers how many bytes it put at the start of `line`. Which they are is left open, as no contract knows the
+// input: it says that they fit. The rest is run.
+fn read_line(input: &mut impl Read, line: &mut [u8]) -> usize
+    ensures { (result ≤ length line.new) × (result ≡ length (take result line.new)) }
+{
+    let mut n = 0;
+    while n < line.len() {
+        let mut one = [0u8; 1];
+        if read_one(input, &mut one) == 0 {
+            return n;
+        }
+        let b = one[0];
+        line[n] = b;
+        n += 1;
         if b == b'\n' {
-            return Some(&room[..=i]);
+            return n;
         }
     }
-    None
+    n
 }
 
 fn main(rt: HostRuntime) -> io::Result<()> {
-    let mut room = [0; ROOM];
-    let line = read_line(rt.stdin(), &mut room).unwrap_or_default();
-    print!(rt; "{}", listing::answer_to(line))
+    let mut line = line_buffer();
+    let n = read_line(&mut rt.stdin(), &mut line);
+    let mut out = answer_buffer();
+    let k = listing::answer_to(&line[..n], &mut out);
+    rt.stdout().write_all(&out[..k])
 }

@@ -1,16 +1,37 @@
 -- The indices that are listed are those of one zone's moves. Assumes nothing.
-use Prim.Native.Nat.{ℕ, ◌+◌, ◌-◌, ◌*◌, ◌/◌, ◌%◌, ◌<◌}
-use mathlib.Core.Path.{◌≡◌, sym, ap, ◌∙◌}
+use Prim.Native.Nat.{ℕ, zero, suc, ◌+◌, ◌-◌, ◌*◌, ◌/◌, ◌%◌, ◌<◌}
+use mathlib.Core.Path.{◌≡◌, refl, sym, ap, ◌∙◌}
+use mathlib.Core.List.{[], ◌∷◌}
+use mathlib.Core.Logic.{inl, inr}
 use native.Mathlib.Nat.{mod-lt, div-add-mod', div-lt_iff_lt-mul}
 use native.Mathlib.Omega.{arith}
 use lib.Arith.{digits_lt}
-use lib.ListN.{length}
-use Rattle.std.proofs.lemmas.List.FromFn.{length-range_with_len, get_or-range_with_len}
+use lib.ListN.{length, get_or, length-append, get_or-append}
+use lib.Seq.{get_or_at}
 use Rattle.layout.specs.Moves.{move_zone, move_to, move_lag}
-use Rattle.zone_moves.specs.Listing.{zone_moves}
+use Rattle.zone_moves.specs.Listing.{indices, zone_moves}
 use Rattle.zone_moves.specs.Exact.{ZoneMoves}
+use Rattle.layout.proofs.Laws.Basics.{le-or-lt}
 use Rattle.layout.proofs.Laws.Lag.{index, to-above, to_below, lag-below}
 use Rattle.layout.proofs.Laws.Order.{zone-of}
+
+pub length-indices : (first count : ℕ) → length (indices first count) ≡ count
+unfolding indices
+length-indices first zero = refl
+length-indices first (suc count) = omega (arith, length-append (indices first count) ((first + count) ∷ []), length-indices first count)
+
+pub nth-index : (first count j : ℕ) → j < count → get_or (indices first count) j 0 ≡ first + j
+unfolding indices
+nth-index first zero j h = absurd (omega arith)
+nth-index first (suc count) j h =
+    elim (le-or-lt count j) [
+      | inl k ↦
+          (let e : j ≡ count = omega arith in
+          rw e (get_or_at (indices first count) (first + count) [] 0 count (length-indices first count)))
+      | inr k ↦
+          get_or-append (indices first count) ((first + count) ∷ []) 0 j (omega (arith, length-indices first count))
+          ∙ nth-index first count j k
+    ]
 
 module _ (n m z : ℕ) (pn : 0 < n) (pm : 0 < m) where
   -- the m * n indices from z * m * n on have zone z ..
@@ -29,17 +50,25 @@ module _ (n m z : ℕ) (pn : 0 < n) (pm : 0 < m) where
       let f : k ≡ (z * m + (move_to n m k - n)) * n + move_lag n k = rw e at (index n m pn pm k) in
       ((move_to n m k - n) * n + move_lag n k, l, omega arith)
 
-  pub zone-moves : ZoneMoves n m z (zone_moves n m z)
-  zone-moves =
-      let l : length (zone_moves n m z) ≡ m * n = length-range_with_len (z * m * n) (m * n) in
+  listed : (first count : ℕ) → first ≡ z * m * n → count ≡ m * n → ZoneMoves n m z (indices first count)
+  listed first count e c =
+      let l = length-indices first count in
       record {
-        of_zone = λ j h. rw (get_or-range_with_len (z * m * n) (m * n) j 0 (omega arith)) (zone-from j (omega arith));
+        of_zone =
+            λ j h.
+            (let i : j < count = omega arith in
+            rw (nth-index first count j i, e) (zone-from j (omega arith)));
         all =
             λ k q.
             (let f = from-zone k q in
-            (f.0, omega (arith, f.1), get_or-range_with_len (z * m * n) (m * n) f.0 0 f.1 ∙ f.2));
+            let i : f.0 < count = omega (arith, f.1) in
+            (f.0, omega arith, nth-index first count f.0 i ∙ (rw e f.2)));
         rising =
             λ i j h k.
-            omega
-            (arith, get_or-range_with_len (z * m * n) (m * n) i 0 (omega arith), get_or-range_with_len (z * m * n) (m * n) j 0 (omega arith));
+            (let a : j < count = omega arith in
+            omega (arith, nth-index first count i (omega arith), nth-index first count j a));
       }
+
+  pub zone-moves : ZoneMoves n m z (zone_moves n m z)
+  unfolding zone_moves
+  zone-moves = listed _ _ (omega arith) (omega arith)
