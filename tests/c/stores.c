@@ -1,8 +1,8 @@
 /*
  * Calls for a memory trace: tests/tests/stores.rs runs this under valgrind's lackey, which tells every load and store. Each argument
- * is `w`, `c`, `f`, `g` or `s`, a record of 40 hexadecimal digits, a colon and a number: write the block of that number, continue a
- * rebuild by so many stripes, format so many stripes of the record's disks and block length, grow by so many disks, or sweep, with so
- * many bytes of the images that are not zero, each of which follows after a comma. Just before a call `begin` is stored to, just after
+ * is `w`, `a`, `c`, `f`, `g` or `s`, a record of 40 hexadecimal digits, a colon and a number: write the block of that number, advance by
+ * so many moves, continue a rebuild by so many stripes, format so many stripes of the record's disks and block length, grow by so many
+ * disks, or sweep, with so many bytes of the images that are not zero, each of which follows after a comma. Just before a call `begin` is stored to, just after
  * it `end`. Prints where these stand, and what is lent, and where the stack of the calls ends.
  */
 #include "pbm.h"
@@ -52,6 +52,7 @@ static uint8_t call(char name, uint64_t of)
     if (images_len > sizeof images) exit(2);
     begin = 1;
     if (name == 'w') answer = pbm_write(record, sizeof record, images, images_len, of, data, data_len);
+    else if (name == 'a') answer = pbm_advance(record, sizeof record, images, images_len, of, &made);
     else if (name == 'c') answer = pbm_continue(record, sizeof record, images, images_len, of, &made);
     else if (name == 'f') answer = pbm_format(record, sizeof record, images, images_len, record[PBM_AT_N], data_len, of);
     else if (name == 'g') answer = pbm_grow(record, sizeof record, images, images_len, of);

@@ -36,9 +36,14 @@ fn links_lead_to_what_is_there() {
     assert!(seen > 50, "the search finds the links: {seen}");
 }
 
-/// The titles in CHANGES.md of what brought no request, each with its note. These begin with commits.
+/// The titles in CHANGES.md of what brought no request, each with its note, and how that begins.
 const NO_REQUEST: &[(&str, &str, &str)] = &[
     ("Today's Rattle", "PORT", "LANDED: "),
+    (
+        "The look back",
+        "LOOK-BACK",
+        "# The look back at the design pass\n",
+    ),
     (
         "The design pass",
         "DESIGN-PASS",

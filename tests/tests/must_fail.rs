@@ -157,10 +157,21 @@ const BY_LAW: &[(&str, &str, &[&str])] = &[
         "`of-grow`",
         &["calls/limit_before_grown"],
     ),
-    // where a view begins, of what is chosen; then `view-begins` has it in bare numbers
+    // the numbers of the refusal words, and of what a point call is refused with, are bare numbers
     (
-        "proofs/Laws/Viewing.antt:",
-        "`let_through`",
+        "proofs/Theorem.antt:",
+        "`tells`",
+        &["refusals/words_exchanged"],
+    ),
+    (
+        "proofs/Theorem.antt:",
+        "`told`",
+        &["packing/points_refused_as_a_disk"],
+    ),
+    // where a view begins is said in bare numbers
+    (
+        "proofs/Theorem.antt:",
+        "`view-begins`",
         &["access/view_elsewhere"],
     ),
     // the version is a bare number

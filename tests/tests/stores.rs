@@ -1,7 +1,6 @@
 //! What no contract of a write can say, as it sees only entry and exit: which bytes are loaded and stored meanwhile, how often and in
-//! which order; of a format, a grow and a continue in which order they store; and of a sweep, which stripes it reads, and that it stores
-//! nothing. Read off a memory trace of tests/c/stores.c, by
-//! valgrind's lackey.
+//! which order; of a format, a grow, an advance and a continue in which order they store; and of a sweep, which stripes it reads, and
+//! that it stores nothing. Read off a memory trace of tests/c/stores.c, by valgrind's lackey.
 
 use std::collections::{BTreeMap, BTreeSet};
 use std::ops::Range;
@@ -350,6 +349,29 @@ fn format_and_grow_store_their_record_last() {
         let images = addresses.images..addresses.images + all as u64;
         assert!(stores(call, images).max() < stores(call, record.clone()).min());
     }
+}
+
+/// The count of an advance is stored after the record, and that of a continue before it; the record after the images.
+#[test]
+fn counts_keep_to_their_side_of_the_record() {
+    let grown = Record {
+        m: 2,
+        ..Record::new(3, 64, 15)
+    };
+    let rebuilding = Case::new(BLOCKS[0], Out::Undone(Disk::Data), 64);
+    let arguments = [argument(&grown, 'a', 7), rebuilding.argument('c', 1)];
+    let (addresses, calls) = traced("stores-of-counts", &arguments);
+    let images_len = grown.images_len().max(rebuilding.record.images_len());
+    let images = addresses.images..addresses.images + images_len;
+    let record = addresses.record..addresses.record + RECORD_LEN as u64;
+    let made = addresses.made..addresses.made + 8;
+    let in_order = |call: &[Access], parts: [&Range<u64>; 3]| {
+        let at = parts.map(|bytes| stores(call, bytes.clone()).collect::<Vec<_>>());
+        at.iter().all(|part| !part.is_empty()) && at.concat().is_sorted()
+    };
+    assert!(in_order(&calls[0], [&images, &record, &made]));
+    assert!(in_order(&calls[1], [&images, &made, &record]));
+    assert!(!in_order(&calls[0], [&images, &made, &record]));
 }
 
 /// When a call stores to these bytes.

@@ -5,7 +5,7 @@ ghost use Rattle.calls.specs.Effect.{called_bytes};
 
 use crate::closing::{close, close_counted};
 use crate::opening::opened;
-use refusals::Refusal;
+use refusals::{Refusal, made_in};
 use state::RECORD_LENGTH;
 
 #[unsafe(no_mangle)]
@@ -52,5 +52,9 @@ pub extern "C" fn pbm_advance(rec: &mut [u8], images: &mut [u8], k: u64, made: &
         *made = 0;
         return u8::from(Refusal::Record);
     };
-    close_counted(rec, made, growth::advance(r, images, k))
+    let x = growth::advance(r, images, k);
+    // (the count after the record, as no contract can say: tests/tests/stores.rs)
+    let number = close_counted(rec, x);
+    *made = made_in(x);
+    number
 }

@@ -5,7 +5,7 @@ ghost use Rattle.calls.specs.Effect.{called_bytes};
 
 use crate::closing::{close, close_counted};
 use crate::opening::opened;
-use refusals::Refusal;
+use refusals::{Refusal, made_in};
 
 #[unsafe(no_mangle)]
 pub extern "C" fn pbm_out(rec: &mut [u8], d: u64) -> u8
@@ -41,5 +41,7 @@ pub extern "C" fn pbm_continue(rec: &mut [u8], images: &mut [u8], k: u64, made: 
         *made = 0;
         return u8::from(Refusal::Record);
     };
-    close_counted(rec, made, repair::continue_rebuild(r, images, k))
+    let x = repair::continue_rebuild(r, images, k);
+    *made = made_in(x);
+    close_counted(rec, x)
 }

@@ -109,7 +109,8 @@ pub fn of_lent(r: Record, images: usize) -> Result<Array, Refusal>
 }
 
 // Of read, view and write, with `begun` what of_lent says of them: room is the length of the block that is lent. (Callers ask of_lent, so
-// that the compiler makes both part of each call: one function for all would be too long for it. The images are for the contract alone.)
+// that the compiler makes both part of each call: one function for all would be too long for it. The images are for the contract alone.
+// That r is good follows from the word alone, whichever array has begun.)
 pub fn of_reach(
     begun: Result<Array, Refusal>,
     r: Record,
@@ -117,11 +118,12 @@ pub fn of_reach(
     b: u64,
     room: usize,
 ) -> Result<Array, Refusal>
-    requires { (number_of begun ≡ word (kept_lent r images)) × IfOk begun (λ a. a.rec ≡ r) }
+    requires { number_of begun ≡ word (kept_lent r images) }
     ensures number { number_of result ≡ refusal_of r (feed (read b) images room) }
     ensures same { IfOk result (λ a. a.rec ≡ r) }
 {
-    let a = begun?;
+    begun?;
+    let a = Array { rec: r };
     if !is_block(a, b) {
         return Err(Refusal::PastTheEnd);
     }

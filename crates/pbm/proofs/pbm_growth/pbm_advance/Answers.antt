@@ -15,13 +15,13 @@ pub returns-in_default : goal.returns-in_default
 returns-in_default c =
     rw (c.from.ensures, unopened (event (goal.at.returns-in_default c).Start) c.args.rec.now refl c.in_default.ensures.record) (record { answer = refl; beside = refl; state = refl; images = refl })
 
-pub close_counted-requires : goal.close_counted-requires
-close_counted-requires c = long _ c.in-Some.ensures.record
+pub close_counted-number-requires : goal.close_counted-number-requires
+close_counted-number-requires c = long _ c.in-Some.ensures.record
 
 pub returns : goal.returns
 returns c =
     let x = on_record (event (goal.at.returns c).Start) c.args.rec.now c.in-Some.ensures.record in
-    let e = c.advance.ensures in
-    let f = c.close_counted.ensures in
-    let q = closed_counted x _ c.advance.result e.answer e.state in
-    record { answer = f.answer ∙ q.0; beside = ap (λ (n : ℕ). n ∷ []) f.beside ∙ q.1; state = f.state ∙ q.2; images = e.images ∙ sym x.images }
+    let e = c.advance-x.ensures in
+    let f = c.close_counted-number.ensures in
+    let q = closed_counted x _ c.advance-x.result e.answer e.state in
+    record { answer = f.answer ∙ q.0; beside = ap (λ (n : ℕ). n ∷ []) c.made_in.ensures.count ∙ q.1; state = f.state ∙ q.2; images = e.images ∙ sym x.images }

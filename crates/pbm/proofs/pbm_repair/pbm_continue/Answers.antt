@@ -21,7 +21,7 @@ close_counted-requires c = long _ c.in-Some.ensures.record
 pub returns : goal.returns
 returns c =
     let x = on_record (event (goal.at.returns c).Start) c.args.rec.now c.in-Some.ensures.record in
-    let e = c.continue_rebuild.ensures in
+    let e = c.continue_rebuild-x.ensures in
     let f = c.close_counted.ensures in
-    let q = closed_counted x _ c.continue_rebuild.result e.answer e.state in
-    record { answer = f.answer ∙ q.0; beside = ap (λ (n : ℕ). n ∷ []) f.beside ∙ q.1; state = f.state ∙ q.2; images = e.images ∙ sym x.images }
+    let q = closed_counted x _ c.continue_rebuild-x.result e.answer e.state in
+    record { answer = f.answer ∙ q.0; beside = ap (λ (n : ℕ). n ∷ []) c.made_in.ensures.count ∙ q.1; state = f.state ∙ q.2; images = e.images ∙ sym x.images }

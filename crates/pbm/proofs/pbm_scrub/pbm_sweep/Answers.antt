@@ -3,7 +3,6 @@ use mathlib.Core.Path.{refl}
 use mathlib.Core.List.{[]}
 use Rattle.calls.specs.Call.{sweep, Event, on}
 use Rattle.pbm.proofs.Opened.{unopened, answered}
-use Rattle.pbm.proofs.Numbers.{found_numbers}
 use Rattle.pbm.proofs.pbm_scrub.pbm_sweep.Goals as goal
 use Rattle.pbm.proofs.pbm_scrub.pbm_sweep.Goals.{Start}
 
@@ -18,8 +17,10 @@ pub returns-in-Err : goal.returns-in-Err
 returns-in-Err c =
     rw (answered (event (goal.at.returns-in-Err c).Start) c.args.rec.now c.in-Some.ensures.record c.in-Err.ensures.answer, c.from-in-Err.ensures) (record { answer = refl; beside = refl })
 
-pub returns-in-Ok : goal.returns-in-Ok
-returns-in-Ok c =
-    rw (answered (event (goal.at.returns-in-Ok c).Start) c.args.rec.now c.in-Some.ensures.record c.in-Ok.ensures.answer) (
-    let q = found_numbers c.in-Ok.x.unsound c.in-Ok.x.read in
-    record { answer = q.0; beside = rw (c.from-in-Ok.ensures, c.is_some.ensures, c.unwrap_or.ensures) q.1 })
+pub returns-in-Some-unsound : goal.returns-in-Some-unsound
+returns-in-Some-unsound c =
+    rw (answered (event (goal.at.returns-in-Some-unsound c).Start) c.args.rec.now c.in-Some.ensures.record c.in-Ok.ensures.answer, c.in-Some-unsound.is) (record { answer = refl; beside = refl })
+
+pub returns-in_default-unsound : goal.returns-in_default-unsound
+returns-in_default-unsound c =
+    rw (answered (event (goal.at.returns-in_default-unsound c).Start) c.args.rec.now c.in-Some.ensures.record c.in-Ok.ensures.answer, c.in_default-unsound.is) (record { answer = refl; beside = refl })

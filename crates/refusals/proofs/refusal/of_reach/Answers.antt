@@ -3,7 +3,6 @@ use Prim.Native.Nat.{ℕ}
 use mathlib.Core.Path.{◌≡◌, refl, sym, ap, ◌∙◌}
 use mathlib.Core.Bool.{not}
 use mathlib.Core.List.{List, [], ◌∷◌}
-use lib.Dec.{ltb}
 use Rattle.std.proofs.Common.{rules}
 use Rattle.conditions.proofs.Asked.{same, other}
 use Rattle.conditions.proofs.Tests.{went_on, returned}
@@ -13,9 +12,9 @@ use Rattle.state.specs.Good.{geometry}
 use Rattle.calls.specs.Call.{read, feed}
 use Rattle.calls.specs.Table.{Row, past_end, block_length, word, kept_lent, refusal_of}
 use Rattle.calls.proofs.Laws.Table.{stops, given, skipped, lent-on, read-rows}
-use Rattle.refusals.proofs.Laws.Ready.{ok-number, err-number}
+use Rattle.refusals.proofs.Laws.Ready.{ok-number, err-number, ready-lent}
 use Rattle.refusals.proofs.refusal.of_reach.Goals as goal
-use Rattle.refusals.proofs.refusal.of_reach.Goals.{In_ok-a, Else-not-is_block}
+use Rattle.refusals.proofs.refusal.of_reach.Goals.{In_ok-begun, Else-not-is_block}
 
 -- the rows from 9 and from 8 on
 abbrev from-9 : Record → ℕ → List Row
@@ -24,23 +23,22 @@ from-9 r room = block_length r room ∷ []
 abbrev from-8 : Record → ℕ → ℕ → List Row
 from-8 r b room = past_end b (capacity (geometry r)) ∷ from-9 r room
 
--- the array that has begun is that of r
-same-record : (c : In_ok-a) → c.in_ok-a.a.rec ≡ c.args.r
-same-record c = rw c.in_ok-a.was at c.requires.1
-
-past-1 : (c : In_ok-a) → let a = c.args in refusal_of a.r (feed (read a.b) a.images a.room) ≡ word (from-8 a.r a.b a.room)
+past-1 : (c : In_ok-begun) → let a = c.args in refusal_of a.r (feed (read a.b) a.images a.room) ≡ word (from-8 a.r a.b a.room)
 past-1 c =
     let a = c.args in
     read-rows a.r (capacity (geometry a.r)) a.images a.room a.b
-    ∙ lent-on a.r (from-8 a.r a.b a.room) a.images c.requires.0 (ok-number c.in_ok-a.was)
+    ∙ lent-on a.r (from-8 a.r a.b a.room) a.images c.requires (ok-number c.in_ok-begun.was)
 
 past-2 : (c : Else-not-is_block) → let a = c.args in refusal_of a.r (feed (read a.b) a.images a.room) ≡ word (from-9 a.r a.room)
 past-2 c =
     let a = c.args in
-    past-1 c.before.before ∙ skipped 8 (from-9 a.r a.room) (ap not (went_on (c.is_block.ensures.answer ∙ ap (λ x. ltb c.args.b (capacity (geometry x))) (same-record c.before.before)) c.if-not-is_block.false))
+    past-1 c.before.before.before ∙ skipped 8 (from-9 a.r a.room) (ap not (went_on c.is_block.ensures.answer c.if-not-is_block.false))
 
-pub returns-in_err-a-clause-number : goal.returns-in_err-a-clause-number
-returns-in_err-a-clause-number c =
+pub invariant_of-a : goal.invariant_of-a
+invariant_of-a c = let a = c.args in record { good = ready-lent a.r a.images c.requires (ok-number c.in_ok-begun.was) }
+
+pub returns-in_err-begun-clause-number : goal.returns-in_err-begun-clause-number
+returns-in_err-begun-clause-number c =
     let a = c.args in
     stops (kept_lent a.r a.images) (from-8 a.r a.b a.room) (search rules) (err-number c.from_residual.result c.from_residual.ensures.0)
     ∙ sym (read-rows a.r (capacity (geometry a.r)) a.images a.room a.b)
@@ -48,7 +46,7 @@ returns-in_err-a-clause-number c =
 pub returns-then-not-is_block-clause-number : goal.returns-then-not-is_block-clause-number
 returns-then-not-is_block-clause-number c =
     let a = c.args in
-    sym (past-1 (goal.at.returns-then-not-is_block-clause-number c).In_ok-a ∙ given 8 (from-9 a.r a.room) (ap not (returned (c.is_block.ensures.answer ∙ ap (λ x. ltb c.args.b (capacity (geometry x))) (same-record (goal.at.returns-then-not-is_block-clause-number c).In_ok-a)) c.if-not-is_block.true)))
+    sym (past-1 (goal.at.returns-then-not-is_block-clause-number c).In_ok-begun ∙ given 8 (from-9 a.r a.room) (ap not (returned c.is_block.ensures.answer c.if-not-is_block.true)))
 
 pub returns-then-room-r-clause-number : goal.returns-then-room-r-clause-number
 returns-then-room-r-clause-number c =
