@@ -2,8 +2,8 @@
  * Calls for a memory trace: tests/tests/stores.rs runs this under valgrind's lackey, which tells every load and store. Each argument
  * is `w`, `a`, `c`, `f`, `g` or `s`, a record of 40 hexadecimal digits, a colon and a number: write the block of that number, advance by
  * so many moves, continue a rebuild by so many stripes, format so many stripes of the record's disks and block length, grow by so many
- * disks, or sweep, with so many bytes of the images that are not zero, each of which follows after a comma. Just before a call `begin` is stored to, just after
- * it `end`. Prints where these stand, and what is lent, and where the stack of the calls ends.
+ * disks, or sweep, with so many bytes of the images that are not zero, each of which follows after a comma. Just before a call
+ * `begin` is stored to, just after it `end`. Prints where these stand, and what is lent, and where the stack of the calls ends.
  */
 #include "pbm.h"
 

@@ -156,7 +156,7 @@ struct Seen {
 struct Addresses {
     record: u64,
     images: u64,
-    /// The count of a continue.
+    /// The count of an advance or a continue.
     made: u64,
     /// The three numbers of a sweep.
     swept: u64,

@@ -53,7 +53,7 @@ pub extern "C" fn pbm_advance(rec: &mut [u8], images: &mut [u8], k: u64, made: &
         return u8::from(Refusal::Record);
     };
     let x = growth::advance(r, images, k);
-    // (the count after the record, as no contract can say: tests/tests/stores.rs)
+    // (the count after the record, in pbm_continue before it, as no contract can say: tests/tests/stores.rs)
     let number = close_counted(rec, x);
     *made = made_in(x);
     number

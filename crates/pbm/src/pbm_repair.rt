@@ -42,6 +42,7 @@ pub extern "C" fn pbm_continue(rec: &mut [u8], images: &mut [u8], k: u64, made: 
         return u8::from(Refusal::Record);
     };
     let x = repair::continue_rebuild(r, images, k);
+    // (the count before the record, in pbm_advance after it)
     *made = made_in(x);
     close_counted(rec, x)
 }

@@ -110,7 +110,7 @@ pub fn of_lent(r: Record, images: usize) -> Result<Array, Refusal>
 
 // Of read, view and write, with `begun` what of_lent says of them: room is the length of the block that is lent. (Callers ask of_lent, so
 // that the compiler makes both part of each call: one function for all would be too long for it. The images are for the contract alone.
-// That r is good follows from the word alone, whichever array has begun.)
+// That r is good follows from this number alone, whichever array has begun.)
 pub fn of_reach(
     begun: Result<Array, Refusal>,
     r: Record,
