@@ -17,6 +17,7 @@ impl From<BadPoints> for u8 {
 }
 
 // Whether a call that is lent these two is accepted.
+#[tactic(auto, unfolding(points::specs::Answer::refused))]
 pub(crate) fn check(source: &[u8], target: &[u8]) -> Result<(), BadPoints>
     ensures answer { number_of result ≡ answer source.now target.now }
 {
